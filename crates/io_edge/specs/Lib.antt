@@ -1,0 +1,4 @@
+pub mod Count
+pub mod FileHolding
+pub mod SwapImage
+pub mod Written
