@@ -3,11 +3,14 @@
 //! adapters over the system.
 #![tactic(auto)]
 
+mod count;
 pub mod files;
+pub mod mem_files;
 pub mod sink;
 pub mod swap_dev;
 
 pub use files::Files;
+pub use mem_files::SureFiles;
 pub use sink::Sink;
 pub use swap_dev::SwapDev;
 
