@@ -6,11 +6,15 @@
 mod count;
 pub mod files;
 pub mod mem_files;
+pub mod mem_sink;
+pub mod mem_swap;
 pub mod sink;
 pub mod swap_dev;
 
 pub use files::Files;
-pub use mem_files::SureFiles;
+pub use mem_files::{MemFiles, SureFiles};
+pub use mem_sink::{MemSink, SureSink};
+pub use mem_swap::SureSwap;
 pub use sink::Sink;
 pub use swap_dev::SwapDev;
 

@@ -1,6 +1,6 @@
 // Files in memory: some that never fail, and some with calls that are to fail.
 ghost use Rattle.std.specs.Prelude.{◌≡◌, ◌+◌, ◌^◌, ◌<◌, ◌≤◌, Some, map, refl, length, position, bytes_eq, string_bytes, vec_len};
-ghost use Rattle.std.proofs.Common.{◌∙◌, ap, lit≤};
+ghost use Rattle.std.proofs.Common.{◌∙◌, ap, le_refl, le_trans, lit≤};
 ghost use Rattle.io_edge.specs.FileHolding.{named_file, file_range};
 
 use crate::count::{FaultPlan, raised};
@@ -72,4 +72,71 @@ impl Files for SureFiles {
     ghost open_grows = { λ _ _ _. lit≤ tt };
 
     ghost page_grows = { λ _ _ _. lit≤ tt };
+}
+
+/// Files in memory with calls that are to fail.
+#[derive(Drop)]
+pub struct MemFiles {
+    store: SureFiles,
+    plan: FaultPlan,
+    open_faults: u64,
+    page_faults: u64,
+}
+
+impl MemFiles {
+    /// These files, each a name and its bytes. Of several with one name the first is found. `fail`
+    /// holds the numbers of the calls that are to fail, `find` and `read_at` counted together from 1.
+    pub fn new(files: Vec<(String, Vec<u8>)>, fail: Vec<u64>) -> MemFiles
+        requires { vec_len files < 2 ^ 32 }
+        ensures holds { ⟦<MemFiles as Files>⟧.holds result ≡ Some (map named_file files.items) }
+        ensures open_faults { ⟦<MemFiles as Files>⟧.open_faults result ≡ 0 }
+        ensures page_faults { ⟦<MemFiles as Files>⟧.page_faults result ≡ 0 }
+    {
+        MemFiles {
+            store: SureFiles::new(files),
+            plan: FaultPlan::new(fail),
+            open_faults: 0,
+            page_faults: 0,
+        }
+    }
+}
+
+impl Files for MemFiles {
+    ghost holds = { λ f. Some (map named_file f.store.files.items) };
+
+    ghost open_faults = { λ f. f.open_faults };
+
+    ghost page_faults = { λ f. f.page_faults };
+
+    ghost leads = { λ a b. (map named_file b.store.files.items ≡ map named_file a.store.files.items) × (a.open_faults ≤ b.open_faults) × (a.page_faults ≤ b.page_faults) };
+
+    fn find(&mut self, name: &str) -> Found {
+        if self.plan.next_fails() {
+            self.open_faults = raised(self.open_faults);
+            return Found::Failed;
+        }
+        self.store.find(name)
+    }
+
+    fn read_at(&mut self, id: u32, offset: u64, buf: &mut [u8]) -> Moved {
+        if self.plan.next_fails() {
+            if offset == 0 {
+                self.open_faults = raised(self.open_faults);
+            } else {
+                self.page_faults = raised(self.page_faults);
+            }
+            return Moved::Failed;
+        }
+        self.store.read_at(id, offset, buf)
+    }
+
+    ghost leads_nowhere = { λ f. (refl, le_refl f.open_faults, le_refl f.page_faults) };
+
+    ghost leads_through = { λ _ _ _ first then. (then.0 ∙ first.0, le_trans first.1 then.1, le_trans first.2 then.2) };
+
+    ghost leads_same = { λ _ _ led. ap Some led.0 };
+
+    ghost open_grows = { λ _ _ led. led.1 };
+
+    ghost page_grows = { λ _ _ led. led.2 };
 }

@@ -10,9 +10,10 @@ returns-in-Some-clause-answer c =
     let name = c.args.name.now in
     let stands : position (λ file. bytes_eq (string_bytes file.0) name) files ≡ Some c.in-Some.at = cc in
     let within : c.in-Some.at < length files = (position-Some (λ file. bytes_eq (string_bytes file.0) name) files c.in-Some.at c.index.result.now stands).0 in
-    let bytes = bytes_at-map files c.in-Some.at c.index.result.now within in
-    (position-map (λ (file : NamedFile). bytes_eq file.name name) named_file files ∙ stands,
-     (let told = ap (λ (file : NamedFile). length file.bytes) (ap named_file c.index.ensures) in omega (arith, told, ap length bytes)))
+    let bytes = bytes_at-map files c.in-Some.at c.index.result.now within in (
+      position-map (λ (file : NamedFile). bytes_eq file.name name) named_file files ∙ stands,
+      (let told = ap (λ (file : NamedFile). length file.bytes) (ap named_file c.index.ensures) in omega (arith, told, ap length bytes)),
+    )
 
 pub returns-in-None-clause-answer : goal.returns-in-None-clause-answer
 returns-in-None-clause-answer c =
