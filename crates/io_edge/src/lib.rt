@@ -4,17 +4,21 @@
 #![tactic(auto)]
 
 mod count;
+pub mod dir_files;
 pub mod files;
 pub mod mem_files;
 pub mod mem_sink;
 pub mod mem_swap;
+pub mod out_sink;
 pub mod sink;
 pub mod swap_dev;
 
+pub use dir_files::DirFiles;
 pub use files::Files;
 pub use mem_files::{MemFiles, SureFiles};
 pub use mem_sink::{MemSink, SureSink};
 pub use mem_swap::SureSwap;
+pub use out_sink::OutSink;
 pub use sink::Sink;
 pub use swap_dev::SwapDev;
 
