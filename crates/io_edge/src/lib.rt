@@ -45,3 +45,6 @@ pub enum Moved {
 /// The memory that a value needs wasn't there.
 #[derive(Clone, Copy, PartialEq, Eq, Debug)]
 pub struct NoMemory;
+
+#[cfg(test)]
+mod tests;
