@@ -1,21 +1,15 @@
 -- Each part of an instruction is read so.
-use Rattle.std.proofs.Common.{◌≡◌, ◌∙◌, ℕ, ◌+◌, ◌-◌, ◌*◌, ◌/◌, ◌%◌, Bool, true, false, cond, List, [], ◌∷◌, ◌++◌, length, Result, Ok, Err, refl, ap, sym, subst, arith, length-append, nat_lt, ◌&&◌, ◌||◌, Option, Some, None, IsTrue}
+use Rattle.std.proofs.Common.{◌≡◌, ℕ, ◌+◌, ◌*◌, ◌/◌, ◌%◌, Bool, true, false, cond, List, [], Ok, refl, arith, nat_lt, ◌&&◌, ◌||◌, Option, Some, None}
 use Rattle.std.specs.Prelude.{◌==◌}
 use Rattle.std.specs.Int.{cast_signed}
-use Rattle.vax_code.specs.declared.reader.Fault.{Fault}
-use Rattle.vax_code.specs.declared.reader.Fault.TheVariants.{Short, Bad}
 use Rattle.vax_code.specs.declared.reader.Spelled.{Spelled}
-use Rattle.vax_code.specs.declared.instr.Operand.{Operand}
 use Rattle.vax_code.specs.declared.instr.Operand.TheVariants as operands
 use Rattle.vax_code.specs.declared.instr.Base.TheVariants as bases
 use Rattle.vax_code.specs.declared.table.Slot.{Slot}
 use Rattle.vax_code.specs.declared.table.Row.{Row}
-use Rattle.vax_code.specs.declared.table.Access.{Access}
-use Rattle.vax_code.specs.declared.table.Access.TheVariants as accesses
-use Rattle.vax_code.specs.Reading.{Read, ◌>>=◌, byte_at, number_at, signed_at, displacement_at, base_at, indexed_at, specifier_at, operand_at, counted, place_at, operands_at, instruction_at, width_of, operand_of, is_read, is_address, is_branch, row_or_bad, assembled}
+use Rattle.vax_code.specs.Reading.{Read, ◌>>=◌, signed_at, displacement_at, base_at, indexed_at, specifier_at, operand_at, place_at, operands_at, instruction_at, width_of, operand_of, is_read, is_address, is_branch, row_or_bad, assembled}
 use Rattle.vax_code.specs.Table.{slot_in, row_for, all_rows}
-use Rattle.vax_code.specs.Grammar.{AreOctets}
-use Rattle.vax_code.proofs.Readers.{IsReader, Completion, bind_reader, byte_reader, ok_reader, bad_reader, if_reader, begins_ok, byte_then, begins_byte, number_reader, begins_number, counted_reader, counted_completion, joined}
+use Rattle.vax_code.proofs.Readers.{IsReader, Completion, bind_reader, ok_reader, bad_reader, if_reader, begins_ok, byte_then, begins_byte, number_reader, begins_number, counted_reader, counted_completion, joined}
 
 -- a value made of what was read
 pub mapped : {A B : Type 0} {p : List ℕ → Read A} (g : A → B) → IsReader p → IsReader (λ bytes. p bytes >>= λ r. Ok (g r.0, r.1))

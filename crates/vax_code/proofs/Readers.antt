@@ -1,10 +1,9 @@
 -- Reading looks at a front of the bytes alone, and where they end too soon some bytes complete it.
-use Rattle.std.proofs.Common.{◌≡◌, ◌∙◌, ℕ, zero, suc, ◌+◌, ◌-◌, ◌<◌, ◌≤◌, length-append, ◌≤◌, Bool, true, false, cond, List, [], ◌∷◌, ◌++◌, length, take, drop, Result, Ok, Err, refl, ap, sym, arith, append_assoc, nat_lt, ◌/◌, ◌%◌, ◌&&◌, inl, inr, ◌⊎◌}
+use Rattle.std.proofs.Common.{◌≡◌, ◌∙◌, ℕ, zero, suc, ◌+◌, ◌-◌, ◌<◌, ◌≤◌, length-append, ◌≤◌, Bool, true, false, cond, List, [], ◌∷◌, ◌++◌, length, take, drop, Result, Ok, Err, refl, ap, sym, arith, append_assoc, nat_lt, inl, inr, ◌⊎◌}
 use Rattle.std.proofs.lemmas.Bool.{ltb-true, ltb-false}
 use Rattle.std.proofs.lemmas.List.{take-append-drop}
 use Rattle.std.proofs.lemmas.Grind.{common_steps}
-use Rattle.std.specs.Prelude.{◌==◌}
-use Rattle.std.specs.Int.{from_le_bytes, cast_signed}
+use Rattle.std.specs.Int.{from_le_bytes}
 use Rattle.vax_code.specs.declared.reader.Fault.{Fault}
 use Rattle.vax_code.specs.declared.reader.Fault.TheVariants.{Short, Bad}
 use Rattle.vax_code.specs.Reading.{Read, ◌>>=◌, byte_at, number_at, width_of, counted}
@@ -27,11 +26,11 @@ pub record IsReader {A : Type 0} (read : List ℕ → Read A) : Type 0 where
   pub fronts : (bytes : List ℕ) (x : A) (rest : List ℕ) → read bytes ≡ Ok (x, rest) → (front : List ℕ) × (bytes ≡ front ++ rest) × (read front ≡ Ok (x, []))
   pub completes : (bytes : List ℕ) → read bytes ≡ Err Short → Completion read bytes
 
-octets-append : (xs ys : List ℕ) → AreOctets xs → AreOctets ys → AreOctets (xs ++ ys)
+pub octets-append : (xs ys : List ℕ) → AreOctets xs → AreOctets ys → AreOctets (xs ++ ys)
 octets-append [] ys h k = k
 octets-append (x ∷ xs) ys h k = (h.0, octets-append xs ys h.1 k)
 
-bind_ok : {A B : Type 0} (r : Result A Fault) (f : A → Result B Fault) (y : B) → (r >>= f) ≡ Ok y → (x : A) × (r ≡ Ok x) × (f x ≡ Ok y)
+pub bind_ok : {A B : Type 0} (r : Result A Fault) (f : A → Result B Fault) (y : B) → (r >>= f) ≡ Ok y → (x : A) × (r ≡ Ok x) × (f x ≡ Ok y)
 bind_ok (Ok x) f y h = (x, refl, h)
 bind_ok (Err e) f y h = absurd (cc)
 
@@ -83,20 +82,24 @@ pub bind_reader : {A B : Type 0} {p : List ℕ → Read A} {f : A → List ℕ �
 bind_reader {p = p} {f = f} first then begins = bind_with first then (λ bytes h. joined bytes first (first.completes bytes h) begins)
 
 -- the value and the rest of what was read, or what is given
-value_of : {A : Type 0} → A → Read A → A
+abbrev pub value_of : {A : Type 0} → A → Read A → A
 value_of d (Ok x) = x.0
 value_of d (Err e) = d
 
-rest_of : {A : Type 0} → List ℕ → Read A → List ℕ
+abbrev pub rest_of : {A : Type 0} → List ℕ → Read A → List ℕ
 rest_of d (Ok x) = x.1
 rest_of d (Err e) = d
+
+-- the parts of what was read
+pub parts : {A : Type 0} (x y : A) (l m : List ℕ) → (let read : Read A = Ok (x, l) in read) ≡ Ok (y, m) → (x ≡ y) × (l ≡ m)
+parts x y l m h = (ap (value_of x) h, ap (rest_of l) h)
 
 with_rest : {A : Type 0} → (List ℕ → List ℕ) → Read A → Read A
 with_rest change (Ok r) = Ok (r.0, change r.1)
 with_rest change (Err e) = Err e
 
 pub byte_reader : IsReader byte_at
-unfolding byte_at value_of rest_of with_rest
+unfolding byte_at with_rest
 byte_reader = record {
   extends = extends;
   stuck = stuck;
@@ -138,7 +141,7 @@ byte_then {f = f} then begins = bind_with byte_reader then none_left
 
 -- a value that takes no byte, and a refusal
 pub ok_reader : {A : Type 0} (x : A) → IsReader (λ bytes. Ok (x, bytes))
-unfolding value_of rest_of with_rest
+unfolding with_rest
 ok_reader {A = A} x = record {
   extends = λ bytes more y rest h. ap (λ (r : Read A). with_rest (λ l. l ++ more) r) h;
   stuck = λ bytes more h. absurd (cc);
@@ -180,14 +183,13 @@ number_cases size bytes =
       | inr short ↦ inr (ltb-true (length bytes) size short.0, short.1)
     ]
 
-number_long : (size : ℕ) (bytes : List ℕ) (x : ℕ) (rest : List ℕ) → number_at size bytes ≡ Ok (x, rest) → (size ≤ length bytes) × (x ≡ from_le_bytes (width_of size) (take size bytes)) × (rest ≡ drop size bytes)
-unfolding value_of rest_of
+pub number_long : (size : ℕ) (bytes : List ℕ) (x : ℕ) (rest : List ℕ) → number_at size bytes ≡ Ok (x, rest) → (size ≤ length bytes) × (x ≡ from_le_bytes (width_of size) (take size bytes)) × (rest ≡ drop size bytes)
 number_long size bytes x rest h = elim (number_cases size bytes) [
   | inl long ↦ (long.0, ap (value_of 0) (sym h ∙ long.1), ap (rest_of []) (sym h ∙ long.1))
   | inr short ↦ absurd (cc (h, short.1))
 ]
 
-number_whole : (size : ℕ) (bytes : List ℕ) → size ≤ length bytes → number_at size (take size bytes) ≡ Ok (from_le_bytes (width_of size) (take size bytes), [])
+pub number_whole : (size : ℕ) (bytes : List ℕ) → size ≤ length bytes → number_at size (take size bytes) ≡ Ok (from_le_bytes (width_of size) (take size bytes), [])
 unfolding number_at
 number_whole size bytes h = grind (arith, common_steps)
 
@@ -211,7 +213,7 @@ unfolding zeros
 octets-zeros zero = tt
 octets-zeros (suc n) = (omega arith, octets-zeros n)
 
-number_exact : (size : ℕ) (bytes : List ℕ) → length bytes ≡ size → number_at size bytes ≡ Ok (from_le_bytes (width_of size) bytes, [])
+pub number_exact : (size : ℕ) (bytes : List ℕ) → length bytes ≡ size → number_at size bytes ≡ Ok (from_le_bytes (width_of size) bytes, [])
 unfolding number_at
 number_exact size bytes h = grind (arith, common_steps)
 
@@ -246,18 +248,17 @@ number_reader size = record {
 
 -- what was read together with the number of its bytes
 
-with_size : Operand → ℕ → Spelled
+abbrev pub with_size : Operand → ℕ → Spelled
 with_size operand size = record { operand = operand; size = size }
 
-abbrev sized : ℕ → Operand × List ℕ → Read Spelled
+abbrev pub sized : ℕ → Operand × List ℕ → Read Spelled
 sized n operand = Ok (with_size operand.0 (n - length operand.1), operand.1)
 
-counted_ok : (read : List ℕ → Read Operand) (bytes : List ℕ) (operand : Operand) (rest : List ℕ) → read bytes ≡ Ok (operand, rest) → counted read bytes ≡ Ok (with_size operand (length bytes - length rest), rest)
-unfolding counted with_size
+pub counted_ok : (read : List ℕ → Read Operand) (bytes : List ℕ) (operand : Operand) (rest : List ℕ) → read bytes ≡ Ok (operand, rest) → counted read bytes ≡ Ok (with_size operand (length bytes - length rest), rest)
+unfolding counted
 counted_ok read bytes operand rest h = rw h refl
 
 settled : (bytes : List ℕ) (read : Read Operand) (operand : Operand) (tail : List ℕ) (x : Spelled) (rest : List ℕ) → read ≡ Ok (operand, tail) → sized (length bytes) (operand, tail) ≡ Ok (x, rest) → (operand' : Operand) × (read ≡ Ok (operand', rest)) × (x ≡ with_size operand' (length bytes - length rest))
-unfolding value_of rest_of
 settled bytes read operand tail x rest h k =
     let same : tail ≡ rest = ap (rest_of rest) k in (
       operand,
@@ -265,8 +266,8 @@ settled bytes read operand tail x rest h k =
       sym (ap (value_of x) k) ∙ ap (λ (l : List ℕ). with_size operand (length bytes - length l)) same,
     )
 
-counted_parts : (read : List ℕ → Read Operand) (bytes : List ℕ) (x : Spelled) (rest : List ℕ) → counted read bytes ≡ Ok (x, rest) → (operand : Operand) × (read bytes ≡ Ok (operand, rest)) × (x ≡ with_size operand (length bytes - length rest))
-unfolding counted with_size
+pub counted_parts : (read : List ℕ → Read Operand) (bytes : List ℕ) (x : Spelled) (rest : List ℕ) → counted read bytes ≡ Ok (x, rest) → (operand : Operand) × (read bytes ≡ Ok (operand, rest)) × (x ≡ with_size operand (length bytes - length rest))
+unfolding counted
 counted_parts read bytes x rest h =
     let parts = bind_ok (read bytes) (sized (length bytes)) (x, rest) h in
     settled bytes (read bytes) parts.0.0 parts.0.1 x rest parts.1 parts.2
@@ -276,7 +277,7 @@ refused n (Ok x) fault h = absurd (cc)
 refused n (Err e) fault h = let same : e ≡ fault = cc in ap (λ (e' : Fault). Err e') same
 
 counted_refused : (read : List ℕ → Read Operand) (bytes : List ℕ) (fault : Fault) → counted read bytes ≡ Err fault → read bytes ≡ Err fault
-unfolding counted with_size
+unfolding counted
 counted_refused read bytes fault h = refused (length bytes) (read bytes) fault h
 
 counted_err : (read : List ℕ → Read Operand) (bytes : List ℕ) (fault : Fault) → read bytes ≡ Err fault → counted read bytes ≡ Err fault
@@ -291,22 +292,30 @@ counted_completion {read = read} bytes one = let none : List ℕ = [] in record 
   reads = counted_ok read (bytes ++ one.more) one.value [] one.reads;
 }
 
+counted_as : (read : List ℕ → Read Operand) (bytes : List ℕ) (operand : Operand) (rest : List ℕ) (n : ℕ) (x : Spelled) → read bytes ≡ Ok (operand, rest) → length bytes - length rest ≡ n → x ≡ with_size operand n → counted read bytes ≡ Ok (x, rest)
+unfolding counted
+counted_as read bytes operand rest n x h size e = rw (h, size, e) refl
+
+counted_extends : (read : List ℕ → Read Operand) → IsReader read → (bytes more : List ℕ) (x : Spelled) (rest : List ℕ) (operand : Operand) → read bytes ≡ Ok (operand, rest) → x ≡ with_size operand (length bytes - length rest) → counted read (bytes ++ more) ≡ Ok (x, rest ++ more)
+counted_extends read first bytes more x rest operand h e =
+    counted_as read (bytes ++ more) operand (rest ++ more) (length bytes - length rest) x (first.extends bytes more operand rest h)
+    (omega (arith, length-append bytes more, length-append rest more)) e
+
+counted_front : (read : List ℕ → Read Operand) (bytes front rest : List ℕ) (x : Spelled) (operand : Operand) → bytes ≡ front ++ rest → read front ≡ Ok (operand, []) → x ≡ with_size operand (length bytes - length rest) → counted read front ≡ Ok (x, [])
+counted_front read bytes front rest x operand split h e =
+    let long : length bytes ≡ length front + length rest = ap length split ∙ length-append front rest in
+    let none : List ℕ = [] in
+    counted_as read front operand none (length bytes - length rest) x h (omega arith) e
+
 pub counted_reader : {read : List ℕ → Read Operand} → IsReader read → IsReader (counted read)
 counted_reader {read = read} first = record {
   extends = λ bytes more x rest h.
-      let parts = counted_parts read bytes x rest h in
-      let size : length (bytes ++ more) - length (rest ++ more) ≡ length bytes - length rest = omega (arith, length-append bytes more, length-append rest more) in
-      counted_ok read (bytes ++ more) parts.0 (rest ++ more) (first.extends bytes more parts.0 rest parts.1) ∙ ap (λ (n : ℕ). Ok (with_size parts.0 n, rest ++ more)) size ∙ ap (λ (y : Spelled). Ok (y, rest ++ more)) (sym parts.2);
+      let read_parts = counted_parts read bytes x rest h in
+      counted_extends read first bytes more x rest read_parts.0 read_parts.1 read_parts.2;
   stuck = λ bytes more h. counted_err read (bytes ++ more) Bad (first.stuck bytes more (counted_refused read bytes Bad h));
   fronts = λ bytes x rest h.
-      let parts = counted_parts read bytes x rest h in
-      let one = first.fronts bytes parts.0 rest parts.1 in
-      let long : length bytes ≡ length one.0 + length rest = ap length one.1 ∙ length-append one.0 rest in
-      let none : List ℕ = [] in
-      let size : length one.0 - length none ≡ length bytes - length rest = omega arith in (
-        one.0,
-        one.1,
-        counted_ok read one.0 parts.0 [] one.2 ∙ ap (λ (n : ℕ). Ok (with_size parts.0 n, [])) size ∙ ap (λ (y : Spelled). Ok (y, [])) (sym parts.2),
-      );
+      let read_parts = counted_parts read bytes x rest h in
+      let one = first.fronts bytes read_parts.0 rest read_parts.1 in
+      (one.0, one.1, counted_front read bytes one.0 rest x read_parts.0 one.1 one.2 read_parts.2);
   completes = λ bytes h. counted_completion bytes (first.completes bytes (counted_refused read bytes Short h));
 }
