@@ -7,7 +7,7 @@ use Rattle.vax_code.specs.declared.instr.Decoded.TheVariants as decodings
 use Rattle.vax_code.specs.Reading.{Read, instruction_at, decoded, decoding_of}
 use Rattle.vax_code.specs.Grammar.{AreOctets, BeginsWith, IsProperPrefix, DecodesAs}
 use Rattle.vax_code.proofs.Readers.{parts, octets-append}
-use Rattle.vax_code.proofs.Grammar.{instruction_reader}
+use Rattle.vax_code.proofs.Reading.{instruction_reader}
 use Rattle.vax_code.proofs.Spelling.{instruction_spelled, octets_front}
 use Rattle.vax_code.proofs.Parsing.{instruction_read}
 
@@ -30,7 +30,7 @@ is_bad (Err Bad) h = refl
 
 -- ---- Is
 
-begins : (bytes : List ℕ) (instr : Instr) → AreOctets bytes → decoded bytes ≡ decodings.Is instr → BeginsWith bytes instr
+pub begins : (bytes : List ℕ) (instr : Instr) → AreOctets bytes → decoded bytes ≡ decodings.Is instr → BeginsWith bytes instr
 unfolding decoded
 begins bytes instr octets h =
     let read = is_read (instruction_at bytes) instr h in
@@ -46,7 +46,7 @@ begun : (bytes : List ℕ) (instr : Instr) → BeginsWith bytes instr → (rest 
 begun bytes instr h =
     (h.rest, ap instruction_at h.split ∙ instruction_reader.extends h.front h.rest instr [] (instruction_read h.front instr h.whole))
 
-is_decoded : (bytes : List ℕ) (instr : Instr) → BeginsWith bytes instr → decoded bytes ≡ decodings.Is instr
+pub is_decoded : (bytes : List ℕ) (instr : Instr) → BeginsWith bytes instr → decoded bytes ≡ decodings.Is instr
 unfolding decoded
 is_decoded bytes instr h = ap decoding_of (begun bytes instr h).1
 
@@ -61,7 +61,7 @@ some_more bytes more instr short h none =
     append_none [] = refl
     append_none (b ∷ bs) = ap (λ (l : List ℕ). b ∷ l) (append_none bs)
 
-prefix : (bytes : List ℕ) → AreOctets bytes → decoded bytes ≡ decodings.NeedMore → IsProperPrefix bytes
+pub prefix : (bytes : List ℕ) → AreOctets bytes → decoded bytes ≡ decodings.NeedMore → IsProperPrefix bytes
 unfolding decoded
 prefix bytes octets h =
     let short = is_short (instruction_at bytes) h in
@@ -86,7 +86,7 @@ unfinished (Err Short) bytes more instr e some h = refl
 unfinished (Err Bad) bytes more instr e some h =
     let stuck = instruction_reader.stuck bytes more e in absurd (cc (stuck, h))
 
-needs_more : (bytes : List ℕ) → IsProperPrefix bytes → decoded bytes ≡ decodings.NeedMore
+pub needs_more : (bytes : List ℕ) → IsProperPrefix bytes → decoded bytes ≡ decodings.NeedMore
 unfolding decoded
 needs_more bytes h =
     ap decoding_of (unfinished (instruction_at bytes) bytes h.more h.instr refl h.some (instruction_read (bytes ++ h.more) h.instr h.whole))

@@ -12,7 +12,7 @@ use Rattle.vax_code.specs.declared.table.Slot.{Slot}
 use Rattle.vax_code.specs.declared.table.Row.{Row}
 use Rattle.vax_code.specs.declared.table.Kind.{Kind}
 use Rattle.vax_code.specs.declared.table.Kind.TheVariants as kinds
-use Rattle.vax_code.specs.Reading.{is_branch}
+use Rattle.vax_code.specs.Operands.{is_branch}
 use Rattle.vax_code.specs.Table.{slot_in, slot_of}
 use Rattle.vax_code.specs.Grammar.{SpellsPlain, SpellsOnPc, SpellsDisplaced, SpellsBase, SpellsSpecifier, SpellsBranch, SpellsOperand, SpellsPlace, IsInstruction, BeginsWith, IsProperPrefix, DecodesAs, HasLength}
 

@@ -11,11 +11,12 @@ use Rattle.vax_code.specs.declared.instr.Base.{Base}
 use Rattle.vax_code.specs.declared.instr.Base.TheVariants as bases
 use Rattle.vax_code.specs.declared.table.Slot.{Slot}
 use Rattle.vax_code.specs.declared.table.Row.{Row}
-use Rattle.vax_code.specs.Reading.{Read, ◌>>=◌, byte_at, signed_at, displacement_at, base_at, indexed_at, specifier_at, operand_at, counted, place_at, operands_at, instruction_at, operand_of, is_read, is_address, is_branch}
+use Rattle.vax_code.specs.Reading.{Read, ◌>>=◌, byte_at, signed_at, displacement_at, base_at, indexed_at, specifier_at, operand_at, counted, place_at, operands_at, instruction_at}
+use Rattle.vax_code.specs.Operands.{operand_of, is_read, is_address, is_branch}
 use Rattle.vax_code.specs.Table.{slot_in}
 use Rattle.vax_code.specs.Grammar.{SpellsNumber, SpellsSigned, specifier, SpellsDisplaced, SpellsBase, LeavesIndex, SpellsSpecifier, SpellsBranch, SpellsOperand, SpellsPlace, spelled, IsInstruction}
 use Rattle.vax_code.proofs.Readers.{counted_ok, with_size}
-use Rattle.vax_code.proofs.Grammar.{place_reader}
+use Rattle.vax_code.proofs.Reading.{place_reader}
 use Rattle.vax_code.proofs.Spelling.{mapping, number_read, signed_read, high_half, low_half, changes}
 
 -- ---- bases

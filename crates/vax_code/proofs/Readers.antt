@@ -6,7 +6,8 @@ use Rattle.std.proofs.lemmas.Grind.{common_steps}
 use Rattle.std.specs.Int.{from_le_bytes}
 use Rattle.vax_code.specs.declared.reader.Fault.{Fault}
 use Rattle.vax_code.specs.declared.reader.Fault.TheVariants.{Short, Bad}
-use Rattle.vax_code.specs.Reading.{Read, ◌>>=◌, byte_at, number_at, width_of, counted}
+use Rattle.vax_code.specs.Reading.{Read, ◌>>=◌, byte_at, number_at, counted}
+use Rattle.vax_code.specs.Operands.{width_of}
 use Rattle.vax_code.specs.declared.reader.Spelled.{Spelled}
 use Rattle.vax_code.specs.declared.instr.Operand.{Operand}
 use Rattle.vax_code.specs.Grammar.{AreOctets}

@@ -13,11 +13,12 @@ use Rattle.vax_code.specs.declared.instr.Base.{Base}
 use Rattle.vax_code.specs.declared.instr.Base.TheVariants as bases
 use Rattle.vax_code.specs.declared.table.Slot.{Slot}
 use Rattle.vax_code.specs.declared.table.Row.{Row}
-use Rattle.vax_code.specs.Reading.{Read, ◌>>=◌, byte_at, number_at, signed_at, displacement_at, base_at, indexed_at, specifier_at, operand_at, counted, place_at, operands_at, instruction_at, width_of, operand_of, is_read, is_address, is_branch, row_or_bad, assembled}
+use Rattle.vax_code.specs.Reading.{Read, ◌>>=◌, byte_at, number_at, signed_at, displacement_at, base_at, indexed_at, specifier_at, operand_at, counted, place_at, operands_at, instruction_at, row_or_bad}
+use Rattle.vax_code.specs.Operands.{width_of, operand_of, is_read, is_address, is_branch, assembled}
 use Rattle.vax_code.specs.Table.{slot_in, row_for}
 use Rattle.vax_code.specs.Grammar.{AreOctets, SpellsNumber, SpellsSigned, specifier, SpellsPlain, SpellsOnPc, SpellsDisplaced, SpellsBase, LeavesIndex, SpellsIndexed, SpellsSpecifier, SpellsBranch, SpellsOperand, SpellsPlace, spelled, IsInstruction}
 use Rattle.vax_code.proofs.Readers.{bind_ok, parts, number_exact, number_long, counted_parts, with_size}
-use Rattle.vax_code.proofs.Grammar.{place_reader}
+use Rattle.vax_code.proofs.Reading.{place_reader}
 
 -- ---- choices and values
 

@@ -11,7 +11,7 @@ use Rattle.vax_code.specs.declared.instr.Decoded.TheVariants as decodings
 use Rattle.vax_code.specs.declared.reader.Spelled.{Spelled}
 use Rattle.vax_code.specs.declared.table.Row.{Row}
 use Rattle.vax_code.specs.declared.table.Slot.{Slot}
-use Rattle.vax_code.specs.Reading.{width_of, is_read, is_address, is_branch, assembled}
+use Rattle.vax_code.specs.Operands.{width_of, is_read, is_address, is_branch, assembled}
 use Rattle.vax_code.specs.Table.{row_for, slot_in}
 
 -- each number is a byte

@@ -7,7 +7,8 @@ use Rattle.vax_code.specs.declared.instr.Operand.TheVariants as operands
 use Rattle.vax_code.specs.declared.instr.Base.TheVariants as bases
 use Rattle.vax_code.specs.declared.table.Slot.{Slot}
 use Rattle.vax_code.specs.declared.table.Row.{Row}
-use Rattle.vax_code.specs.Reading.{Read, ◌>>=◌, signed_at, displacement_at, base_at, indexed_at, specifier_at, operand_at, place_at, operands_at, instruction_at, width_of, operand_of, is_read, is_address, is_branch, row_or_bad, assembled}
+use Rattle.vax_code.specs.Reading.{Read, ◌>>=◌, signed_at, displacement_at, base_at, indexed_at, specifier_at, operand_at, place_at, operands_at, instruction_at, row_or_bad}
+use Rattle.vax_code.specs.Operands.{width_of, operand_of, is_read, is_address, is_branch, assembled}
 use Rattle.vax_code.specs.Table.{slot_in, row_for, all_rows}
 use Rattle.vax_code.proofs.Readers.{IsReader, Completion, bind_reader, ok_reader, bad_reader, if_reader, begins_ok, byte_then, begins_byte, number_reader, begins_number, counted_reader, counted_completion, joined}
 
