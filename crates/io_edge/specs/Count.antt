@@ -1,0 +1,27 @@
+-- Counts of faults, and what a call that moves bytes says by its answer.
+use Rattle.std.specs.Prelude.{◌≡◌, ◌≤◌, ◌<◌, ◌⊎◌, ℕ, ⊤}
+use Rattle.io_edge.specs.declared.Moved.{Moved}
+use Rattle.io_edge.specs.declared.Moved.TheVariants.{Done, Failed}
+
+-- the last value of a count that is kept in 64 bits
+abbrev pub last_count : ℕ
+last_count = 0xffff_ffff_ffff_ffff
+
+-- the count rose, or stands at its last value
+abbrev pub Rose : ℕ → ℕ → Type 0
+Rose old new = (old < new) ⊎ ((last_count ≤ old) × (new ≡ old))
+
+-- a count of faults over one call: it rises where the call failed, and in no other call
+abbrev pub Counts : Moved → ℕ → ℕ → Type 0
+Counts Done old new = new ≡ old
+Counts Failed old new = Rose old new
+
+-- the fact holds where all was moved
+abbrev pub OnDone : Moved → Type 0 → Type 0
+OnDone Done P = P
+OnDone Failed P = ⊤
+
+-- the fact holds where the call failed
+abbrev pub OnFailed : Moved → Type 0 → Type 0
+OnFailed Done P = ⊤
+OnFailed Failed P = P

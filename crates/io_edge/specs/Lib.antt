@@ -1,0 +1,5 @@
+pub mod Count
+pub mod FileHolding
+pub mod SwapImage
+pub mod Written
+pub mod Told

@@ -1,0 +1,50 @@
+//! What a run reads and writes: its files, its swap devices and its output, each as a trait whose
+//! contract says what a call moves and what a failed one leaves, with forms in memory and thin
+//! adapters over the system.
+#![tactic(auto)]
+
+mod count;
+pub mod dir_files;
+pub mod files;
+pub mod mem_files;
+pub mod mem_sink;
+pub mod mem_swap;
+pub mod out_sink;
+pub mod sink;
+pub mod swap_dev;
+
+pub use dir_files::DirFiles;
+pub use files::Files;
+pub use mem_files::{MemFiles, SureFiles};
+pub use mem_sink::{MemSink, SureSink};
+pub use mem_swap::SureSwap;
+pub use out_sink::OutSink;
+pub use sink::Sink;
+pub use swap_dev::SwapDev;
+
+/// What `Files::find` answers for a name.
+#[derive(Clone, Copy, PartialEq, Eq, Debug)]
+pub enum Found {
+    /// There is such a file: the number that `read_at` takes for it, and its length in bytes.
+    Is { id: u32, len: u64 },
+    /// There is no such file.
+    Absent,
+    /// It couldn't be told; a count of faults rose.
+    Failed,
+}
+
+/// How a transfer of bytes ended.
+#[derive(Clone, Copy, PartialEq, Eq, Debug)]
+pub enum Moved {
+    /// All of it was moved.
+    Done,
+    /// It failed; a count of faults rose.
+    Failed,
+}
+
+/// The memory that a value needs wasn't there.
+#[derive(Clone, Copy, PartialEq, Eq, Debug)]
+pub struct NoMemory;
+
+#[cfg(test)]
+mod tests;

@@ -1,0 +1,72 @@
+// A swap device: blocks of 512 bytes, moved two at a time, as a page of memory has 1,024.
+ghost use Rattle.std.specs.Prelude.{◌≡◌, ℕ, ◌+◌, ◌*◌, ◌%◌, ◌≤◌, List, Option, Some, length};
+ghost use Rattle.io_edge.specs.Count.{Counts, OnDone, OnFailed};
+ghost use Rattle.io_edge.specs.SwapImage.{HoldsPage, WritesPage, SpoilsPage};
+
+use crate::Moved;
+
+/// A device of blocks of 512 bytes. A call moves the two blocks of one page, of which the first has an
+/// even number. Failed reads and failed writes are counted, each in a count that never falls; kept as
+/// a `u64` it stands still at its last value.
+pub trait SwapDev {
+    /// All bytes of the device, block after block, where they are told.
+    ghost image: { Self → Option (List ℕ) };
+
+    /// How many blocks the device has.
+    ghost blocks: { Self → ℕ };
+
+    /// How often a `read` has failed.
+    ghost read_faults: { Self → ℕ };
+
+    /// How often a `write` has failed.
+    ghost write_faults: { Self → ℕ };
+
+    /// Calls lead from the first state to the second.
+    ghost leads: { Self → Self → Type 0 };
+
+    /// How many blocks the device has. It never changes.
+    fn blocks(&self) -> u32
+        ensures { result ≡ blocks self.now };
+
+    /// Reads the two blocks from `block` on. Failed comes only where `read_faults` rose, and leaves
+    /// any bytes in the buffer.
+    fn read(&mut self, block: u32, buf: &mut [u8; 1024]) -> Moved
+        requires even { block % 2 ≡ 0 }
+        requires inside { block + 2 ≤ blocks self.old }
+        ensures leads { leads self.old self.new }
+        ensures blocks { blocks self.new ≡ blocks self.old }
+        ensures image { image self.new ≡ image self.old }
+        ensures done { OnDone result (HoldsPage (image self.old) block buf.new) }
+        ensures read_faults { Counts result (read_faults self.old) (read_faults self.new) }
+        ensures write_faults { write_faults self.new ≡ write_faults self.old };
+
+    /// Writes the two blocks from `block` on. Failed comes only where `write_faults` rose; only these
+    /// two blocks are unknown then.
+    fn write(&mut self, block: u32, bytes: &[u8; 1024]) -> Moved
+        requires even { block % 2 ≡ 0 }
+        requires inside { block + 2 ≤ blocks self.old }
+        ensures leads { leads self.old self.new }
+        ensures blocks { blocks self.new ≡ blocks self.old }
+        ensures done { OnDone result (WritesPage (image self.old) block bytes.now (image self.new)) }
+        ensures failed { OnFailed result (SpoilsPage (image self.old) block (image self.new)) }
+        ensures read_faults { read_faults self.new ≡ read_faults self.old }
+        ensures write_faults { Counts result (write_faults self.old) (write_faults self.new) };
+
+    /// A told image has 512 bytes for each block.
+    ghost whole: { (d : Self) (bytes : List ℕ) → image d ≡ Some bytes → length bytes ≡ 512 * blocks d };
+
+    /// No call leads from a state to itself.
+    ghost leads_nowhere: { (d : Self) → leads d d };
+
+    /// One row of calls after another is a row of calls.
+    ghost leads_through: { (a b c : Self) → leads a b → leads b c → leads a c };
+
+    /// The number of blocks never changes.
+    ghost blocks_stay: { (a b : Self) → leads a b → blocks b ≡ blocks a };
+
+    /// The count of failed reads never falls.
+    ghost reads_grow: { (a b : Self) → leads a b → read_faults a ≤ read_faults b };
+
+    /// The count of failed writes never falls.
+    ghost writes_grow: { (a b : Self) → leads a b → write_faults a ≤ write_faults b };
+}

@@ -1,0 +1,178 @@
+-- Reading one instruction from the front of some bytes.
+use Rattle.std.specs.Prelude.{◌≡◌, ℕ, ◌+◌, ◌-◌, ◌*◌, ◌/◌, ◌%◌, List, [], ◌∷◌, ◌≤◌, length, take, drop, Option, Some, None, Result, Ok, Err, nat_lt, ◌==◌, ◌&&◌, ◌||◌, if◌then◌else◌, Bool, true, false, ℤ, pos}
+use Rattle.std.specs.Int.{Width, w8, w16, w32, from_le_bytes, cast_signed, int_wrapping_sub}
+use Rattle.vax_code.specs.declared.instr.Operand.{Operand}
+use Rattle.vax_code.specs.declared.instr.Operand.TheVariants as operands
+use Rattle.vax_code.specs.declared.instr.Base.{Base}
+use Rattle.vax_code.specs.declared.instr.Base.TheVariants as bases
+use Rattle.vax_code.specs.declared.instr.Instr.{Instr}
+use Rattle.vax_code.specs.declared.instr.Decoded.{Decoded}
+use Rattle.vax_code.specs.declared.instr.Decoded.TheVariants as decodings
+use Rattle.vax_code.specs.declared.reader.Fault.{Fault}
+use Rattle.vax_code.specs.declared.reader.Spelled.{Spelled}
+use Rattle.vax_code.specs.declared.reader.Fault.TheVariants.{Short, Bad}
+use Rattle.vax_code.specs.declared.table.Row.{Row}
+use Rattle.vax_code.specs.declared.table.Slot.{Slot}
+use Rattle.vax_code.specs.declared.table.Access.{Access}
+use Rattle.vax_code.specs.declared.table.Access.TheVariants as accesses
+use Rattle.vax_code.specs.Table.{row_for, slot_in}
+
+infixl 10 ◌>>=◌
+abbrev pub ◌>>=◌ : {A B : Type 0} → Result A Fault → (A → Result B Fault) → Result B Fault
+(Ok x) >>= f = f x
+(Err e) >>= f = Err e
+
+-- a value and the bytes after it
+abbrev pub Read : Type 0 → Type 0
+Read A = Result (A × List ℕ) Fault
+
+unfoldable pub byte_at : List ℕ → Read ℕ
+byte_at [] = Err Short
+byte_at (byte ∷ rest) = Ok (byte, rest)
+
+abbrev pub width_of : ℕ → Width
+width_of size = if size == 1 then w8 else (if size == 2 then w16 else w32)
+
+-- the little-endian number of 1, 2 or 4 bytes
+unfoldable pub number_at : ℕ → List ℕ → Read ℕ
+number_at size bytes =
+    if nat_lt (length bytes) size then Err Short
+    else Ok (from_le_bytes (width_of size) (take size bytes), drop size bytes)
+
+unfoldable pub signed_at : ℕ → List ℕ → Read ℤ
+signed_at size bytes = do
+  number ← number_at size bytes
+  Ok (cast_signed (width_of size) number.0, number.1)
+
+-- modes A to F: a displacement of 1, 2 or 4 bytes, deferred in the odd ones
+unfoldable pub displacement_at : ℕ → ℕ → List ℕ → Read Base
+displacement_at mode reg bytes = do
+  by ← signed_at (if nat_lt mode 12 then 1 else (if nat_lt mode 14 then 2 else 4)) bytes
+  Ok (bases.Disp reg by.0 (mode % 2 == 1), by.1)
+
+-- modes 6 to F, which give an address
+unfoldable pub base_at : ℕ → ℕ → List ℕ → Read Base
+base_at mode reg bytes =
+    if nat_lt mode 6 then Err Bad
+    else (if nat_lt 9 mode then displacement_at mode reg bytes
+    else (if (mode == 9) && (reg == 15) then (number_at 4 bytes >>= λ number. Ok (bases.Absolute number.0, number.1))
+    else (if reg == 15 then Err Bad
+    else (if mode == 6 then Ok (bases.Deferred reg, bytes)
+    else (if mode == 7 then Ok (bases.AutoDec reg, bytes)
+    else (if mode == 8 then Ok (bases.AutoInc reg, bytes)
+    else Ok (bases.AutoIncDef reg, bytes)))))))
+
+abbrev pub operand_of : Base → Operand
+operand_of (bases.Deferred reg) = operands.Deferred reg
+operand_of (bases.AutoDec reg) = operands.AutoDec reg
+operand_of (bases.AutoInc reg) = operands.AutoInc reg
+operand_of (bases.AutoIncDef reg) = operands.AutoIncDef reg
+operand_of (bases.Absolute address) = operands.Absolute address
+operand_of (bases.Disp reg by deferred) = operands.Disp reg by deferred
+
+-- the base of an index: no immediate, and no change of the index register itself
+unfoldable pub indexed_at : ℕ → List ℕ → Read Operand
+indexed_at index bytes = do
+  first ← byte_at bytes
+  if nat_lt 6 (first.0 / 16) && nat_lt (first.0 / 16) 10 && (first.0 % 16 == index) then Err Bad
+      else (base_at (first.0 / 16) (first.0 % 16) first.1 >>= λ base. Ok (operands.Indexed index base.0, base.1))
+
+abbrev pub is_read : Access → Bool
+is_read accesses.Read = true
+is_read _ = false
+
+abbrev pub is_address : Access → Bool
+is_address accesses.Address = true
+is_address _ = false
+
+abbrev pub is_branch : Access → Bool
+is_branch accesses.Branch = true
+is_branch _ = false
+
+-- the operand that a mode and a register begin
+unfoldable pub specifier_at : Slot → ℕ → ℕ → List ℕ → Read Operand
+specifier_at slot mode reg bytes =
+    if nat_lt mode 4 then (if is_read slot.access then Ok (operands.Literal (16 * mode + reg), bytes) else Err Bad)
+    else (if mode == 4 then (if reg == 15 then Err Bad else indexed_at reg bytes)
+    else (if mode == 5 then (if (reg == 15) || is_address slot.access then Err Bad else Ok (operands.Register reg, bytes))
+    else (if (mode == 8) && (reg == 15) then
+    (if is_read slot.access then (number_at slot.size bytes >>= λ number. Ok (operands.Immediate number.0, number.1)) else Err Bad)
+    else (base_at mode reg bytes >>= λ base. Ok (operand_of base.0, base.1)))))
+
+unfoldable pub operand_at : Slot → List ℕ → Read Operand
+operand_at slot bytes =
+    if is_branch slot.access then (signed_at slot.size bytes >>= λ by. Ok (operands.Branch by.0, by.1))
+    else (byte_at bytes >>= λ first. specifier_at slot (first.0 / 16) (first.0 % 16) first.1)
+
+-- what a function returned is what reading gives
+abbrev pub Gives : {X Y : Type 0} → (X → Y) → Result X Fault → Result Y Fault → Type 0
+Gives view (Ok x) read = read ≡ Ok (view x)
+Gives view (Err e) read = read ≡ Err e
+
+-- the row of an opcode that isn't reserved
+abbrev pub row_or_bad : Option Row → Result Row Fault
+row_or_bad None = Err Bad
+row_or_bad (Some row) = Ok row
+
+-- what was read, and how many bytes it took
+unfoldable pub counted : (List ℕ → Read Operand) → List ℕ → Read Spelled
+counted read bytes = do
+  operand ← read bytes
+  Ok (record { operand = operand.0; size = length bytes - length operand.1 }, operand.1)
+
+-- the operand in a place of the row, or the filler where the instruction has none there
+unfoldable pub place_at : Row → ℕ → List ℕ → Read Spelled
+place_at row place bytes =
+    if nat_lt place row.count then counted (operand_at (slot_in row place)) bytes
+    else Ok (record { operand = operands.Literal 0; size = 0 }, bytes)
+
+-- a displacement on PC counts from the end of the instruction, which is so many bytes behind the operand
+abbrev pub base_from_end : ℕ → Base → Base
+base_from_end behind (bases.Disp reg by deferred) =
+    if reg == 15 then bases.Disp reg (int_wrapping_sub w32 by (pos behind)) deferred
+    else bases.Disp reg by deferred
+base_from_end behind base = base
+
+abbrev pub from_end : ℕ → Operand → Operand
+from_end behind (operands.Disp reg by deferred) = operand_of (base_from_end behind (bases.Disp reg by deferred))
+from_end behind (operands.Indexed index base) = operands.Indexed index (base_from_end behind base)
+from_end behind operand = operand
+
+-- the instruction that an opcode and its operands make
+abbrev pub assembled : ℕ → Row → Spelled → Spelled → Spelled → Instr
+assembled op row a b c = record {
+  op = op;
+  length = 1 + a.size + b.size + c.size;
+  count = row.count;
+  a = from_end (b.size + c.size) a.operand;
+  b = from_end c.size b.operand;
+  c = c.operand;
+}
+
+-- the operands that follow the opcode
+unfoldable pub operands_at : ℕ → Row → List ℕ → Read Instr
+operands_at op row bytes = do
+  a ← place_at row 0 bytes
+  b ← place_at row 1 a.1
+  c ← place_at row 2 b.1
+  Ok (assembled op row a.0 b.0 c.0, c.1)
+
+unfoldable pub instruction_at : List ℕ → Read Instr
+instruction_at bytes = do
+  first ← byte_at bytes
+  row ← row_or_bad (row_for first.0)
+  operands_at first.0 row first.1
+
+abbrev pub decoding_of : Read Instr → Decoded
+decoding_of (Ok read) = decodings.Is read.0
+decoding_of (Err Short) = decodings.NeedMore
+decoding_of (Err Bad) = decodings.Reserved
+
+-- what the bytes begin with
+unfoldable pub decoded : List ℕ → Decoded
+decoded bytes = decoding_of (instruction_at bytes)
+
+-- reading took at most so many bytes
+pub record Took (bytes rest : List ℕ) (most : ℕ) : Type 0 where
+  pub some : length rest ≤ length bytes
+  pub few : length bytes ≤ length rest + most

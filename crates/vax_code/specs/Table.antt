@@ -1,0 +1,38 @@
+-- The row of an opcode.
+use Rattle.std.specs.Prelude.{ℕ, Option, Bool, ◌==◌, nat_le, find, List, if◌then◌else◌}
+use Rattle.vax_code.specs.declared.table.Row.{Row}
+use Rattle.vax_code.specs.declared.table.Slot.{Slot}
+use Rattle.vax_code.specs.declared.table.Kind.{Kind}
+use Rattle.vax_code.specs.declared.table.Kind.TheVariants as kinds
+use Rattle.vax_code.specs.declared.table.Access.TheVariants as accesses
+use Rattle.vax_code.specs.declared.table.TheConstants.{TABLE}
+
+-- the instruction table
+unfoldable pub all_rows : List Row
+all_rows = TABLE
+
+unfoldable pub row_for : ℕ → Option Row
+row_for op = find (λ row. row.op == op) all_rows
+
+-- the access and the size of a kind
+abbrev pub slot_of : Kind → Slot
+slot_of kinds.Ab = record { access = accesses.Address; size = 1 }
+slot_of kinds.Al = record { access = accesses.Address; size = 4 }
+slot_of kinds.Bb = record { access = accesses.Branch; size = 1 }
+slot_of kinds.Bw = record { access = accesses.Branch; size = 2 }
+slot_of kinds.Mb = record { access = accesses.Modify; size = 1 }
+slot_of kinds.Ml = record { access = accesses.Modify; size = 4 }
+slot_of kinds.Rb = record { access = accesses.Read; size = 1 }
+slot_of kinds.Rl = record { access = accesses.Read; size = 4 }
+slot_of kinds.Rw = record { access = accesses.Read; size = 2 }
+slot_of kinds.Wb = record { access = accesses.Write; size = 1 }
+slot_of kinds.Wl = record { access = accesses.Write; size = 4 }
+slot_of kinds.Ww = record { access = accesses.Write; size = 2 }
+
+-- the slot in a place below three
+abbrev pub slot_in : Row → ℕ → Slot
+slot_in row place = slot_of (if place == 0 then row.a else (if place == 1 then row.b else row.c))
+
+-- the rule of the table: at most three operands
+abbrev pub is_sound : Row → Bool
+is_sound row = nat_le row.count 3

@@ -1,0 +1,27 @@
+-- What a memory answers for each address, and what it answers after bytes were written.
+use Rattle.std.specs.Prelude.{ℕ, Bool, true, false, ◌==◌, List, [], ◌∷◌}
+use Rattle.vm_facts.specs.declared.memory.ByteRead.{ByteRead}
+use Rattle.vm_facts.specs.declared.memory.ByteRead.TheVariants.{Is}
+use Rattle.vm_facts.specs.declared.memory.MayWrite.{MayWrite}
+
+pub record Answers : Type 0 where
+  pub read : ℕ → ByteRead
+  pub may_write : ℕ → MayWrite
+
+pub record ByteWrite : Type 0 where
+  pub address : ℕ
+  pub byte : ℕ
+
+-- what is read at an address after a write: the byte there, and elsewhere what it was
+abbrev pub read_by : Bool → ℕ → ByteRead → ByteRead
+read_by true byte was = Is byte
+read_by false byte was = was
+
+-- a memory after one byte was written
+abbrev pub put : Answers → ByteWrite → Answers
+put memory w = record memory { read = λ address. read_by (address == w.address) w.byte (memory.read address) }
+
+-- a memory after these bytes were written, in order
+abbrev pub written : Answers → List ByteWrite → Answers
+written memory [] = memory
+written memory (w ∷ ws) = written (put memory w) ws

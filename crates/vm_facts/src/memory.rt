@@ -1,0 +1,61 @@
+ghost use Rattle.std.specs.Prelude.{◌≡◌, ℕ, List, [], ◌∷◌, ◌++◌};
+ghost use Rattle.vm_facts.specs.Answers.{Answers, ByteWrite, written};
+
+/// What a read of one byte answers.
+#[derive(Clone, Copy, Debug, PartialEq, Eq, Drop)]
+pub enum ByteRead {
+    /// The byte.
+    Is(u8),
+    /// The byte's page has to be brought in first.
+    Miss,
+    /// Below the stack's lowest page, and near enough to grow the stack.
+    Below,
+    /// In no segment.
+    Outside,
+}
+
+/// Whether one byte may be written.
+#[derive(Clone, Copy, Debug, PartialEq, Eq, Drop)]
+pub enum MayWrite {
+    /// It may.
+    May,
+    /// The byte's page has to be brought in first.
+    Miss,
+    /// Below the stack's lowest page, and near enough to grow the stack.
+    Below,
+    /// In the text, which isn't writable.
+    Text,
+    /// In no segment.
+    Outside,
+}
+
+/// The memory of one process, as an instruction meets it. Its meaning is what it answers for each
+/// address; and `wrote`, 'these writes lead from the first memory to the second', by which code
+/// that is generic in its memory tells its caller what became of all that lies behind it.
+pub trait Memory {
+    ghost answers: { Self → Answers };
+
+    ghost wrote: { Self → List ByteWrite → Self → Type 0 };
+
+    /// The byte at an address.
+    fn read(&self, address: u32) -> ByteRead
+        ensures { result ≡ (answers self.now).read address };
+
+    /// Whether the byte at an address may be written.
+    fn may_write(&self, address: u32) -> MayWrite
+        ensures { result ≡ (answers self.now).may_write address };
+
+    /// Writes the byte at an address.
+    fn write(&mut self, address: u32, byte: u8)
+        requires { (answers self.old).may_write address ≡ MayWrite.May }
+        ensures { wrote self.old (record { address = address; byte = byte } ∷ []) self.new };
+
+    /// No write leads from a memory to itself.
+    ghost wrote_none: { (m : Self) → wrote m [] m };
+
+    /// Writes after writes lead from the first to the last.
+    ghost wrote_more: { (a b c : Self) (xs ys : List ByteWrite) → wrote a xs b → wrote b ys c → wrote a (xs ++ ys) c };
+
+    /// Where writes led, a byte that was written is answered, and all else as before.
+    ghost wrote_answers: { (a b : Self) (xs : List ByteWrite) → wrote a xs b → answers b ≡ written (answers a) xs };
+}

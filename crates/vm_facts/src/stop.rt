@@ -1,0 +1,18 @@
+/// Want of memory: the allocator refused.
+#[derive(Clone, Copy, Debug, PartialEq, Eq, Drop)]
+pub struct NoMemory;
+
+/// Why a run stops before its end.
+#[derive(Clone, Copy, Debug, PartialEq, Eq, Drop)]
+pub enum Stop {
+    /// The allocator refused.
+    NoMemory,
+    /// A further entry is needed, and the journal has as many as it may.
+    JournalFull,
+    /// A page could not be read from a file.
+    FileFault,
+    /// A page or a u page could not be read from the swap device.
+    SwapReadFault,
+    /// A page or a u page could not be written to the swap device.
+    SwapWriteFault,
+}
