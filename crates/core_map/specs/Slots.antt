@@ -1,5 +1,5 @@
 -- What the core map has for one frame.
-use Rattle.std.specs.Prelude.{◌≡◌, ℕ, List, Bool, true, false, Option, Some, None, length, slice_set, slice_index_or, []}
+use Rattle.std.specs.Prelude.{◌≡◌, ℕ, List, Bool, true, false, Option, Some, None, IsTrue, length, slice_set, slice_index_or, []}
 use Rattle.vm_facts.specs.declared.page.Page.{Page}
 use Rattle.vm_facts.specs.declared.page.Page.TheVariants.{Data, Stack, Text}
 use Rattle.frame_state.specs.Frame.{Frame}
@@ -34,6 +34,12 @@ abbrev pub page_of : Slot → Option Page
 page_of (Free token page) = page
 page_of (Resident token page dirty) = Some page
 page_of Away = None
+
+-- what it says of the slot that a frame is so owned
+abbrev pub ShowsOwner : Whose → Slot → Type 0
+ShowsOwner (FreeOwner page) slot = IsTrue (is_free slot) × (page_of slot ≡ page)
+ShowsOwner (ResidentOwner page) slot = IsTrue (is_resident slot) × (page_of slot ≡ Some page)
+ShowsOwner AwayOwner slot = slot ≡ Away
 
 -- the token, where there is one
 abbrev pub token_of : Slot → Frame

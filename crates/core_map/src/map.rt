@@ -4,7 +4,7 @@ ghost use Rattle.std.specs.Prelude.{◌≡◌, ℕ, ◌+◌, ◌<◌, ◌≤◌,
 ghost use Rattle.core_map.specs.Fresh.{first_frames, fresh_slots};
 ghost use Rattle.core_map.specs.Frames.{IsAway, IsSound, HoldsNot, TakesHead};
 ghost use Rattle.core_map.specs.Order.{without};
-ghost use Rattle.core_map.specs.Slots.{slot_at, is_free, is_resident, is_dirty, owner_of, page_of, token_of, with_byte, with_dirty};
+ghost use Rattle.core_map.specs.Slots.{ShowsOwner, slot_at, is_free, is_resident, is_dirty, owner_of, page_of, token_of, with_byte, with_dirty};
 ghost use Rattle.core_map.specs.declared.slot.Slot.TheVariants.{Free as FreeSlot, Resident as ResidentSlot, Away as AwaySlot};
 ghost use Rattle.vm_facts.specs.declared.page.Page.TheVariants.{Text as TextPage};
 
@@ -89,9 +89,7 @@ impl CoreMap {
     pub fn give_head(&mut self, token: Free)
         requires { IsAway self.old token.number }
         ensures free { self.new.free ≡ token.number ∷ self.old.free }
-        ensures slots {
-            self.new.slots ≡ slice_set self.old.slots token.number (FreeSlot token None)
-        }
+        ensures slots { self.new.slots ≡ slice_set self.old.slots token.number (FreeSlot token None) }
     {
         let frame = token.number();
         self.free.push_front(frame);
@@ -103,24 +101,27 @@ impl CoreMap {
         requires away { IsAway self.old token.number }
         requires not_held { HoldsNot self.old page }
         ensures free { self.new.free ≡ self.old.free ++ token.number ∷ [] }
-        ensures slots {
-            self.new.slots ≡ slice_set self.old.slots token.number (FreeSlot token (Some page))
-        }
+        ensures slots { self.new.slots ≡ slice_set self.old.slots token.number (FreeSlot token (Some page)) }
     {
         let frame = token.number();
         self.free.push_back(frame);
         text_index::enter(&mut self.text, frame, Some(page));
-        slot::put(&mut self.slots, frame, Slot::Free { token, page: Some(page) });
+        slot::put(
+            &mut self.slots,
+            frame,
+            Slot::Free {
+                token,
+                page: Some(page),
+            },
+        );
     }
 
     /// A free frame loses its page and moves to the head of the free list.
     pub fn forget(&mut self, frame: u32)
         requires { IsTrue (is_free (slot_at self.old.slots frame)) }
         ensures free { self.new.free ≡ frame ∷ without frame self.old.free }
-        ensures slots {
-            self.new.slots
-            ≡ slice_set self.old.slots frame (FreeSlot (token_of (slot_at self.old.slots frame)) None)
-        }
+        ensures slots { self.new.slots
+            ≡ slice_set self.old.slots frame (FreeSlot (token_of (slot_at self.old.slots frame)) None) }
     {
         self.free.remove(frame);
         self.free.push_front(frame);
@@ -132,9 +133,7 @@ impl CoreMap {
     /// The frame that holds page `v` of the image's text, free or resident. None where no frame of the
     /// map holds it; one that is away may.
     pub fn find_text(&self, image: u32, v: u32) -> Option<u32>
-        ensures found {
-            IfSome result (λ frame. page_of (slot_at self.now.slots frame) ≡ Some (TextPage image v))
-        }
+        ensures found { IfSome result (λ frame. page_of (slot_at self.now.slots frame) ≡ Some (TextPage image v)) }
         ensures none { IfNone result (HoldsNot self.now (TextPage image v)) }
     {
         self.text.find(TextKey { image, v })
@@ -162,13 +161,19 @@ impl CoreMap {
         requires away { IsAway self.old token.number }
         requires not_held { HoldsNot self.old page }
         ensures free { self.new.free ≡ self.old.free }
-        ensures slots {
-            self.new.slots ≡ slice_set self.old.slots token.number (ResidentSlot token page false)
-        }
+        ensures slots { self.new.slots ≡ slice_set self.old.slots token.number (ResidentSlot token page false) }
     {
         let frame = token.number();
         text_index::enter(&mut self.text, frame, Some(page));
-        slot::put(&mut self.slots, frame, Slot::Resident { token, page, dirty: false });
+        slot::put(
+            &mut self.slots,
+            frame,
+            Slot::Resident {
+                token,
+                page,
+                dirty: false,
+            },
+        );
     }
 
     /// Takes a resident frame out.
@@ -203,17 +208,16 @@ impl CoreMap {
         requires resident { IsTrue (is_resident (slot_at self.old.slots frame)) }
         requires within { at < 1024 }
         ensures free { self.new.free ≡ self.old.free }
-        ensures slots {
-            self.new.slots
-            ≡ slice_set self.old.slots frame (with_byte (slot_at self.old.slots frame) at byte)
-        }
+        ensures slots { self.new.slots
+            ≡ slice_set self.old.slots frame (with_byte (slot_at self.old.slots frame) at byte) }
     {
         slot::put_byte(&mut self.slots[frame as usize], at, byte);
     }
 
     /// Whose the frame is. A number that is no frame's is away.
     pub fn owner(&self, frame: u32) -> Whose
-        ensures { result ≡ owner_of (slot_at self.now.slots frame) }
+        ensures owner { result ≡ owner_of (slot_at self.now.slots frame) }
+        ensures slot { ShowsOwner result (slot_at self.now.slots frame) }
     {
         match self.slots.get(frame as usize) {
             Some(Slot::Free { page, .. }) => Whose::Free(*page),
@@ -237,10 +241,8 @@ impl CoreMap {
     pub fn set_dirty(&mut self, frame: u32, dirty: bool)
         requires { IsTrue (is_resident (slot_at self.old.slots frame)) }
         ensures free { self.new.free ≡ self.old.free }
-        ensures slots {
-            self.new.slots
-            ≡ slice_set self.old.slots frame (with_dirty (slot_at self.old.slots frame) dirty)
-        }
+        ensures slots { self.new.slots
+            ≡ slice_set self.old.slots frame (with_dirty (slot_at self.old.slots frame) dirty) }
     {
         slot::set_dirty(&mut self.slots[frame as usize], dirty);
     }
@@ -257,3 +259,6 @@ impl CoreMap {
         slot::end_all(slots);
     }
 }
+
+#[cfg(test)]
+mod tests;

@@ -1,4 +1,4 @@
-use Rattle.std.proofs.Common.{◌≡◌, ◌<◌, ℕ, List, ap, sym, subst, length, arith}
+use Rattle.std.proofs.Common.{◌≡◌, ◌<◌, List, ap, subst, length, arith}
 use Rattle.core_map.specs.declared.slot.Slot.{Slot}
 use Rattle.core_map.specs.declared.slot.Slot.TheVariants.{Away}
 use Rattle.core_map.specs.Slots.{slot_at}

@@ -1,6 +1,5 @@
-use Rattle.std.proofs.Common.{◌≡◌, ◌≢◌, ℕ, List, set, refl, sym, ap, subst, ◌∙◌, arith, Option, Some, IfSome}
+use Rattle.std.proofs.Common.{◌≢◌, ℕ, List, sym, ap, subst, arith, Some, IfSome}
 use Rattle.std.proofs.lemmas.Grind.{common_steps}
-use Rattle.vm_facts.specs.declared.page.Page.{Page}
 use Rattle.core_map.specs.declared.slot.Slot.{Slot}
 use Rattle.core_map.specs.declared.slot.Slot.TheVariants.{Away}
 use Rattle.core_map.specs.Slots.{slot_at, page_of}
