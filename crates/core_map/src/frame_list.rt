@@ -44,7 +44,7 @@ impl FrameList {
     pub fn pop_front(&mut self) -> Option<u32>
         ensures none { IsNone result ↔ (self.old.frames ≡ []) }
         ensures unchanged { IfNone result (self.new ≡ self.old) }
-        ensures some { IfSome result (λ f. self.old.frames ≡ f ∷ self.new.frames) }
+        ensures some { IfSome result (λ first. self.old.frames ≡ first ∷ self.new.frames) }
         ensures bound { self.new.bound ≡ self.old.bound }
     {
         let first = self.next[0];
@@ -63,51 +63,63 @@ impl FrameList {
     }
 
     /// Puts a frame at the front.
-    pub fn push_front(&mut self, f: u32)
-        requires above_zero { 0 < f }
-        requires below { f < self.old.bound }
-        requires absent { times f self.old.frames ≡ 0 }
-        ensures frames { self.new.frames ≡ f ∷ self.old.frames }
+    pub fn push_front(&mut self, frame: u32)
+        requires above_zero { 0 < frame }
+        requires below { frame < self.old.bound }
+        requires absent { times frame self.old.frames ≡ 0 }
+        ensures frames { self.new.frames ≡ frame ∷ self.old.frames }
         ensures bound { self.new.bound ≡ self.old.bound }
     {
-        let at = f as usize;
+        let at = frame as usize;
         let head = self.next[0];
         self.next[at] = head;
         self.prev[at] = 0;
-        self.next[0] = f;
-        self.prev[head as usize] = f;
+        self.next[0] = frame;
+        self.prev[head as usize] = frame;
         self.len += 1;
     }
 
     /// Puts a frame at the back.
-    pub fn push_back(&mut self, f: u32)
-        requires above_zero { 0 < f }
-        requires below { f < self.old.bound }
-        requires absent { times f self.old.frames ≡ 0 }
-        ensures frames { self.new.frames ≡ self.old.frames ++ f ∷ [] }
+    pub fn push_back(&mut self, frame: u32)
+        requires above_zero { 0 < frame }
+        requires below { frame < self.old.bound }
+        requires absent { times frame self.old.frames ≡ 0 }
+        ensures frames { self.new.frames ≡ self.old.frames ++ frame ∷ [] }
         ensures bound { self.new.bound ≡ self.old.bound }
     {
-        let at = f as usize;
+        let at = frame as usize;
         let tail = self.prev[0];
-        self.next[tail as usize] = f;
+        self.next[tail as usize] = frame;
         self.prev[at] = tail;
         self.next[at] = 0;
-        self.prev[0] = f;
+        self.prev[0] = frame;
         self.len += 1;
     }
 
     /// Takes a frame out of the list.
-    pub fn remove(&mut self, f: u32)
-        requires present { 0 < times f self.old.frames }
-        ensures frames { self.new.frames ≡ without f self.old.frames }
+    pub fn remove(&mut self, frame: u32)
+        requires present { 0 < times frame self.old.frames }
+        ensures frames { self.new.frames ≡ without frame self.old.frames }
         ensures bound { self.new.bound ≡ self.old.bound }
     {
-        let at = f as usize;
+        let at = frame as usize;
         let before = self.prev[at];
         let after = self.next[at];
         self.next[before as usize] = after;
         self.prev[after as usize] = before;
         self.len -= 1;
+    }
+
+    /// Moves a frame of the list to its front.
+    pub fn move_to_front(&mut self, frame: u32)
+        requires above_zero { 0 < frame }
+        requires below { frame < self.old.bound }
+        requires present { 0 < times frame self.old.frames }
+        ensures frames { self.new.frames ≡ frame ∷ without frame self.old.frames }
+        ensures bound { self.new.bound ≡ self.old.bound }
+    {
+        self.remove(frame);
+        self.push_front(frame);
     }
 }
 
@@ -116,8 +128,8 @@ pub(crate) fn first_frames(alloc: Global, frames: u32) -> Result<FrameList, Allo
     ensures { IfOk result (λ l. (l.bound ≡ frames + 1) × (l.frames ≡ first_numbers frames)) }
 {
     let mut list = FrameList::new(alloc, frames as usize + 1)?;
-    for f in 0..frames {
-        list.push_back(f + 1);
+    for before in 0..frames {
+        list.push_back(before + 1);
     }
     Ok(list)
 }

@@ -123,8 +123,7 @@ impl CoreMap {
         ensures slots { self.new.slots
             ≡ slice_set self.old.slots frame (FreeSlot (token_of (slot_at self.old.slots frame)) None) }
     {
-        self.free.remove(frame);
-        self.free.push_front(frame);
+        self.free.move_to_front(frame);
         let (token, page) = slot::take_free(&mut self.slots, frame);
         text_index::leave(&mut self.text, frame, page);
         slot::put(&mut self.slots, frame, Slot::Free { token, page: None });

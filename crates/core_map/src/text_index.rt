@@ -14,8 +14,8 @@ pub struct TextKey {
     pub v: u32,
 }
 
-/// Hash chains of frames. `links[f]` is the frame after `f` in its chain, and the first frames of the
-/// chains stand behind those links, chain by chain. `keys[f]` is the text page of frame `f`, if any.
+/// Hash chains of frames. `links[frame]` is the frame after it in its chain, and the first frames of the
+/// chains stand behind those links, chain by chain. `keys[frame]` is the text page that it holds, if any.
 #[derive(Drop)]
 pub struct TextIndex {
     links: Vec<u32>,
@@ -61,36 +61,36 @@ impl TextIndex {
 
     /// The frame that holds the text page.
     pub fn find(&self, key: TextKey) -> Option<u32>
-        ensures found { IfSome result (λ f. key_at self.now f ≡ Some key) }
-        ensures none { IfNone result ((f : ℕ) → key_at self.now f ≢ Some key) }
+        ensures found { IfSome result (λ frame. key_at self.now frame ≡ Some key) }
+        ensures none { IfNone result ((frame : ℕ) → key_at self.now frame ≢ Some key) }
     {
         seek(&self.links, &self.keys, self.chains, key)
     }
 
     /// The frame holds the text page from now on.
-    pub fn add(&mut self, f: u32, key: TextKey)
-        requires above_zero { 0 < f }
-        requires below { f < length self.old }
-        requires free { key_at self.old f ≡ None }
-        ensures { self.new ≡ slice_set self.old f (Some key) }
+    pub fn add(&mut self, frame: u32, key: TextKey)
+        requires above_zero { 0 < frame }
+        requires below { frame < length self.old }
+        requires free { key_at self.old frame ≡ None }
+        ensures { self.new ≡ slice_set self.old frame (Some key) }
     {
         let start = self.keys.len() + bucket(self.chains, key);
         let first = self.links[start];
-        self.links[f as usize] = first;
-        self.links[start] = f;
-        self.keys[f as usize] = Some(key);
+        self.links[frame as usize] = first;
+        self.links[start] = frame;
+        self.keys[frame as usize] = Some(key);
     }
 
     /// The frame no longer holds the text page.
-    pub fn remove(&mut self, f: u32, key: TextKey)
-        requires { key_at self.old f ≡ Some key }
-        ensures { self.new ≡ slice_set self.old f None }
+    pub fn remove(&mut self, frame: u32, key: TextKey)
+        requires { key_at self.old frame ≡ Some key }
+        ensures { self.new ≡ slice_set self.old frame None }
     {
         let start = self.keys.len() + bucket(self.chains, key);
-        let at = before(&self.links, self.keys.len(), start, f);
-        let after = self.links[f as usize];
+        let at = before(&self.links, self.keys.len(), start, frame);
+        let after = self.links[frame as usize];
         self.links[at] = after;
-        self.keys[f as usize] = None;
+        self.keys[frame as usize] = None;
     }
 }
 
@@ -105,8 +105,8 @@ fn has_key(keys: &[Option<TextKey>], at: usize, key: TextKey) -> bool
 /// Looks for a text page along its chain.
 fn seek(links: &[u32], keys: &[Option<TextKey>], chains: usize, key: TextKey) -> Option<u32>
     requires { IsIndexed chains links.now keys.now }
-    ensures found { IfSome result (λ f. key_at keys.now f ≡ Some key) }
-    ensures none { IfNone result ((f : ℕ) → key_at keys.now f ≢ Some key) }
+    ensures found { IfSome result (λ frame. key_at keys.now frame ≡ Some key) }
+    ensures none { IfNone result ((frame : ℕ) → key_at keys.now frame ≢ Some key) }
 {
     let mut at = links[keys.len() + bucket(chains, key)];
     for _turn in 0..keys.len() {
@@ -121,16 +121,16 @@ fn seek(links: &[u32], keys: &[Option<TextKey>], chains: usize, key: TextKey) ->
     None
 }
 
-/// The place whose link leads to `f`, on the way from `start`.
-fn before(links: &[u32], frames: usize, start: usize, f: u32) -> usize
-    requires { IsOnWay links.now frames start f }
+/// The place whose link leads to `frame`, on the way from `start`.
+fn before(links: &[u32], frames: usize, start: usize, frame: u32) -> usize
+    requires { IsOnWay links.now frames start frame }
     ensures within { result < length links.now }
-    ensures before { IsBefore links.now start f result }
+    ensures before { IsBefore links.now start frame result }
 {
     let mut at = start;
     for _turn in 0..frames {
         let next = links[at];
-        if next == f {
+        if next == frame {
             return at;
         }
         at = next as usize;

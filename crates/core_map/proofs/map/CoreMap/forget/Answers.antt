@@ -4,12 +4,8 @@ use Rattle.core_map.specs.declared.slot.Slot.{Slot}
 use Rattle.core_map.specs.declared.slot.Slot.TheVariants.{Free}
 use Rattle.core_map.specs.Slots.{slot_at, is_free, number_of, token_of, IsWhole}
 use Rattle.core_map.specs.Frames.{Frames}
-use Rattle.core_map.proofs.OrderLemmas.{times-without_same}
 use Rattle.core_map.proofs.SlotLemmas.{sound_forget, text_change}
 use Rattle.core_map.proofs.map.CoreMap.forget.Goals as goal
-
-pub push_front-requires-clause-absent : goal.push_front-requires-clause-absent
-push_front-requires-clause-absent c = rw c.remove.ensures.frames (times-without_same c.args.frame c.self.inside.free.frames)
 
 pub invariant_of-self : goal.invariant_of-self
 invariant_of-self c =
@@ -21,7 +17,7 @@ invariant_of-self c =
     record {
       bound = grind (arith, common_steps);
       text = rw (c.leave.ensures, c.put.ensures, c.take_free-token.ensures.after, set-set) (text_change a.text a.slots.items f s c.self.invariant.text);
-      sound = rw (c.push_front.ensures.frames, c.remove.ensures.frames, c.put.ensures, c.take_free-token.ensures.after, set-set)
+      sound = rw (c.move_to_front.ensures.frames, c.put.ensures, c.take_free-token.ensures.after, set-set)
           (sound_forget a.free.frames a.slots.items f s c.self.invariant.sound frees number (subst IsWhole c.take_free-token.ensures.was (c.self.invariant.sound.whole f)) refl refl);
     }
 

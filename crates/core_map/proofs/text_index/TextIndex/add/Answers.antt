@@ -12,6 +12,6 @@ invariant_of-self c =
     let here : start ≡ length a.keys.items + bucket_of a.chains c.args.key = omega arith in
     let within : start < length a.links.items = omega (arith, c.self.invariant.links_length) in
     let first : c.index-first.result.now ≡ slice_index a.links.items start = get_or_read a.links.items start c.index-first.result.now within c.index-first.ensures 0 in
-    let low : c.args.f < length a.keys.items = subst (λ (k : List (Option TextKey)). c.args.f < length k) (sym c.self.view_is) c.requires.below in
-    let free : key_at a.keys.items c.args.f ≡ None = subst (λ (k : List (Option TextKey)). key_at k c.args.f ≡ None) (sym c.self.view_is) c.requires.free in
-    add_indexed a.chains a.links.items a.keys.items c.args.f c.index-first.result.now start c.args.key c.self.invariant c.requires.above_zero low free (omega arith) here first
+    let low : c.args.frame < length a.keys.items = subst (λ (k : List (Option TextKey)). c.args.frame < length k) (sym c.self.view_is) c.requires.below in
+    let free : key_at a.keys.items c.args.frame ≡ None = subst (λ (k : List (Option TextKey)). key_at k c.args.frame ≡ None) (sym c.self.view_is) c.requires.free in
+    add_indexed a.chains a.links.items a.keys.items c.args.frame c.index-first.result.now start c.args.key c.self.invariant c.requires.above_zero low free (omega arith) here first
