@@ -52,7 +52,7 @@ pub fn compute<M: Memory>(
         Name::Movb => move_to(regs, 1, b.place, a.value),
         Name::Movw => move_to(regs, 2, b.place, a.value),
         Name::Movl | Name::Movzbl | Name::Movab | Name::Moval => move_to(regs, 4, b.place, a.value),
-        Name::Cmpl => registers_only(with_codes(regs, compare(a.value, b.value))),
+        Name::Cmpl => registers_only(with_codes(regs, compare(a.value, b.value, 4))),
         Name::Clrb => move_to(regs, 1, a.place, 0),
         Name::Clrl => move_to(regs, 4, a.place, 0),
         Name::Tstl => registers_only(with_test_codes(regs, 4, a.value)),

@@ -16,6 +16,7 @@ mod registers;
 mod stepping;
 
 pub use laws::{first_refusal_decides, missing_bytes_only_stop};
+pub use reading::{read_byte, read_long};
 pub use refused::{Refused, SIGBUS, SIGFPE, SIGILL, SIGSEGV};
 pub use stepping::{Stepped, step};
 
