@@ -1,6 +1,6 @@
 -- Laws of images, which the contracts of the calls pass on.
 use Rattle.std.proofs.Common.{◌≡◌, ◌+◌, ◌-◌, ◌*◌, ◌/◌, ◌%◌, ◌^◌, ◌<◌, ◌≤◌, ◌==◌, ◌&&◌, ◌||◌, if◌then◌else◌, ℕ, Bool, true, false, not, nat_lt, min, List, ◌++◌, length, take, drop, replicate, get_or, Option, Some, None, Ok, IsTrue, refl, sym, ap, ◌∙◌, arith, subst, inl, inr}
-use Rattle.std.proofs.lemmas.List.{get_or-take, get_or-drop, get_or_append_left, get_or-append_right, get_or-replicate, same_lists, length-take, length-take-le, length-drop, length-append, length-replicate}
+use Rattle.std.proofs.lemmas.List.{get_or-take, get_or-drop, get_or_append_left, get_or-append_right, get_or-replicate, same_lists, length-take, length-take-le, drop-take, take-take, length-drop, length-append, length-replicate}
 use Rattle.std.proofs.lemmas.Bool.{cases_lt, eq-eqb, le-ltb, lt-ltb}
 use Rattle.std.proofs.lemmas.Bool.Decides.{nat_tests}
 use Rattle.aout_image.specs.declared.Kind.{Kind}
@@ -319,3 +319,55 @@ judgement-header_of image len sound whole =
     ap (λ (k : Option Kind). judged_kind k (header_of image) len) (kind_of-header_of image)
     ∙ ap (λ (i : Image). judged_facts i len) (facts_of-header_of image (fits_words image sound)) ∙ judged_facts-sound image len sound whole in
     ap (λ (b : Bool). if b then NotImage 1 else judged_kind (kind_of (word_at (header_of image) 0)) (header_of image) len) enough ∙ same
+
+-- a longer file with the same front is the same image, if it has the image's bytes
+judged_kind-longer : (kind : Option Kind) (head : List ℕ) (len m : ℕ) (image : Image) → judged_kind kind head len ≡ Is image → file_length_of image ≤ m → judged_kind kind head m ≡ Is image
+judged_kind-longer None head len m image e enough = cc
+judged_kind-longer (Some kind) head len m image e enough =
+    let facts = facts_of head kind in
+    let shown = subst (λ (j : Judged). IfImage j (λ i. (i ≡ facts) × IsSound i × (file_length_of i ≤ len))) e (judged_facts-is facts len) in
+    ap (λ (i : Image). judged_facts i m) (sym shown.0) ∙ judged_facts-sound image m shown.1 enough
+
+judgement-longer : (head : List ℕ) (len m : ℕ) (image : Image) → judgement head len ≡ Is image → 32 ≤ len → file_length_of image ≤ m → judgement head m ≡ Is image
+judgement-longer head len m image e long enough =
+    let behind = text_offset_at_least (is_paged image.kind) in
+    let known : judged_kind (kind_of (word_at head 0)) head len ≡ Is image = judgement-kind head len (kind_of (word_at head 0)) long refl ∙ e in
+    sym (judgement-kind head m (kind_of (word_at head 0)) (omega (arith, behind, enough)) refl)
+    ∙ judged_kind-longer (kind_of (word_at head 0)) head len m image known enough
+
+-- bytes of the front
+take-drop-take : (o g n : ℕ) (xs : List ℕ) → o + g ≤ n → take g (drop o (take n xs)) ≡ take g (drop o xs)
+take-drop-take o g n xs h =
+    let split : n ≡ o + (n - o) = omega arith in
+    ap (λ (k : ℕ). take g (drop o (take k xs))) split ∙ ap (take g) (drop-take o (n - o) xs) ∙ take-take g (n - o) (drop o xs) (omega arith)
+
+loaded-take : (image : Image) (bytes : List ℕ) (n : ℕ) → file_length_of image ≤ n → loaded image (take n bytes) ≡ loaded image bytes
+unfolding loaded
+loaded-take image bytes n enough =
+    let given = given_all (has_text_segment image.kind) image.text_len image.data_len in
+    let text : List ℕ → List ℕ → Loaded = λ t d. record { facts = image; text = in_pages (text_pages_of image) t; «data» = in_pages (data_pages_of image) d } in
+    ap (λ (t : List ℕ). text t (take (data_given image) (drop (text_offset image + text_given image) (take n bytes)))) (take-drop-take (text_offset image) (text_given image) n bytes (omega (arith, given, enough)))
+    ∙ ap (λ (d : List ℕ). text (take (text_given image) (drop (text_offset image) bytes)) d) (take-drop-take (text_offset image + text_given image) (data_given image) n bytes (omega (arith, given, enough)))
+
+loaded_if-Is : (j : Judged) (bytes : List ℕ) (image : Loaded) → loaded_if j bytes ≡ Ok image → j ≡ Is image.facts
+unfolding loaded
+loaded_if-Is (Is i) bytes image e =
+    let same : loaded i bytes ≡ image = cc in
+    ap (λ (m : Loaded). Is m.facts) same
+loaded_if-Is (NotImage reason) bytes image e = cc
+
+-- the front of an image's file, as far as its bytes go, is the same image
+pub image_of-take : (bytes : List ℕ) (n : ℕ) (image : Loaded) → image_of bytes ≡ Ok image → file_length_of image.facts ≤ n → image_of (take n bytes) ≡ Ok image
+unfolding image_of
+image_of-take bytes n image e enough =
+    let file = image_of-is bytes image e in
+    let i = image.facts in
+    let behind = text_offset_at_least (is_paged i.kind) in
+    let judged : judgement bytes (length bytes) ≡ Is i = loaded_if-Is (judgement bytes (length bytes)) bytes image e in
+    let long : file_length_of i ≤ length (take n bytes) = simp length-take (omega (arith, enough, file.whole)) in
+    let same : judgement (take n bytes) (length (take n bytes)) ≡ Is i =
+    sym (judgement-take (take n bytes) (length (take n bytes)))
+    ∙ ap (λ (xs : List ℕ). judgement xs (length (take n bytes))) (take-take 32 n bytes (omega (arith, behind, enough)))
+    ∙ judgement-take bytes (length (take n bytes))
+    ∙ judgement-longer bytes (length bytes) (length (take n bytes)) i judged (omega (arith, behind, file.whole)) long in
+    ap (λ (j : Judged). loaded_if j (take n bytes)) same ∙ ap (λ (m : Loaded). Ok m) (loaded-take i bytes n enough ∙ sym file.is)

@@ -206,6 +206,12 @@ FillsPage facts text v offset count =
     (bytes : List ℕ) (image : Loaded) → image_of bytes ≡ Ok image → image.facts ≡ facts
     → page_at v (segment_of text image) ≡ page_from bytes offset count
 
+-- the file of an image with these facts needs no more than so many bytes at its front
+abbrev pub NeedsNoMore : Image → ℕ → Type 0
+NeedsNoMore facts n =
+    (bytes : List ℕ) (image : Loaded) → image_of bytes ≡ Ok image → image.facts ≡ facts
+    → image_of (take n bytes) ≡ Ok image
+
 -- The header as it is written.
 
 -- a number as four bytes, the lowest first

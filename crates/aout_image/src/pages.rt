@@ -1,7 +1,7 @@
 // The segments of an image in pages, and the bytes of the file that fill them.
 
 ghost use Rattle.std.specs.Prelude.{◌≡◌, ◌+◌, ◌-◌, ◌*◌, ◌^◌, ◌<◌, ◌≤◌, ℕ, List, IsTrue, length, min, true, false};
-ghost use Rattle.aout_image.specs.Image.{FillsPage, HasPages, IsSound, data_given, data_pages_of, data_start_of, end_of, file_length_of, given_of, has_text_segment, image_of, is_paged, is_ragged, is_too_large, offset_of, page_at, page_from, pages_for, pages_of, segment_of, starts_outside, text_given, text_offset, text_pages_of};
+ghost use Rattle.aout_image.specs.Image.{FillsPage, HasPages, IsSound, NeedsNoMore, data_given, data_pages_of, data_start_of, end_of, file_length_of, given_of, has_text_segment, image_of, is_paged, is_ragged, is_too_large, offset_of, page_at, page_from, pages_for, pages_of, segment_of, starts_outside, text_given, text_offset, text_pages_of};
 
 use crate::{Image, Kind};
 
@@ -96,8 +96,11 @@ impl Image {
         self.text_page_count() > 2048 || self.data_page_count() > 4096
     }
 
-    pub(crate) fn file_length(&self) -> u64
-        ensures { result ≡ file_length_of self.now }
+    /// The bytes that the file must have: up to the end of its text and data. What follows them is
+    /// no part of the image.
+    pub fn file_length(&self) -> u64
+        ensures value { result ≡ file_length_of self.now }
+        ensures enough { NeedsNoMore self.now result }
     {
         self.text_offset() + u64::from(self.text_len) + u64::from(self.data_len)
     }

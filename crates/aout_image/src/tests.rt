@@ -100,6 +100,7 @@ fn a_written_header_is_read_back(rt: HostRuntime) {
         bss_len: 4000,
         entry: 0x102,
     };
+    assert_eq!(rt; image.file_length(), 32 + 1500 + 600);
     let mut head = [0xff; 32];
     write_image(&image, &mut head);
     assert_eq!(rt; head, header(SHARED, 1500, 600, 4000, 0x102));
