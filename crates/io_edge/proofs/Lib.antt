@@ -1,2 +1,4 @@
 pub mod NamedFiles
 pub mod FileRanges
+pub mod Pages
+pub mod Stripes

@@ -3,3 +3,4 @@ pub mod FileHolding
 pub mod SwapImage
 pub mod Written
 pub mod Told
+pub mod Striping
