@@ -2,3 +2,4 @@ pub mod NamedFiles
 pub mod FileRanges
 pub mod Pages
 pub mod Stripes
+pub mod StripeWrites

@@ -1,10 +1,10 @@
 -- The image of a pair of devices, block by block.
-use Rattle.std.proofs.Common.{◌≡◌, ◌≤◌, ◌<◌, ◌+◌, ◌-◌, ◌*◌, ◌/◌, ◌%◌, ◌⊎◌, inl, inr, ℕ, zero, suc, List, [], ◌++◌, length, take, drop, min, ap, subst, sym, refl, ◌∙◌, arith, length-append, append_assoc, add-one}
+use Rattle.std.proofs.Common.{◌≡◌, ◌≤◌, ◌<◌, ◌+◌, ◌-◌, ◌*◌, ◌/◌, ◌%◌, inl, inr, ℕ, zero, suc, List, ◌++◌, length, drop, ap, subst, sym, refl, ◌∙◌, arith, length-append, append_assoc, add-one}
 use Rattle.std.proofs.Math.Nat.{le_refl, eq-or-lt_of_le}
-use Rattle.std.proofs.lemmas.List.{length-take-le, length-drop, drop-drop}
-use Rattle.io_edge.specs.SwapImage.{page_at, put_page}
-use Rattle.io_edge.specs.Striping.{device_of, place_of, of_device, zero_needs, one_needs, pair_blocks, MeetsNeeds, IsLargestSwap, block_at, first_blocks}
-use Rattle.io_edge.proofs.Pages.{part-append, page_blocks, page_at_last, put_page-append, put_page_last, page_at-put_page_same, block_at-put_page_other}
+use Rattle.std.proofs.lemmas.List.{length-take-le, length-drop}
+use Rattle.io_edge.specs.SwapImage.{page_at}
+use Rattle.io_edge.specs.Striping.{device_of, place_of, of_device, zero_needs, one_needs, pair_blocks, IsLargestSwap, block_at, first_blocks}
+use Rattle.io_edge.proofs.Pages.{part-append, page_blocks, page_at_last}
 
 -- the two blocks of a page lie side by side on one device
 pub device_of-next : (block : ℕ) → block % 2 ≡ 0 → device_of (suc block) ≡ device_of block
@@ -100,17 +100,17 @@ pair_page block evens odds even =
     ∙ sym (page_blocks image (place_of block))
 
 -- the last page of a pair
-last_page : (block : ℕ) (evens odds : List ℕ) → block % 2 ≡ 0 → first_blocks (suc (suc block)) evens odds ≡ first_blocks block evens odds ++ page_at (of_device (device_of block) evens odds) (place_of block)
+pub last_page : (block : ℕ) (evens odds : List ℕ) → block % 2 ≡ 0 → first_blocks (suc (suc block)) evens odds ≡ first_blocks block evens odds ++ page_at (of_device (device_of block) evens odds) (place_of block)
 unfolding first_blocks
 last_page block evens odds even =
     append_assoc (first_blocks block evens odds) (pair_block block evens odds) (pair_block (suc block) evens odds)
     ∙ ap (λ (page : List ℕ). first_blocks block evens odds ++ page) (pair_page block evens odds even)
 
-length-last_page : (block : ℕ) (evens odds : List ℕ) → block % 2 ≡ 0 → HasBlocks (suc (suc block)) evens odds → length (page_at (of_device (device_of block) evens odds) (place_of block)) ≡ 1024
+pub length-last_page : (block : ℕ) (evens odds : List ℕ) → block % 2 ≡ 0 → HasBlocks (suc (suc block)) evens odds → length (page_at (of_device (device_of block) evens odds) (place_of block)) ≡ 1024
 length-last_page block evens odds even has =
     omega (arith, ap length (pair_page block evens odds even), length-append (pair_block block evens odds) (pair_block (suc block) evens odds), length-pair_block (suc (suc block)) block evens odds has, length-pair_block (suc (suc block)) (suc block) evens odds has)
 
-fewer : (blocks last : ℕ) (evens odds : List ℕ) → last ≤ blocks → HasBlocks blocks evens odds → HasBlocks last evens odds
+pub fewer : (blocks last : ℕ) (evens odds : List ℕ) → last ≤ blocks → HasBlocks blocks evens odds → HasBlocks last evens odds
 fewer blocks last evens odds below has device block on within = has device block on (omega arith)
 
 -- the page of a pair is the page of its device

@@ -4,6 +4,7 @@
 #![tactic(auto)]
 
 mod count;
+mod failures;
 pub mod dir_files;
 pub mod files;
 pub mod mem_files;
