@@ -4,7 +4,8 @@ use Rattle.std.proofs.Math.Nat.{eq-or-lt_of_le}
 use Rattle.io_edge.specs.SwapImage.{page_at, put_page, HoldsPage, WritesPage}
 use Rattle.io_edge.specs.Striping.{device_of, place_of, of_device, block_at, first_blocks, pair_image}
 use Rattle.io_edge.proofs.Pages.{put_page-append, put_page_last, page_at-put_page_same, block_at-put_page_other}
-use Rattle.io_edge.proofs.Stripes.{HasBlocks, fewer, last_page, length-last_page, length-first_blocks, page_of_pair, place_of-rises, place_of-next, device_of-next}
+use Rattle.io_edge.specs.StripeSizes.{HasBlocks, TellBlocks, length-first_blocks}
+use Rattle.io_edge.proofs.Stripes.{fewer, last_page, length-last_page, page_of_pair, place_of-rises, place_of-next, device_of-next}
 
 -- the blocks other than those of a page are the same on each device
 abbrev OthersSame : ℕ → ℕ → List ℕ → List ℕ → List ℕ → List ℕ → Type 0
@@ -82,10 +83,6 @@ put_odd blocks block unit bytes evens odds even within has whole on =
         (others_odd blocks block unit bytes evens odds even on inside whole)
         (ap (λ (device : ℕ). page_at (of_device device evens (put_page odds (place_of block) bytes)) (place_of block)) on
          ∙ page_at-put_page_same (place_of block) bytes odds inside whole)
-
--- told images have each block of the pair
-abbrev pub TellBlocks : ℕ → Option (List ℕ) → Option (List ℕ) → Type 0
-TellBlocks blocks evens odds = (even_bytes odd_bytes : List ℕ) → evens ≡ Some even_bytes → odds ≡ Some odd_bytes → HasBlocks blocks even_bytes odd_bytes
 
 -- a page that was read from a pair
 pub holds_even : (blocks block : ℕ) (evens odds : Option (List ℕ)) (bytes : List ℕ) → block % 2 ≡ 0 → suc (suc block) ≤ blocks → TellBlocks blocks evens odds → device_of block ≡ 0 → HoldsPage evens (place_of block) bytes → HoldsPage (pair_image blocks evens odds) block bytes

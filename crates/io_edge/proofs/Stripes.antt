@@ -4,6 +4,7 @@ use Rattle.std.proofs.Math.Nat.{le_refl, eq-or-lt_of_le}
 use Rattle.std.proofs.lemmas.List.{length-take-le, length-drop}
 use Rattle.io_edge.specs.SwapImage.{page_at}
 use Rattle.io_edge.specs.Striping.{device_of, place_of, of_device, zero_needs, one_needs, pair_blocks, IsLargestSwap, block_at, first_blocks}
+use Rattle.io_edge.specs.StripeSizes.{HasBlocks, pair_block, length-pair_block, length-first_blocks}
 use Rattle.io_edge.proofs.Pages.{part-append, page_blocks, page_at_last}
 
 -- the two blocks of a page lie side by side on one device
@@ -24,15 +25,6 @@ place_of-rises a b before same = omega arith
 pub place_of-even : (block : ℕ) → block % 2 ≡ 0 → place_of block % 2 ≡ 0
 unfolding place_of
 place_of-even block even = omega arith
-
--- each block of the pair is within its device
-pub zero_has : (block even_size odd_size : ℕ) → block < pair_blocks even_size odd_size → device_of block ≡ 0 → place_of block < even_size
-unfolding pair_blocks device_of place_of
-zero_has block even_size odd_size within even = omega arith
-
-pub one_has : (block even_size odd_size other : ℕ) → block < pair_blocks even_size odd_size → device_of block ≡ suc other → place_of block < odd_size
-unfolding pair_blocks device_of place_of
-one_has block even_size odd_size other within odd = omega arith
 
 -- the number of blocks is the largest whose needs are met
 zero_met : (device blocks even_size odd_size : ℕ) → device_of blocks ≡ device → blocks ≤ pair_blocks even_size odd_size → (blocks / 1024 - blocks / 1024 / 2) * 1024 + of_device device (blocks % 1024) 0 ≤ even_size
@@ -61,34 +53,6 @@ largest_swap even_size odd_size =
     (most even_size odd_size,
      (zero_met (device_of blocks) blocks even_size odd_size refl (le_refl blocks), one_met (device_of blocks) blocks even_size odd_size refl (le_refl blocks)),
      λ more bounded needs. within_pair (device_of more) more even_size odd_size refl bounded needs.0 needs.1)
-
--- each block of the pair is within its device's image
-abbrev pub HasBlocks : ℕ → List ℕ → List ℕ → Type 0
-HasBlocks blocks evens odds = (device block : ℕ) → device_of block ≡ device → block < blocks → 512 * place_of block + 512 ≤ length (of_device device evens odds)
-
-pub has_blocks : (even_size odd_size : ℕ) (evens odds : List ℕ) → length evens ≡ 512 * even_size → length odds ≡ 512 * odd_size → HasBlocks (pair_blocks even_size odd_size) evens odds
-has_blocks even_size odd_size evens odds even_long odd_long zero block on within = omega (arith, zero_has block even_size odd_size within on)
-has_blocks even_size odd_size evens odds even_long odd_long (suc other) block on within = omega (arith, one_has block even_size odd_size other within on)
-
--- a block as the pair has it
-abbrev pair_block : ℕ → List ℕ → List ℕ → List ℕ
-pair_block block evens odds = block_at (of_device (device_of block) evens odds) (place_of block)
-
-length-block_at : (image : List ℕ) (block : ℕ) → 512 * block + 512 ≤ length image → length (block_at image block) ≡ 512
-unfolding block_at
-length-block_at image block within = length-take-le 512 (drop (512 * block) image) (omega (arith, length-drop (512 * block) image))
-
-length-pair_block : (blocks block : ℕ) (evens odds : List ℕ) → HasBlocks blocks evens odds → block < blocks → length (pair_block block evens odds) ≡ 512
-length-pair_block blocks block evens odds has within = length-block_at (of_device (device_of block) evens odds) (place_of block) (has (device_of block) block refl within)
-
--- the length of a pair's image
-pub length-first_blocks : (blocks : ℕ) (evens odds : List ℕ) → HasBlocks blocks evens odds → length (first_blocks blocks evens odds) ≡ 512 * blocks
-unfolding first_blocks
-length-first_blocks zero evens odds has = refl
-length-first_blocks (suc block) evens odds has =
-    let before = length-first_blocks block evens odds (λ device lower on below. has device lower on (omega arith)) in
-    let last = length-pair_block (suc block) block evens odds has (omega arith) in
-    omega (arith, length-append (first_blocks block evens odds) (pair_block block evens odds), before, last)
 
 -- the two blocks of a page are a page of its device
 pair_page : (block : ℕ) (evens odds : List ℕ) → block % 2 ≡ 0 → pair_block block evens odds ++ pair_block (suc block) evens odds ≡ page_at (of_device (device_of block) evens odds) (place_of block)

@@ -2,5 +2,8 @@ pub mod Count
 pub mod FileHolding
 pub mod SwapImage
 pub mod Written
-pub mod Told
 pub mod Striping
+pub mod PairFailures
+pub mod Told
+pub mod PairLeads
+pub mod StripeSizes

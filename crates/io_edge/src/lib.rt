@@ -13,6 +13,7 @@ pub mod mem_swap;
 pub mod out_sink;
 pub mod sink;
 pub mod swap_dev;
+pub mod swap_pair;
 
 pub use dir_files::DirFiles;
 pub use files::Files;
@@ -22,6 +23,7 @@ pub use mem_swap::SureSwap;
 pub use out_sink::OutSink;
 pub use sink::Sink;
 pub use swap_dev::SwapDev;
+pub use swap_pair::SwapPair;
 
 /// What `Files::find` answers for a name.
 #[derive(Clone, Copy, PartialEq, Eq, Debug)]
