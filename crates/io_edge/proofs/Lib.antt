@@ -3,3 +3,4 @@ pub mod FileRanges
 pub mod Pages
 pub mod Stripes
 pub mod StripeWrites
+pub mod PairCalls

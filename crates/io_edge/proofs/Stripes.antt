@@ -1,7 +1,6 @@
 -- The image of a pair of devices, block by block.
-use Rattle.std.proofs.Common.{◌≡◌, ◌≤◌, ◌<◌, ◌+◌, ◌-◌, ◌*◌, ◌/◌, ◌%◌, inl, inr, ℕ, zero, suc, List, ◌++◌, length, drop, ap, subst, sym, refl, ◌∙◌, arith, length-append, append_assoc, add-one}
+use Rattle.std.proofs.Common.{◌≡◌, ◌≤◌, ◌<◌, ◌+◌, ◌-◌, ◌*◌, ◌/◌, ◌%◌, inl, inr, ℕ, zero, suc, List, ◌++◌, length, ap, subst, sym, refl, ◌∙◌, arith, length-append, append_assoc, add-one}
 use Rattle.std.proofs.Math.Nat.{le_refl, eq-or-lt_of_le}
-use Rattle.std.proofs.lemmas.List.{length-take-le, length-drop}
 use Rattle.io_edge.specs.SwapImage.{page_at}
 use Rattle.io_edge.specs.Striping.{device_of, place_of, of_device, zero_needs, one_needs, pair_blocks, IsLargestSwap, block_at, first_blocks}
 use Rattle.io_edge.specs.StripeSizes.{HasBlocks, pair_block, length-pair_block, length-first_blocks}
@@ -49,10 +48,11 @@ most even_size odd_size = omega arith
 pub largest_swap : (even_size odd_size : ℕ) → IsLargestSwap even_size odd_size (pair_blocks even_size odd_size)
 unfolding zero_needs one_needs
 largest_swap even_size odd_size =
-    let blocks = pair_blocks even_size odd_size in
-    (most even_size odd_size,
-     (zero_met (device_of blocks) blocks even_size odd_size refl (le_refl blocks), one_met (device_of blocks) blocks even_size odd_size refl (le_refl blocks)),
-     λ more bounded needs. within_pair (device_of more) more even_size odd_size refl bounded needs.0 needs.1)
+    let blocks = pair_blocks even_size odd_size in (
+      most even_size odd_size,
+      (zero_met (device_of blocks) blocks even_size odd_size refl (le_refl blocks), one_met (device_of blocks) blocks even_size odd_size refl (le_refl blocks)),
+      λ more bounded needs. within_pair (device_of more) more even_size odd_size refl bounded needs.0 needs.1,
+    )
 
 -- the two blocks of a page are a page of its device
 pair_page : (block : ℕ) (evens odds : List ℕ) → block % 2 ≡ 0 → pair_block block evens odds ++ pair_block (suc block) evens odds ≡ page_at (of_device (device_of block) evens odds) (place_of block)
@@ -89,9 +89,10 @@ unfolding first_blocks page_at
 page_of_pair zero block evens odds even within has = absurd (omega arith)
 page_of_pair (suc last) block evens odds even within has =
     elim (eq-or-lt_of_le within) [
-      inl ends ↦ subst (λ (blocks : ℕ). page_at (first_blocks blocks evens odds) block ≡ page_at (of_device (device_of block) evens odds) (place_of block)) ends
+      | inl ends ↦ subst (λ (blocks : ℕ). page_at (first_blocks blocks evens odds) block ≡ page_at (of_device (device_of block) evens odds) (place_of block)) ends
           (page_of_last block evens odds even (fewer (suc last) (suc (suc block)) evens odds within has))
-    | inr below ↦
-        let has_front = fewer (suc last) last evens odds (omega arith) has in
-        part-append (512 * block) 1024 (first_blocks last evens odds) (pair_block last evens odds) (omega (arith, length-first_blocks last evens odds has_front))
-        ∙ page_of_pair last block evens odds even (omega arith) has_front ]
+      | inr below ↦
+          let has_front = fewer (suc last) last evens odds (omega arith) has in
+          part-append (512 * block) 1024 (first_blocks last evens odds) (pair_block last evens odds) (omega (arith, length-first_blocks last evens odds has_front))
+          ∙ page_of_pair last block evens odds even (omega arith) has_front
+    ]

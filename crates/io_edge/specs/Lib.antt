@@ -7,3 +7,4 @@ pub mod PairFailures
 pub mod Told
 pub mod PairLeads
 pub mod StripeSizes
+pub mod FailedDevice

@@ -1,6 +1,6 @@
 -- Why the relation of a pair of devices is one of a device.
-use Rattle.std.proofs.Common.{◌≡◌, ◌≤◌, ◌<◌, ◌⊎◌, ℕ, zero, suc, List, length, ◌*◌, Option, Some, None}
-use Rattle.std.proofs.Common.{inl, inr, arith, le_refl, le_trans, refl, subst, sym, ap, ◌∙◌}
+use Rattle.std.proofs.Common.{◌≤◌, ℕ, zero, suc, Option}
+use Rattle.std.proofs.Common.{inl, inr, arith, le_refl, le_trans, sym}
 use Rattle.std.proofs.Math.Nat.{eq-or-lt_of_le}
 use Rattle.io_edge.specs.Count.{Rose}
 use Rattle.io_edge.specs.Striping.{of_device}
@@ -30,9 +30,11 @@ pub adds_through : (count_a count_b count_c : ℕ) (last_a last_b last_c : Optio
 adds_through count_a count_b count_c last_a last_b last_c zero_a zero_b zero_c one_a one_b one_c zero_first zero_then one_first one_then first then = record {
   grows = le_trans first.grows then.grows;
   named = λ device named.
-    elim (then.named device named) [
-      inl before ↦ elim (first.named device before) [
-          inl at_first ↦ inl at_first
-        | inr rose ↦ inr (rose_then (of_device device zero_a one_a) (of_device device zero_b one_b) (of_device device zero_c one_c) rose (each_grows device zero_b zero_c one_b one_c zero_then one_then)) ]
-    | inr rose ↦ inr (then_rose (of_device device zero_a one_a) (of_device device zero_b one_b) (of_device device zero_c one_c) (each_grows device zero_a zero_b one_a one_b zero_first one_first) rose) ]
+      elim (then.named device named) [
+        | inl before ↦ elim (first.named device before) [
+          | inl at_first ↦ inl at_first
+          | inr rose ↦ inr (rose_then (of_device device zero_a one_a) (of_device device zero_b one_b) (of_device device zero_c one_c) rose (each_grows device zero_b zero_c one_b one_c zero_then one_then))
+        ]
+        | inr rose ↦ inr (then_rose (of_device device zero_a one_a) (of_device device zero_b one_b) (of_device device zero_c one_c) (each_grows device zero_a zero_b one_a one_b zero_first one_first) rose)
+      ];
 }

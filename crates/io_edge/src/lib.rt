@@ -4,8 +4,8 @@
 #![tactic(auto)]
 
 mod count;
-mod failures;
 pub mod dir_files;
+mod failures;
 pub mod files;
 pub mod mem_files;
 pub mod mem_sink;

@@ -1,6 +1,8 @@
 // Two swap devices as one.
 ghost use Rattle.std.specs.Prelude.{◌≡◌, ◌+◌, ◌%◌, ◌≤◌, ◌<◌, ◌↔◌, IsTrue, IsNone, None, refl};
 ghost use Rattle.std.proofs.Common.{sym, ◌∙◌, ap};
+ghost use Rattle.io_edge.specs.Count.{Counts, OnDone, OnFailed};
+ghost use Rattle.io_edge.specs.SwapImage.{HoldsPage, WritesPage, SpoilsPage};
 ghost use Rattle.io_edge.specs.Striping.{device_of, place_of, pair_blocks, pair_image, IsLargestSwap};
 ghost use Rattle.io_edge.specs.PairFailures.{AddsFailures};
 ghost use Rattle.io_edge.specs.PairLeads.{adds_nothing, adds_through};
@@ -9,12 +11,12 @@ ghost use Rattle.io_edge.specs.StripeSizes.{tell_blocks, pair_whole};
 use crate::failures::Failures;
 use crate::{Moved, SwapDev};
 
-// Whether a block lies on device 0.
+// The device of a block.
 #[tactic(auto, unfolding(crate::specs::Striping::device_of))]
-fn is_on_zero(block: u32) -> bool
-    ensures { IsTrue result ↔ (device_of block ≡ 0) }
+fn device_number(block: u32) -> u32
+    ensures { result ≡ device_of block }
 {
-    block / 1024 % 2 == 0
+    block / 1024 % 2
 }
 
 // Its block there.
@@ -43,8 +45,11 @@ fn striped_blocks(zero: u32, one: u32) -> u32
 /// It counts its own failed calls. That calls lead from one state of the pair to a later one says of each
 /// device that calls led from its earlier state to its later one.
 pub struct SwapPair<'a, D, E> {
-    zero: &'a mut D,
-    one: &'a mut E,
+    /// Device 0.
+    pub zero: &'a mut D,
+
+    /// Device 1.
+    pub one: &'a mut E,
     reads: Failures,
     writes: Failures,
 }
@@ -58,6 +63,8 @@ impl<'a, D: SwapDev, E: SwapDev> SwapPair<'a, D, E> {
         ensures one { result.one.now ≡ one.old }
         ensures read_faults { ⟦<SwapPair<'a, D, E> as SwapDev>⟧.read_faults result ≡ 0 }
         ensures write_faults { ⟦<SwapPair<'a, D, E> as SwapDev>⟧.write_faults result ≡ 0 }
+        ensures blocks { IsLargestSwap (D.blocks zero.old) (E.blocks one.old)
+            (⟦<SwapPair<'a, D, E> as SwapDev>⟧.blocks result) }
     {
         SwapPair {
             zero,
@@ -68,7 +75,29 @@ impl<'a, D: SwapDev, E: SwapDev> SwapPair<'a, D, E> {
     }
 }
 
-impl<D: SwapDev, E: SwapDev> SwapDev for SwapPair<'_, D, E> {
+impl<'a, D: SwapDev, E: SwapDev> SwapPair<'a, D, E> {
+    ghost use Rattle.io_edge.specs.FailedDevice.{failed_read_of, failed_write_of};
+
+    /// The device of the last failed `read`: 0 or 1. Its own count of failed reads rose since the pair
+    /// was made.
+    pub fn failed_read(&self) -> Option<u32>
+        ensures none { IsNone result ↔ (⟦<SwapPair<'a, D, E> as SwapDev>⟧.read_faults self.now ≡ 0) }
+        ensures device { result ≡ failed_read_of self.now }
+    {
+        self.reads.last
+    }
+
+    /// The device of the last failed `write`: 0 or 1. Its own count of failed writes rose since the
+    /// pair was made.
+    pub fn failed_write(&self) -> Option<u32>
+        ensures none { IsNone result ↔ (⟦<SwapPair<'a, D, E> as SwapDev>⟧.write_faults self.now ≡ 0) }
+        ensures device { result ≡ failed_write_of self.now }
+    {
+        self.writes.last
+    }
+}
+
+impl<'a, D: SwapDev, E: SwapDev> SwapDev for SwapPair<'a, D, E> {
     ghost image = { λ p. pair_image (pair_blocks (D.blocks p.zero.now) (E.blocks p.one.now)) (D.image p.zero.now) (E.image p.one.now) };
 
     ghost blocks = { λ p. pair_blocks (D.blocks p.zero.now) (E.blocks p.one.now) };
@@ -86,9 +115,22 @@ impl<D: SwapDev, E: SwapDev> SwapDev for SwapPair<'_, D, E> {
         striped_blocks(self.zero.blocks(), self.one.blocks())
     }
 
-    fn read(&mut self, block: u32, buf: &mut [u8; 1024]) -> Moved {
+    fn read(&mut self, block: u32, buf: &mut [u8; 1024]) -> Moved
+        requires even { block % 2 ≡ 0 }
+        requires inside { block + 2 ≤ ⟦<SwapPair<'a, D, E> as SwapDev>⟧.blocks self.old }
+        ensures leads { ⟦<SwapPair<'a, D, E> as SwapDev>⟧.leads self.old self.new }
+        ensures blocks { ⟦<SwapPair<'a, D, E> as SwapDev>⟧.blocks self.new ≡ ⟦<SwapPair<'a, D, E> as SwapDev>⟧.blocks self.old }
+        ensures image { ⟦<SwapPair<'a, D, E> as SwapDev>⟧.image self.new ≡ ⟦<SwapPair<'a, D, E> as SwapDev>⟧.image self.old }
+        ensures done { OnDone result (HoldsPage (⟦<SwapPair<'a, D, E> as SwapDev>⟧.image self.old) block buf.new) }
+        ensures read_faults { Counts result (⟦<SwapPair<'a, D, E> as SwapDev>⟧.read_faults self.old) (⟦<SwapPair<'a, D, E> as SwapDev>⟧.read_faults self.new) }
+        ensures write_faults { ⟦<SwapPair<'a, D, E> as SwapDev>⟧.write_faults self.new ≡ ⟦<SwapPair<'a, D, E> as SwapDev>⟧.write_faults self.old }
+
+        // No block of either device changes.
+        ensures zero_image { D.image self.new.zero.now ≡ D.image self.old.zero.now }
+        ensures one_image { E.image self.new.one.now ≡ E.image self.old.one.now }
+    {
         let place = place_on_device(block);
-        if is_on_zero(block) {
+        if device_number(block) == 0 {
             let moved = self.zero.read(place, buf);
             self.reads.note(moved, 0);
             moved
@@ -99,9 +141,26 @@ impl<D: SwapDev, E: SwapDev> SwapDev for SwapPair<'_, D, E> {
         }
     }
 
-    fn write(&mut self, block: u32, bytes: &[u8; 1024]) -> Moved {
+    fn write(&mut self, block: u32, bytes: &[u8; 1024]) -> Moved
+        requires even { block % 2 ≡ 0 }
+        requires inside { block + 2 ≤ ⟦<SwapPair<'a, D, E> as SwapDev>⟧.blocks self.old }
+        ensures leads { ⟦<SwapPair<'a, D, E> as SwapDev>⟧.leads self.old self.new }
+        ensures blocks { ⟦<SwapPair<'a, D, E> as SwapDev>⟧.blocks self.new ≡ ⟦<SwapPair<'a, D, E> as SwapDev>⟧.blocks self.old }
+        ensures done { OnDone result (WritesPage (⟦<SwapPair<'a, D, E> as SwapDev>⟧.image self.old) block bytes.now (⟦<SwapPair<'a, D, E> as SwapDev>⟧.image self.new)) }
+        ensures failed { OnFailed result (SpoilsPage (⟦<SwapPair<'a, D, E> as SwapDev>⟧.image self.old) block (⟦<SwapPair<'a, D, E> as SwapDev>⟧.image self.new)) }
+        ensures read_faults { ⟦<SwapPair<'a, D, E> as SwapDev>⟧.read_faults self.new ≡ ⟦<SwapPair<'a, D, E> as SwapDev>⟧.read_faults self.old }
+        ensures write_faults { Counts result (⟦<SwapPair<'a, D, E> as SwapDev>⟧.write_faults self.old) (⟦<SwapPair<'a, D, E> as SwapDev>⟧.write_faults self.new) }
+
+        // On the block's device the two blocks at its place are written, and on the other none.
+        ensures zero_done { device_of block ≡ 0 → OnDone result (WritesPage (D.image self.old.zero.now) (place_of block) bytes.now (D.image self.new.zero.now)) }
+        ensures zero_failed { device_of block ≡ 0 → OnFailed result (SpoilsPage (D.image self.old.zero.now) (place_of block) (D.image self.new.zero.now)) }
+        ensures zero_stays { device_of block ≡ 1 → self.new.zero.now ≡ self.old.zero.now }
+        ensures one_done { device_of block ≡ 1 → OnDone result (WritesPage (E.image self.old.one.now) (place_of block) bytes.now (E.image self.new.one.now)) }
+        ensures one_failed { device_of block ≡ 1 → OnFailed result (SpoilsPage (E.image self.old.one.now) (place_of block) (E.image self.new.one.now)) }
+        ensures one_stays { device_of block ≡ 0 → self.new.one.now ≡ self.old.one.now }
+    {
         let place = place_on_device(block);
-        if is_on_zero(block) {
+        if device_number(block) == 0 {
             let moved = self.zero.write(place, bytes);
             self.writes.note(moved, 0);
             moved
@@ -114,18 +173,27 @@ impl<D: SwapDev, E: SwapDev> SwapDev for SwapPair<'_, D, E> {
 
     ghost whole = { λ p bytes told. pair_whole (pair_blocks (D.blocks p.zero.now) (E.blocks p.one.now)) (D.image p.zero.now) (E.image p.one.now) bytes (tell_blocks (D.blocks p.zero.now) (E.blocks p.one.now) (D.image p.zero.now) (E.image p.one.now) (D.whole p.zero.now) (E.whole p.one.now)) told };
 
-    ghost leads_nowhere = { λ p. (refl, refl, D.leads_nowhere p.zero.now, E.leads_nowhere p.one.now,
-        adds_nothing p.reads.count p.reads.last (D.read_faults p.zero.now) (E.read_faults p.one.now),
-        adds_nothing p.writes.count p.writes.last (D.write_faults p.zero.now) (E.write_faults p.one.now)) };
+    ghost leads_nowhere = { λ p. (
+      refl,
+      refl,
+      D.leads_nowhere p.zero.now,
+      E.leads_nowhere p.one.now,
+      adds_nothing p.reads.count p.reads.last (D.read_faults p.zero.now) (E.read_faults p.one.now),
+      adds_nothing p.writes.count p.writes.last (D.write_faults p.zero.now) (E.write_faults p.one.now),
+    ) };
 
-    ghost leads_through = { λ p q r first then. (first.0 ∙ then.0, first.1 ∙ then.1,
-        D.leads_through p.zero.now q.zero.now r.zero.now first.2 then.2, E.leads_through p.one.now q.one.now r.one.now first.3 then.3,
-        adds_through p.reads.count q.reads.count r.reads.count p.reads.last q.reads.last r.reads.last
-            (D.read_faults p.zero.now) (D.read_faults q.zero.now) (D.read_faults r.zero.now) (E.read_faults p.one.now) (E.read_faults q.one.now) (E.read_faults r.one.now)
-            (D.reads_grow p.zero.now q.zero.now first.2) (D.reads_grow q.zero.now r.zero.now then.2) (E.reads_grow p.one.now q.one.now first.3) (E.reads_grow q.one.now r.one.now then.3) first.4 then.4,
-        adds_through p.writes.count q.writes.count r.writes.count p.writes.last q.writes.last r.writes.last
-            (D.write_faults p.zero.now) (D.write_faults q.zero.now) (D.write_faults r.zero.now) (E.write_faults p.one.now) (E.write_faults q.one.now) (E.write_faults r.one.now)
-            (D.writes_grow p.zero.now q.zero.now first.2) (D.writes_grow q.zero.now r.zero.now then.2) (E.writes_grow p.one.now q.one.now first.3) (E.writes_grow q.one.now r.one.now then.3) first.5 then.5) };
+    ghost leads_through = { λ p q r first then. (
+      first.0 ∙ then.0,
+      first.1 ∙ then.1,
+      D.leads_through p.zero.now q.zero.now r.zero.now first.2 then.2,
+      E.leads_through p.one.now q.one.now r.one.now first.3 then.3,
+      adds_through p.reads.count q.reads.count r.reads.count p.reads.last q.reads.last r.reads.last
+          (D.read_faults p.zero.now) (D.read_faults q.zero.now) (D.read_faults r.zero.now) (E.read_faults p.one.now) (E.read_faults q.one.now) (E.read_faults r.one.now)
+          (D.reads_grow p.zero.now q.zero.now first.2) (D.reads_grow q.zero.now r.zero.now then.2) (E.reads_grow p.one.now q.one.now first.3) (E.reads_grow q.one.now r.one.now then.3) first.4 then.4,
+      adds_through p.writes.count q.writes.count r.writes.count p.writes.last q.writes.last r.writes.last
+          (D.write_faults p.zero.now) (D.write_faults q.zero.now) (D.write_faults r.zero.now) (E.write_faults p.one.now) (E.write_faults q.one.now) (E.write_faults r.one.now)
+          (D.writes_grow p.zero.now q.zero.now first.2) (D.writes_grow q.zero.now r.zero.now then.2) (E.writes_grow p.one.now q.one.now first.3) (E.writes_grow q.one.now r.one.now then.3) first.5 then.5,
+    ) };
 
     ghost blocks_stay = { λ p q led. ap (λ size. pair_blocks size (E.blocks q.one.now)) (D.blocks_stay p.zero.now q.zero.now led.2) ∙ ap (λ size. pair_blocks (D.blocks p.zero.now) size) (E.blocks_stay p.one.now q.one.now led.3) };
 

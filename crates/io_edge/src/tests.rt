@@ -2,18 +2,16 @@
 // and what the adapters do over a real folder and over a runtime that gives up.
 ghost use Rattle.std.specs.Prelude.{◌≡◌, IfOk, vec_len};
 
-use std::alloc::{AllocError, Global};
-use std::cell::Cell;
-use std::fmt::Display;
-use std::fs;
-use std::io;
-use std::io::ErrorKind;
-use std::test::Fail;
-
 use crate::{
     DirFiles, Files, Found, MemFiles, MemSink, Moved, OutSink, Sink, SureFiles, SureSink, SureSwap,
     SwapDev,
 };
+use std::alloc::{AllocError, Global};
+use std::cell::Cell;
+use std::fmt::Display;
+use std::io::ErrorKind;
+use std::test::Fail;
+use std::{fs, io};
 
 // Two files, of two bytes and of none.
 fn two_files(alloc: Global) -> Result<Vec<(String, Vec<u8>)>, AllocError>
