@@ -108,3 +108,17 @@ pub block_at-put_page_other : (block other : ℕ) (bytes image : List ℕ) → (
 unfolding block_at put_page
 block_at-put_page_other block other bytes image (inl before) within whole = part-put_part_before (512 * block) 1024 (512 * other) 512 bytes image (omega arith) (omega arith)
 block_at-put_page_other block other bytes image (inr behind) within whole = part-put_part_behind (512 * block) 1024 (512 * other) 512 bytes image (omega arith) (omega arith) whole
+
+-- a page that is written as it stands
+pub put_page-page_at : (image : List ℕ) (block : ℕ) → put_page image block (page_at image block) ≡ image
+unfolding page_at put_page
+put_page-page_at image block =
+    append_assoc (take (512 * block) image) (take 1024 (drop (512 * block) image)) (drop (512 * block + 1024) image)
+    ∙ ap (λ (back : List ℕ). take (512 * block) image ++ (take 1024 (drop (512 * block) image) ++ back)) (sym (drop-drop 1024 (512 * block) image))
+    ∙ ap (λ (back : List ℕ). take (512 * block) image ++ back) (take-append-drop 1024 (drop (512 * block) image))
+    ∙ take-append-drop (512 * block) image
+
+-- the length of a page
+pub length-page_at : (image : List ℕ) (block : ℕ) → 512 * block + 1024 ≤ length image → length (page_at image block) ≡ 1024
+unfolding page_at
+length-page_at image block within = length-take-le 1024 (drop (512 * block) image) (omega (arith, length-drop (512 * block) image))

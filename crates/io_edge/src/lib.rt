@@ -6,6 +6,7 @@
 mod count;
 pub mod dir_files;
 mod failures;
+pub mod file_swap;
 pub mod files;
 pub mod mem_files;
 pub mod mem_sink;
@@ -16,10 +17,11 @@ pub mod swap_dev;
 pub mod swap_pair;
 
 pub use dir_files::DirFiles;
+pub use file_swap::FileSwap;
 pub use files::Files;
 pub use mem_files::{MemFiles, SureFiles};
 pub use mem_sink::{MemSink, SureSink};
-pub use mem_swap::SureSwap;
+pub use mem_swap::{MemSwap, SureSwap};
 pub use out_sink::OutSink;
 pub use sink::Sink;
 pub use swap_dev::SwapDev;

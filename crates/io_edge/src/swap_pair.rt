@@ -44,6 +44,7 @@ fn striped_blocks(zero: u32, one: u32) -> u32
 ///
 /// It counts its own failed calls. That calls lead from one state of the pair to a later one says of each
 /// device that calls led from its earlier state to its later one.
+#[derive(Drop)]
 pub struct SwapPair<'a, D, E> {
     /// Device 0.
     pub zero: &'a mut D,
@@ -55,6 +56,8 @@ pub struct SwapPair<'a, D, E> {
 }
 
 impl<'a, D: SwapDev, E: SwapDev> SwapPair<'a, D, E> {
+    ghost use Rattle.io_edge.specs.FailedDevice.{failed_read_of, failed_write_of};
+
     /// Device 0 and device 1, with no failed call so far.
     pub fn new(zero: &'a mut D, one: &'a mut E) -> SwapPair<'a, D, E>
         ensures zero_reference { result.zero.ghost_name ≡ zero.entry.ghost_name }
@@ -63,6 +66,8 @@ impl<'a, D: SwapDev, E: SwapDev> SwapPair<'a, D, E> {
         ensures one { result.one.now ≡ one.old }
         ensures read_faults { ⟦<SwapPair<'a, D, E> as SwapDev>⟧.read_faults result ≡ 0 }
         ensures write_faults { ⟦<SwapPair<'a, D, E> as SwapDev>⟧.write_faults result ≡ 0 }
+        ensures failed_read { failed_read_of result ≡ None }
+        ensures failed_write { failed_write_of result ≡ None }
         ensures blocks { IsLargestSwap (D.blocks zero.old) (E.blocks one.old)
             (⟦<SwapPair<'a, D, E> as SwapDev>⟧.blocks result) }
     {
@@ -73,10 +78,6 @@ impl<'a, D: SwapDev, E: SwapDev> SwapPair<'a, D, E> {
             writes: Failures::none(),
         }
     }
-}
-
-impl<'a, D: SwapDev, E: SwapDev> SwapPair<'a, D, E> {
-    ghost use Rattle.io_edge.specs.FailedDevice.{failed_read_of, failed_write_of};
 
     /// The device of the last failed `read`: 0 or 1. Its own count of failed reads rose since the pair
     /// was made.
