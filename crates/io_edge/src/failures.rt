@@ -1,7 +1,7 @@
 // The failed calls of one kind through a pair of devices.
 ghost use Rattle.std.specs.Prelude.{◌≡◌, ◌≤◌, ◌<◌, None, Some};
 ghost use Rattle.std.specs.Option.{ForNone, ForSome};
-ghost use Rattle.io_edge.specs.Count.{Counts, OnDone, OnFailed};
+ghost use Rattle.io_edge.specs.Count.{Counts, OnDone, OnFailed, next_count};
 
 use crate::Moved;
 use crate::count::raised;
@@ -32,6 +32,7 @@ impl Failures {
     pub(crate) fn note(&mut self, moved: Moved, device: u32)
         requires { device < 2 }
         ensures count { Counts moved self.old.count self.new.count }
+        ensures next { OnFailed moved (self.new.count ≡ next_count self.old.count) }
         ensures failed { OnFailed moved (self.new.last ≡ Some device) }
         ensures done { OnDone moved (self.new.last ≡ self.old.last) }
     {

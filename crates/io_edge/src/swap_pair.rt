@@ -1,8 +1,8 @@
 // Two swap devices as one.
 ghost use Rattle.std.specs.Prelude.{◌≡◌, ◌+◌, ◌%◌, ◌≤◌, ◌<◌, ◌↔◌, IsTrue, IsNone, None, refl};
 ghost use Rattle.std.proofs.Common.{sym, ◌∙◌, ap};
-ghost use Rattle.io_edge.specs.Count.{Counts, OnDone, OnFailed};
-ghost use Rattle.io_edge.specs.SwapImage.{HoldsPage, WritesPage, SpoilsPage};
+ghost use Rattle.io_edge.specs.Count.{Counts, OnDone, OnFailed, next_count};
+ghost use Rattle.io_edge.specs.SwapImage.{HoldsPage, WritesPage, SpoilsPage, LeavesPage};
 ghost use Rattle.io_edge.specs.Striping.{device_of, place_of, pair_blocks, pair_image, IsLargestSwap};
 ghost use Rattle.io_edge.specs.PairFailures.{AddsFailures};
 ghost use Rattle.io_edge.specs.PairLeads.{adds_nothing, adds_through};
@@ -40,10 +40,12 @@ fn striped_blocks(zero: u32, one: u32) -> u32
 
 /// Two swap devices as one, striped by units of 1,024 blocks: the even units are those of device 0, in
 /// their order, and the odd ones those of device 1. It has as many blocks as both devices have room
-/// for, and 131,072 at most. Its image is told where both devices tell theirs.
+/// for, and 131,072 at most (this project's profile). Its image is told where both devices tell theirs.
 ///
-/// It counts its own failed calls. That calls lead from one state of the pair to a later one says of each
-/// device that calls led from its earlier state to its later one.
+/// It counts its own failed calls, in a `u64` that stands still at its last value. Where calls lead from
+/// one state of the pair to a later one, its two references are the same, calls lead from each device's
+/// earlier state to its later one, and a device that is named anew for a failed call has failed: its own
+/// count of that kind rose.
 #[derive(Drop)]
 pub struct SwapPair<'a, D, E> {
     /// Device 0.
@@ -99,7 +101,8 @@ impl<'a, D: SwapDev, E: SwapDev> SwapPair<'a, D, E> {
 }
 
 impl<'a, D: SwapDev, E: SwapDev> SwapDev for SwapPair<'a, D, E> {
-    ghost image = { λ p. pair_image (pair_blocks (D.blocks p.zero.now) (E.blocks p.one.now)) (D.image p.zero.now) (E.image p.one.now) };
+    ghost image = { λ p. pair_image (pair_blocks (D.blocks p.zero.now) (E.blocks p.one.now))
+        (D.image p.zero.now) (E.image p.one.now) };
 
     ghost blocks = { λ p. pair_blocks (D.blocks p.zero.now) (E.blocks p.one.now) };
 
@@ -107,10 +110,15 @@ impl<'a, D: SwapDev, E: SwapDev> SwapDev for SwapPair<'a, D, E> {
 
     ghost write_faults = { λ p. p.writes.count };
 
-    ghost leads = { λ p q. (p.zero.ghost_name ≡ q.zero.ghost_name) × (p.one.ghost_name ≡ q.one.ghost_name)
+    ghost leads = { λ p q. (p.zero.ghost_name ≡ q.zero.ghost_name)
+        × (p.one.ghost_name ≡ q.one.ghost_name)
         × D.leads p.zero.now q.zero.now × E.leads p.one.now q.one.now
-        × AddsFailures p.reads.count q.reads.count p.reads.last q.reads.last (D.read_faults p.zero.now) (D.read_faults q.zero.now) (E.read_faults p.one.now) (E.read_faults q.one.now)
-        × AddsFailures p.writes.count q.writes.count p.writes.last q.writes.last (D.write_faults p.zero.now) (D.write_faults q.zero.now) (E.write_faults p.one.now) (E.write_faults q.one.now) };
+        × AddsFailures p.reads.count q.reads.count p.reads.last q.reads.last
+            (D.read_faults p.zero.now) (D.read_faults q.zero.now)
+            (E.read_faults p.one.now) (E.read_faults q.one.now)
+        × AddsFailures p.writes.count q.writes.count p.writes.last q.writes.last
+            (D.write_faults p.zero.now) (D.write_faults q.zero.now)
+            (E.write_faults p.one.now) (E.write_faults q.one.now) };
 
     fn blocks(&self) -> u32 {
         striped_blocks(self.zero.blocks(), self.one.blocks())
@@ -120,11 +128,21 @@ impl<'a, D: SwapDev, E: SwapDev> SwapDev for SwapPair<'a, D, E> {
         requires even { block % 2 ≡ 0 }
         requires inside { block + 2 ≤ ⟦<SwapPair<'a, D, E> as SwapDev>⟧.blocks self.old }
         ensures leads { ⟦<SwapPair<'a, D, E> as SwapDev>⟧.leads self.old self.new }
-        ensures blocks { ⟦<SwapPair<'a, D, E> as SwapDev>⟧.blocks self.new ≡ ⟦<SwapPair<'a, D, E> as SwapDev>⟧.blocks self.old }
-        ensures image { ⟦<SwapPair<'a, D, E> as SwapDev>⟧.image self.new ≡ ⟦<SwapPair<'a, D, E> as SwapDev>⟧.image self.old }
-        ensures done { OnDone result (HoldsPage (⟦<SwapPair<'a, D, E> as SwapDev>⟧.image self.old) block buf.new) }
-        ensures read_faults { Counts result (⟦<SwapPair<'a, D, E> as SwapDev>⟧.read_faults self.old) (⟦<SwapPair<'a, D, E> as SwapDev>⟧.read_faults self.new) }
-        ensures write_faults { ⟦<SwapPair<'a, D, E> as SwapDev>⟧.write_faults self.new ≡ ⟦<SwapPair<'a, D, E> as SwapDev>⟧.write_faults self.old }
+        ensures blocks { ⟦<SwapPair<'a, D, E> as SwapDev>⟧.blocks self.new
+            ≡ ⟦<SwapPair<'a, D, E> as SwapDev>⟧.blocks self.old }
+        ensures image { ⟦<SwapPair<'a, D, E> as SwapDev>⟧.image self.new
+            ≡ ⟦<SwapPair<'a, D, E> as SwapDev>⟧.image self.old }
+        ensures done { OnDone result
+            (HoldsPage (⟦<SwapPair<'a, D, E> as SwapDev>⟧.image self.old) block buf.new) }
+        ensures read_faults { Counts result
+            (⟦<SwapPair<'a, D, E> as SwapDev>⟧.read_faults self.old)
+            (⟦<SwapPair<'a, D, E> as SwapDev>⟧.read_faults self.new) }
+        ensures write_faults { ⟦<SwapPair<'a, D, E> as SwapDev>⟧.write_faults self.new
+            ≡ ⟦<SwapPair<'a, D, E> as SwapDev>⟧.write_faults self.old }
+
+        // Its own failed calls, one by one.
+        ensures failed_calls { OnFailed result (⟦<SwapPair<'a, D, E> as SwapDev>⟧.read_faults self.new
+            ≡ next_count (⟦<SwapPair<'a, D, E> as SwapDev>⟧.read_faults self.old)) }
 
         // No block of either device changes.
         ensures zero_image { D.image self.new.zero.now ≡ D.image self.old.zero.now }
@@ -146,19 +164,31 @@ impl<'a, D: SwapDev, E: SwapDev> SwapDev for SwapPair<'a, D, E> {
         requires even { block % 2 ≡ 0 }
         requires inside { block + 2 ≤ ⟦<SwapPair<'a, D, E> as SwapDev>⟧.blocks self.old }
         ensures leads { ⟦<SwapPair<'a, D, E> as SwapDev>⟧.leads self.old self.new }
-        ensures blocks { ⟦<SwapPair<'a, D, E> as SwapDev>⟧.blocks self.new ≡ ⟦<SwapPair<'a, D, E> as SwapDev>⟧.blocks self.old }
-        ensures done { OnDone result (WritesPage (⟦<SwapPair<'a, D, E> as SwapDev>⟧.image self.old) block bytes.now (⟦<SwapPair<'a, D, E> as SwapDev>⟧.image self.new)) }
-        ensures failed { OnFailed result (SpoilsPage (⟦<SwapPair<'a, D, E> as SwapDev>⟧.image self.old) block (⟦<SwapPair<'a, D, E> as SwapDev>⟧.image self.new)) }
-        ensures read_faults { ⟦<SwapPair<'a, D, E> as SwapDev>⟧.read_faults self.new ≡ ⟦<SwapPair<'a, D, E> as SwapDev>⟧.read_faults self.old }
-        ensures write_faults { Counts result (⟦<SwapPair<'a, D, E> as SwapDev>⟧.write_faults self.old) (⟦<SwapPair<'a, D, E> as SwapDev>⟧.write_faults self.new) }
+        ensures blocks { ⟦<SwapPair<'a, D, E> as SwapDev>⟧.blocks self.new
+            ≡ ⟦<SwapPair<'a, D, E> as SwapDev>⟧.blocks self.old }
+        ensures done { OnDone result
+            (WritesPage (⟦<SwapPair<'a, D, E> as SwapDev>⟧.image self.old) block bytes.now
+                (⟦<SwapPair<'a, D, E> as SwapDev>⟧.image self.new)) }
+        ensures failed { OnFailed result
+            (SpoilsPage (⟦<SwapPair<'a, D, E> as SwapDev>⟧.image self.old) block
+                (⟦<SwapPair<'a, D, E> as SwapDev>⟧.image self.new)) }
+        ensures read_faults { ⟦<SwapPair<'a, D, E> as SwapDev>⟧.read_faults self.new
+            ≡ ⟦<SwapPair<'a, D, E> as SwapDev>⟧.read_faults self.old }
+        ensures write_faults { Counts result
+            (⟦<SwapPair<'a, D, E> as SwapDev>⟧.write_faults self.old)
+            (⟦<SwapPair<'a, D, E> as SwapDev>⟧.write_faults self.new) }
 
-        // On the block's device the two blocks at its place are written, and on the other none.
-        ensures zero_done { device_of block ≡ 0 → OnDone result (WritesPage (D.image self.old.zero.now) (place_of block) bytes.now (D.image self.new.zero.now)) }
-        ensures zero_failed { device_of block ≡ 0 → OnFailed result (SpoilsPage (D.image self.old.zero.now) (place_of block) (D.image self.new.zero.now)) }
-        ensures zero_stays { device_of block ≡ 1 → self.new.zero.now ≡ self.old.zero.now }
-        ensures one_done { device_of block ≡ 1 → OnDone result (WritesPage (E.image self.old.one.now) (place_of block) bytes.now (E.image self.new.one.now)) }
-        ensures one_failed { device_of block ≡ 1 → OnFailed result (SpoilsPage (E.image self.old.one.now) (place_of block) (E.image self.new.one.now)) }
-        ensures one_stays { device_of block ≡ 0 → self.new.one.now ≡ self.old.one.now }
+        // Its own failed calls, one by one.
+        ensures failed_calls { OnFailed result (⟦<SwapPair<'a, D, E> as SwapDev>⟧.write_faults self.new
+            ≡ next_count (⟦<SwapPair<'a, D, E> as SwapDev>⟧.write_faults self.old)) }
+
+        // The block's device changes at its place alone, and the other device not at all.
+        ensures on_zero { device_of block ≡ 0 → LeavesPage result (D.image self.old.zero.now)
+            (place_of block) bytes.now (D.image self.new.zero.now) }
+        ensures not_on_zero { device_of block ≡ 1 → self.new.zero.now ≡ self.old.zero.now }
+        ensures on_one { device_of block ≡ 1 → LeavesPage result (E.image self.old.one.now)
+            (place_of block) bytes.now (E.image self.new.one.now) }
+        ensures not_on_one { device_of block ≡ 0 → self.new.one.now ≡ self.old.one.now }
     {
         let place = place_on_device(block);
         if device_number(block) == 0 {
@@ -172,7 +202,11 @@ impl<'a, D: SwapDev, E: SwapDev> SwapDev for SwapPair<'a, D, E> {
         }
     }
 
-    ghost whole = { λ p bytes told. pair_whole (pair_blocks (D.blocks p.zero.now) (E.blocks p.one.now)) (D.image p.zero.now) (E.image p.one.now) bytes (tell_blocks (D.blocks p.zero.now) (E.blocks p.one.now) (D.image p.zero.now) (E.image p.one.now) (D.whole p.zero.now) (E.whole p.one.now)) told };
+    ghost whole = { λ p bytes told. pair_whole
+        (pair_blocks (D.blocks p.zero.now) (E.blocks p.one.now))
+        (D.image p.zero.now) (E.image p.one.now) bytes
+        (tell_blocks (D.blocks p.zero.now) (E.blocks p.one.now) (D.image p.zero.now)
+            (E.image p.one.now) (D.whole p.zero.now) (E.whole p.one.now)) told };
 
     ghost leads_nowhere = { λ p. (
       refl,
@@ -189,14 +223,22 @@ impl<'a, D: SwapDev, E: SwapDev> SwapDev for SwapPair<'a, D, E> {
       D.leads_through p.zero.now q.zero.now r.zero.now first.2 then.2,
       E.leads_through p.one.now q.one.now r.one.now first.3 then.3,
       adds_through p.reads.count q.reads.count r.reads.count p.reads.last q.reads.last r.reads.last
-          (D.read_faults p.zero.now) (D.read_faults q.zero.now) (D.read_faults r.zero.now) (E.read_faults p.one.now) (E.read_faults q.one.now) (E.read_faults r.one.now)
-          (D.reads_grow p.zero.now q.zero.now first.2) (D.reads_grow q.zero.now r.zero.now then.2) (E.reads_grow p.one.now q.one.now first.3) (E.reads_grow q.one.now r.one.now then.3) first.4 then.4,
+          (D.read_faults p.zero.now) (D.read_faults q.zero.now) (D.read_faults r.zero.now)
+          (E.read_faults p.one.now) (E.read_faults q.one.now) (E.read_faults r.one.now)
+          (D.reads_grow p.zero.now q.zero.now first.2) (D.reads_grow q.zero.now r.zero.now then.2)
+          (E.reads_grow p.one.now q.one.now first.3) (E.reads_grow q.one.now r.one.now then.3) first.4 then.4,
       adds_through p.writes.count q.writes.count r.writes.count p.writes.last q.writes.last r.writes.last
-          (D.write_faults p.zero.now) (D.write_faults q.zero.now) (D.write_faults r.zero.now) (E.write_faults p.one.now) (E.write_faults q.one.now) (E.write_faults r.one.now)
-          (D.writes_grow p.zero.now q.zero.now first.2) (D.writes_grow q.zero.now r.zero.now then.2) (E.writes_grow p.one.now q.one.now first.3) (E.writes_grow q.one.now r.one.now then.3) first.5 then.5,
+          (D.write_faults p.zero.now) (D.write_faults q.zero.now) (D.write_faults r.zero.now)
+          (E.write_faults p.one.now) (E.write_faults q.one.now) (E.write_faults r.one.now)
+          (D.writes_grow p.zero.now q.zero.now first.2) (D.writes_grow q.zero.now r.zero.now then.2)
+          (E.writes_grow p.one.now q.one.now first.3) (E.writes_grow q.one.now r.one.now then.3) first.5 then.5,
     ) };
 
-    ghost blocks_stay = { λ p q led. ap (λ size. pair_blocks size (E.blocks q.one.now)) (D.blocks_stay p.zero.now q.zero.now led.2) ∙ ap (λ size. pair_blocks (D.blocks p.zero.now) size) (E.blocks_stay p.one.now q.one.now led.3) };
+    ghost blocks_stay = { λ p q led.
+        ap (λ size. pair_blocks size (E.blocks q.one.now))
+            (D.blocks_stay p.zero.now q.zero.now led.2)
+        ∙ ap (λ size. pair_blocks (D.blocks p.zero.now) size)
+            (E.blocks_stay p.one.now q.one.now led.3) };
 
     ghost reads_grow = { λ _ _ led. let failed = led.4 in failed.grows };
 
