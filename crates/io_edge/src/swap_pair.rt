@@ -114,11 +114,11 @@ impl<'a, D: SwapDev, E: SwapDev> SwapDev for SwapPair<'a, D, E> {
         × (p.one.ghost_name ≡ q.one.ghost_name)
         × D.leads p.zero.now q.zero.now × E.leads p.one.now q.one.now
         × AddsFailures p.reads.count q.reads.count p.reads.last q.reads.last
-            (D.read_faults p.zero.now) (D.read_faults q.zero.now)
-            (E.read_faults p.one.now) (E.read_faults q.one.now)
+        (D.read_faults p.zero.now) (D.read_faults q.zero.now)
+        (E.read_faults p.one.now) (E.read_faults q.one.now)
         × AddsFailures p.writes.count q.writes.count p.writes.last q.writes.last
-            (D.write_faults p.zero.now) (D.write_faults q.zero.now)
-            (E.write_faults p.one.now) (E.write_faults q.one.now) };
+        (D.write_faults p.zero.now) (D.write_faults q.zero.now)
+        (E.write_faults p.one.now) (E.write_faults q.one.now) };
 
     fn blocks(&self) -> u32 {
         striped_blocks(self.zero.blocks(), self.one.blocks())
@@ -168,10 +168,10 @@ impl<'a, D: SwapDev, E: SwapDev> SwapDev for SwapPair<'a, D, E> {
             ≡ ⟦<SwapPair<'a, D, E> as SwapDev>⟧.blocks self.old }
         ensures done { OnDone result
             (WritesPage (⟦<SwapPair<'a, D, E> as SwapDev>⟧.image self.old) block bytes.now
-                (⟦<SwapPair<'a, D, E> as SwapDev>⟧.image self.new)) }
+            (⟦<SwapPair<'a, D, E> as SwapDev>⟧.image self.new)) }
         ensures failed { OnFailed result
             (SpoilsPage (⟦<SwapPair<'a, D, E> as SwapDev>⟧.image self.old) block
-                (⟦<SwapPair<'a, D, E> as SwapDev>⟧.image self.new)) }
+            (⟦<SwapPair<'a, D, E> as SwapDev>⟧.image self.new)) }
         ensures read_faults { ⟦<SwapPair<'a, D, E> as SwapDev>⟧.read_faults self.new
             ≡ ⟦<SwapPair<'a, D, E> as SwapDev>⟧.read_faults self.old }
         ensures write_faults { Counts result
@@ -206,7 +206,7 @@ impl<'a, D: SwapDev, E: SwapDev> SwapDev for SwapPair<'a, D, E> {
         (pair_blocks (D.blocks p.zero.now) (E.blocks p.one.now))
         (D.image p.zero.now) (E.image p.one.now) bytes
         (tell_blocks (D.blocks p.zero.now) (E.blocks p.one.now) (D.image p.zero.now)
-            (E.image p.one.now) (D.whole p.zero.now) (E.whole p.one.now)) told };
+        (E.image p.one.now) (D.whole p.zero.now) (E.whole p.one.now)) told };
 
     ghost leads_nowhere = { λ p. (
       refl,
@@ -236,9 +236,9 @@ impl<'a, D: SwapDev, E: SwapDev> SwapDev for SwapPair<'a, D, E> {
 
     ghost blocks_stay = { λ p q led.
         ap (λ size. pair_blocks size (E.blocks q.one.now))
-            (D.blocks_stay p.zero.now q.zero.now led.2)
+        (D.blocks_stay p.zero.now q.zero.now led.2)
         ∙ ap (λ size. pair_blocks (D.blocks p.zero.now) size)
-            (E.blocks_stay p.one.now q.one.now led.3) };
+        (E.blocks_stay p.one.now q.one.now led.3) };
 
     ghost reads_grow = { λ _ _ led. let failed = led.4 in failed.grows };
 
