@@ -4,6 +4,8 @@
 //! `step` either carries out the whole instruction or changes nothing.
 #![tactic(auto)]
 
+mod byte;
+mod calling;
 mod commit;
 mod compute;
 mod effect;
@@ -13,6 +15,8 @@ mod outcome;
 mod reading;
 mod refused;
 mod registers;
+mod returning;
+mod stack;
 mod stepping;
 
 pub use laws::{first_refusal_decides, missing_bytes_only_stop};
