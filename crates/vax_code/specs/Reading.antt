@@ -1,6 +1,6 @@
 -- Reading one instruction from the front of some bytes.
-use Rattle.std.specs.Prelude.{◌≡◌, ℕ, ◌+◌, ◌-◌, ◌*◌, ◌/◌, ◌%◌, List, [], ◌∷◌, ◌≤◌, length, take, drop, Option, Some, None, Result, Ok, Err, nat_lt, ◌==◌, ◌&&◌, ◌||◌, if◌then◌else◌, Bool, true, false, ℤ, pos}
-use Rattle.std.specs.Int.{Width, w8, w16, w32, from_le_bytes, cast_signed, int_wrapping_sub}
+use Rattle.std.specs.Prelude.{◌≡◌, ℕ, ◌+◌, ◌-◌, ◌*◌, ◌/◌, ◌%◌, List, [], ◌∷◌, ◌≤◌, length, take, drop, Option, Some, None, Result, Ok, Err, nat_lt, ◌==◌, ◌&&◌, ◌||◌, if◌then◌else◌, ℤ}
+use Rattle.std.specs.Int.{from_le_bytes, cast_signed}
 use Rattle.vax_code.specs.declared.instr.Operand.{Operand}
 use Rattle.vax_code.specs.declared.instr.Operand.TheVariants as operands
 use Rattle.vax_code.specs.declared.instr.Base.{Base}
@@ -13,9 +13,8 @@ use Rattle.vax_code.specs.declared.reader.Spelled.{Spelled}
 use Rattle.vax_code.specs.declared.reader.Fault.TheVariants.{Short, Bad}
 use Rattle.vax_code.specs.declared.table.Row.{Row}
 use Rattle.vax_code.specs.declared.table.Slot.{Slot}
-use Rattle.vax_code.specs.declared.table.Access.{Access}
-use Rattle.vax_code.specs.declared.table.Access.TheVariants as accesses
 use Rattle.vax_code.specs.Table.{row_for, slot_in}
+use Rattle.vax_code.specs.Operands.{width_of, operand_of, is_read, is_address, is_branch, assembled}
 
 infixl 10 ◌>>=◌
 abbrev pub ◌>>=◌ : {A B : Type 0} → Result A Fault → (A → Result B Fault) → Result B Fault
@@ -29,9 +28,6 @@ Read A = Result (A × List ℕ) Fault
 unfoldable pub byte_at : List ℕ → Read ℕ
 byte_at [] = Err Short
 byte_at (byte ∷ rest) = Ok (byte, rest)
-
-abbrev pub width_of : ℕ → Width
-width_of size = if size == 1 then w8 else (if size == 2 then w16 else w32)
 
 -- the little-endian number of 1, 2 or 4 bytes
 unfoldable pub number_at : ℕ → List ℕ → Read ℕ
@@ -62,32 +58,12 @@ base_at mode reg bytes =
     else (if mode == 8 then Ok (bases.AutoInc reg, bytes)
     else Ok (bases.AutoIncDef reg, bytes)))))))
 
-abbrev pub operand_of : Base → Operand
-operand_of (bases.Deferred reg) = operands.Deferred reg
-operand_of (bases.AutoDec reg) = operands.AutoDec reg
-operand_of (bases.AutoInc reg) = operands.AutoInc reg
-operand_of (bases.AutoIncDef reg) = operands.AutoIncDef reg
-operand_of (bases.Absolute address) = operands.Absolute address
-operand_of (bases.Disp reg by deferred) = operands.Disp reg by deferred
-
 -- the base of an index: no immediate, and no change of the index register itself
 unfoldable pub indexed_at : ℕ → List ℕ → Read Operand
 indexed_at index bytes = do
   first ← byte_at bytes
   if nat_lt 6 (first.0 / 16) && nat_lt (first.0 / 16) 10 && (first.0 % 16 == index) then Err Bad
       else (base_at (first.0 / 16) (first.0 % 16) first.1 >>= λ base. Ok (operands.Indexed index base.0, base.1))
-
-abbrev pub is_read : Access → Bool
-is_read accesses.Read = true
-is_read _ = false
-
-abbrev pub is_address : Access → Bool
-is_address accesses.Address = true
-is_address _ = false
-
-abbrev pub is_branch : Access → Bool
-is_branch accesses.Branch = true
-is_branch _ = false
 
 -- the operand that a mode and a register begin
 unfoldable pub specifier_at : Slot → ℕ → ℕ → List ℕ → Read Operand
@@ -125,29 +101,6 @@ unfoldable pub place_at : Row → ℕ → List ℕ → Read Spelled
 place_at row place bytes =
     if nat_lt place row.count then counted (operand_at (slot_in row place)) bytes
     else Ok (record { operand = operands.Literal 0; size = 0 }, bytes)
-
--- a displacement on PC counts from the end of the instruction, which is so many bytes behind the operand
-abbrev pub base_from_end : ℕ → Base → Base
-base_from_end behind (bases.Disp reg by deferred) =
-    if reg == 15 then bases.Disp reg (int_wrapping_sub w32 by (pos behind)) deferred
-    else bases.Disp reg by deferred
-base_from_end behind base = base
-
-abbrev pub from_end : ℕ → Operand → Operand
-from_end behind (operands.Disp reg by deferred) = operand_of (base_from_end behind (bases.Disp reg by deferred))
-from_end behind (operands.Indexed index base) = operands.Indexed index (base_from_end behind base)
-from_end behind operand = operand
-
--- the instruction that an opcode and its operands make
-abbrev pub assembled : ℕ → Row → Spelled → Spelled → Spelled → Instr
-assembled op row a b c = record {
-  op = op;
-  length = 1 + a.size + b.size + c.size;
-  count = row.count;
-  a = from_end (b.size + c.size) a.operand;
-  b = from_end c.size b.operand;
-  c = c.operand;
-}
 
 -- the operands that follow the opcode
 unfoldable pub operands_at : ℕ → Row → List ℕ → Read Instr
