@@ -2,6 +2,7 @@ pub mod Runs
 pub mod Numbers
 pub mod Pushing
 pub mod Writing
+pub mod Allowed
 pub mod Fetching
 pub mod Order
 pub mod Saving

@@ -1,5 +1,6 @@
 ghost use Rattle.std.specs.Prelude.{◌≡◌, ◌^◌, ◌%◌, ◌-◌, ℕ, [], Some, IfOk};
 ghost use Rattle.std.specs.Int.{w16, cast_signed};
+ghost use Rattle.vm_facts.specs.Answers.{Answers};
 ghost use Rattle.user_vax.specs.Program.{run};
 ghost use Rattle.user_vax.specs.Computation.{computation};
 ghost use Rattle.user_vax.specs.Effects.{division, complement};
@@ -74,8 +75,8 @@ pub fn compute<M: Memory>(
         Name::Subl3 => store_result(regs, 4, c.place, sub(b.value, a.value)),
         Name::Mull2 => store_result(regs, 4, b.place, mul(b.value, a.value)),
         Name::Mull3 => store_result(regs, 4, c.place, mul(b.value, a.value)),
-        Name::Divl2 => return divide(memory, regs, b.place, b.value, a.value),
-        Name::Divl3 => return divide(memory, regs, c.place, b.value, a.value),
+        Name::Divl2 => return divide(regs, b.place, b.value, a.value),
+        Name::Divl3 => return divide(regs, c.place, b.value, a.value),
         Name::Ashl => store_result(
             regs,
             4,
@@ -135,18 +136,11 @@ fn complement(word: u32) -> u32
 
 /// A quotient to a place.
 #[tactic(auto, unfolding(crate::specs::Effects::division))]
-fn divide<M: Memory>(
-    memory: &M,
-    regs: Regs,
-    place: Place,
-    dividend: u32,
-    divisor: u32,
-) -> Result<Outcome, Refused>
+fn divide(regs: Regs, place: Place, dividend: u32, divisor: u32) -> Result<Outcome, Refused>
     requires { IsPlace place }
-    ensures value { ComesTo result (run (M.answers memory.now) (division regs place dividend divisor)) }
+    ensures value { (memory : Answers) → ComesTo result (run memory (division regs place dividend divisor)) }
     ensures sound { IfOk result IsOutcome }
 {
-    let _ = memory;
     match div(dividend, divisor) {
         None => Err(Refused::Signal(SIGFPE)),
         Some(sum) => Ok(store_result(regs, 4, place, sum)),

@@ -19,7 +19,7 @@ mod returning;
 mod stack;
 mod stepping;
 
-pub use laws::{first_refusal_decides, missing_bytes_only_stop};
+pub use laws::{first_refusal_decides, missing_bytes_only_stop, writes_are_allowed};
 pub use reading::{read_byte, read_long};
 pub use refused::{Refused, SIGBUS, SIGFPE, SIGILL, SIGSEGV};
 pub use stepping::{Stepped, step};
