@@ -1,6 +1,10 @@
 pub mod Runs
 pub mod Numbers
+pub mod Pushing
 pub mod Writing
+pub mod Allowed
 pub mod Fetching
 pub mod Order
+pub mod Saving
+pub mod Restoring
 pub mod ArrayLemmas

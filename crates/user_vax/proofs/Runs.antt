@@ -1,5 +1,5 @@
 -- Laws of running a program.
-use Rattle.std.proofs.Common.{◌≡◌, Result, Ok, Err, refl}
+use Rattle.std.proofs.Common.{◌≡◌, ◌∙◌, Result, Ok, Err, refl, sym}
 use Rattle.vm_facts.specs.Answers.{Answers}
 use Rattle.vm_facts.specs.declared.memory.ByteRead.TheVariants as bytes
 use Rattle.vm_facts.specs.declared.memory.MayWrite.TheVariants as tests
@@ -29,3 +29,11 @@ run_bind memory (Tests address next) f =
       | tests.Text ↦ refl
       | tests.Outside ↦ refl
     ]
+
+pub then_ok : {A B : Type 0} (r : Result A Refused) (next : A → Result B Refused) (y : B) → then r next ≡ Ok y → (x : A) × (r ≡ Ok x) × (next x ≡ Ok y)
+then_ok (Ok x) next y h = (x, refl, h)
+then_ok (Err e) next y h = absurd (cc)
+
+-- a sequence that gives something gave something at each part
+pub ok_of_bind : {A B : Type 0} (memory : Answers) (p : Program A) (f : A → Program B) (y : B) → run memory (p >>= f) ≡ Ok y → (x : A) × (run memory p ≡ Ok x) × (run memory (f x) ≡ Ok y)
+ok_of_bind memory p f y h = then_ok (run memory p) (λ x. run memory (f x)) y (sym (run_bind memory p f) ∙ h)

@@ -1,5 +1,5 @@
 -- Tests and writes, one number after another.
-use Rattle.std.proofs.Common.{◌≡◌, ◌∙◌, ℕ, ◌+◌, ◌<◌, List, [], ◌∷◌, ◌++◌, Result, Ok, Err, length, take, drop, get_or, refl, ap, sym, append-nil}
+use Rattle.std.proofs.Common.{◌≡◌, ◌∙◌, ℕ, ◌+◌, ◌<◌, List, [], ◌∷◌, ◌++◌, Result, Ok, length, take, drop, get_or, refl, ap, sym, append-nil}
 use Rattle.std.proofs.lemmas.List.{at_drop_more, take_more}
 use Rattle.std.proofs.lemmas.List.Concat.{flat_map-append}
 use Rattle.std.proofs.lemmas.List.Elements.{recursion_from_All, All-from_recursion}
@@ -10,9 +10,9 @@ use Rattle.vm_facts.specs.declared.memory.MayWrite.TheVariants as tests
 use Rattle.user_vax.specs.declared.outcome.Write.{Write}
 use Rattle.user_vax.specs.declared.refused.Refused.{Refused}
 use Rattle.user_vax.specs.Program.{Program, Tests, ◌>>=◌, run, after_test}
-use Rattle.user_vax.specs.Instruction.{write_tests}
-use Rattle.user_vax.specs.Outcomes.{IsSize, IsReady, MayAll, bytes_of, all_bytes}
-use Rattle.user_vax.proofs.Runs.{then, run_bind}
+use Rattle.user_vax.specs.Instruction.{MayAll, write_tests}
+use Rattle.user_vax.specs.Outcomes.{IsSize, IsReady, bytes_of, all_bytes}
+use Rattle.user_vax.proofs.Runs.{then, then_ok, run_bind}
 
 -- what stands past the end of a list of writes
 abbrev pub no_write : Write
@@ -47,7 +47,7 @@ may_first tests.Text address next h = absurd (cc)
 may_first tests.Outside address next h = absurd (cc)
 
 -- bytes that were tested may be written
-tested_may : (memory : Answers) (writes : List ByteWrite) → run memory (write_tests writes) ≡ Ok tt → MayAll memory writes
+pub tested_may : (memory : Answers) (writes : List ByteWrite) → run memory (write_tests writes) ≡ Ok tt → MayAll memory writes
 unfolding write_tests
 tested_may memory [] h = tt
 tested_may memory (write ∷ writes) h =
@@ -62,15 +62,11 @@ may_along some other (write ∷ writes) e h = (sym (ap (λ test. test write.addr
 pub ready_along : (some other : Answers) (write : Write) → some.may_write ≡ other.may_write → IsReady some write → IsReady other write
 ready_along some other write e h = record { size = h.size; may = may_along some other (bytes_of write) e h.may }
 
-then_ok : {A : Type 0} (r : Result A Refused) (next : A → Result (Unit {0}) Refused) → then r next ≡ Ok tt → (x : A) × (r ≡ Ok x) × (next x ≡ Ok tt)
-then_ok (Ok x) next h = (x, refl, h)
-then_ok (Err e) next h = absurd (cc)
-
 each_ready : (memory : Answers) (writes : List Write) → AllByRecursion (λ write. IsSize write.size) writes → run memory (write_tests (all_bytes writes)) ≡ Ok tt → AllByRecursion (IsReady memory) writes
 unfolding write_tests
 each_ready memory [] sizes h = tt
 each_ready memory (write ∷ writes) sizes h =
-    let parts = then_ok (run memory (write_tests (bytes_of write))) (λ _. run memory (write_tests (all_bytes writes))) (sym (run-write_tests-append memory (bytes_of write) (all_bytes writes)) ∙ h) in
+    let parts = then_ok (run memory (write_tests (bytes_of write))) (λ _. run memory (write_tests (all_bytes writes))) tt (sym (run-write_tests-append memory (bytes_of write) (all_bytes writes)) ∙ h) in
     (record { size = sizes.0; may = tested_may memory (bytes_of write) parts.1 }, each_ready memory writes sizes.1 parts.2)
 
 -- numbers that were tested may be written

@@ -1,5 +1,5 @@
 -- What an instruction leaves.
-use Rattle.std.specs.Prelude.{ℕ, zero, suc, ◌+◌, ◌*◌, ◌/◌, ◌%◌, ◌^◌, ◌-◌, Bool, List, [], ◌∷◌, if◌then◌else◌, ℤ, ◌==◌, nat_le, Option, None, false}
+use Rattle.std.specs.Prelude.{ℕ, zero, suc, ◌+◌, ◌*◌, ◌/◌, ◌%◌, ◌^◌, ◌-◌, Bool, List, [], ◌∷◌, ◌++◌, if◌then◌else◌, ℤ, ◌==◌, nat_le, Option, None, false}
 use Rattle.vm_facts.specs.declared.regs.Regs.{Regs}
 use Rattle.vm_facts.specs.Answers.{ByteWrite}
 use Rattle.vax_alu.specs.declared.Sum.{Sum}
@@ -54,14 +54,17 @@ move_effect regs size place value = store_effect (with_move_codes regs size valu
 abbrev pub result_effect : Regs → ℕ → Place → Sum → Effect
 result_effect regs size place sum = store_effect (with_codes regs sum) size place sum.value
 
--- a longword goes to the stack
-unfoldable pub push_effect : Regs → ℕ → Effect
-push_effect regs value =
-    record {
-      regs = with_register regs 14 (back (register regs 14) 4);
-      writes = bytes_at 4 (back (register regs 14) 4) value;
-      call = None;
+-- one more longword goes to the stack
+unfoldable pub push_onto : Effect → ℕ → Effect
+push_onto effect value =
+    record effect {
+      regs = with_register effect.regs 14 (back (register effect.regs 14) 4);
+      writes = effect.writes ++ bytes_at 4 (back (register effect.regs 14) 4) value;
     }
+
+-- a longword goes to the stack
+abbrev pub push_effect : Regs → ℕ → Effect
+push_effect regs value = push_onto (registers_only regs) value
 
 -- a jump where the test holds
 abbrev pub jump_effect : Bool → Regs → ℕ → Effect
@@ -84,11 +87,21 @@ entry_effect regs target =
     let pushed = push_effect regs (register regs 15) in
     record pushed { regs = with_register pushed.regs 15 target }
 
+-- the longword that SP names is popped: the registers after it, and the longword
+unfoldable pub pop : Regs → Program (Regs × ℕ)
+pop regs = do
+  value ← number_at 4 (register regs 14)
+  Gives (with_register regs 14 (past (register regs 14) 4), value)
+
+-- the longword that SP names is popped into a register
+unfoldable pub pop_into : Regs → ℕ → Program Regs
+pop_into regs reg = do
+  popped ← pop regs
+  Gives (with_register popped.0 reg popped.1)
+
 -- the return from a subroutine: PC is popped
 unfoldable pub subroutine_return : Regs → Program Effect
-subroutine_return regs = do
-  target ← number_at 4 (register regs 14)
-  Gives (registers_only (with_register (with_register regs 14 (past (register regs 14) 4)) 15 target))
+subroutine_return regs = pop_into regs 15 >>= λ after. Gives (registers_only after)
 
 -- every bit turned
 abbrev pub complement : ℕ → ℕ

@@ -1,7 +1,8 @@
 -- One instruction of a process, over what its memory answers.
-use Rattle.std.specs.Prelude.{ℕ, zero, suc, List, [], ◌∷◌, ◌++◌, length, ℤ, Option, Some, None, Result, Ok, Err}
+use Rattle.std.specs.Prelude.{◌≡◌, ℕ, zero, suc, List, [], ◌∷◌, ◌++◌, length, ℤ, Option, Some, None, Result, Ok, Err}
 use Rattle.vm_facts.specs.declared.regs.Regs.{Regs}
-use Rattle.vm_facts.specs.Answers.{ByteWrite}
+use Rattle.vm_facts.specs.Answers.{Answers, ByteWrite}
+use Rattle.vm_facts.specs.declared.memory.MayWrite.TheVariants as tests
 use Rattle.vax_code.specs.declared.instr.Instr.{Instr}
 use Rattle.vax_code.specs.declared.instr.Decoded.{Decoded}
 use Rattle.vax_code.specs.declared.instr.Decoded.TheVariants as decodings
@@ -42,6 +43,11 @@ evaluations row regs instr = do
 unfoldable pub write_tests : List ByteWrite → Program (Unit {0})
 write_tests [] = Gives tt
 write_tests (write ∷ writes) = Tests write.address (write_tests writes)
+
+-- all these bytes may be written
+abbrev pub MayAll : Answers → List ByteWrite → Type 0
+MayAll memory [] = Unit {0}
+MayAll memory (write ∷ writes) = (memory.may_write write.address ≡ tests.May) × MayAll memory writes
 
 -- an effect, once all the bytes that it writes may be written
 unfoldable pub tested_effect : Effect → Program Effect

@@ -2,6 +2,8 @@ pub mod Program
 pub mod Laws
 pub mod Operands
 pub mod Effects
+pub mod Bytes
+pub mod Frames
 pub mod Computation
 pub mod Instruction
 pub mod Outcomes

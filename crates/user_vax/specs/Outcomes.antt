@@ -1,12 +1,12 @@
 -- What the code comes to before it writes, and the effect that it stands for.
-use Rattle.std.specs.Prelude.{◌≡◌, ℕ, ◌≤◌, ◌⊎◌, List, [], ◌∷◌, take, Result, Ok, Err}
+use Rattle.std.specs.Prelude.{◌≡◌, ℕ, ◌≤◌, ◌⊎◌, List, take, Result, Ok, Err}
 use Rattle.std.specs.List.{All, flat_map}
 use Rattle.vm_facts.specs.Answers.{Answers, ByteWrite}
-use Rattle.vm_facts.specs.declared.memory.MayWrite.TheVariants as tests
 use Rattle.user_vax.specs.declared.refused.Refused.{Refused}
 use Rattle.user_vax.specs.declared.outcome.Write.{Write}
 use Rattle.user_vax.specs.declared.outcome.Outcome.{Outcome}
 use Rattle.user_vax.specs.Effects.{Effect, bytes_at}
+use Rattle.user_vax.specs.Instruction.{MayAll}
 
 -- 1, 2 or 4 bytes
 abbrev pub IsSize : ℕ → Type 0
@@ -19,10 +19,6 @@ bytes_of write = bytes_at write.size write.address write.value
 -- the bytes of some numbers, in the order of writing
 abbrev pub all_bytes : List Write → List ByteWrite
 all_bytes writes = flat_map bytes_of writes
-
-abbrev pub MayAll : Answers → List ByteWrite → Type 0
-MayAll memory [] = Unit {0}
-MayAll memory (write ∷ writes) = (memory.may_write write.address ≡ tests.May) × MayAll memory writes
 
 -- a number of 1, 2 or 4 bytes, each of which may be written
 pub record IsReady (memory : Answers) (write : Write) : Type 0 where

@@ -7,6 +7,7 @@ ghost use Rattle.user_vax.specs.Outcomes.{IsSize, IsReady, bytes_of, all_bytes};
 
 use crate::outcome::Write;
 use crate::refused::{Refused, SIGBUS, SIGSEGV};
+use byteorder::{ByteOrder, LittleEndian};
 use vm_facts::{MayWrite, Memory};
 
 /// The byte may be written.
@@ -77,7 +78,9 @@ fn put_write<M: Memory>(memory: &mut M, write: &Write)
     ensures tests { (M.answers memory.new).may_write ≡ (M.answers memory.old).may_write }
 {
     let address = write.address;
-    let [a, b, c, d] = write.value.to_le_bytes();
+    let mut bytes = [0u8; 4];
+    LittleEndian::write_u32(&mut bytes, write.value);
+    let [a, b, c, d] = bytes;
     match write.size {
         1 => put_byte(memory, address, a),
         2 => {

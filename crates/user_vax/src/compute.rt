@@ -1,18 +1,22 @@
 ghost use Rattle.std.specs.Prelude.{◌≡◌, ◌^◌, ◌%◌, ◌-◌, ℕ, [], Some, IfOk};
 ghost use Rattle.std.specs.Int.{w16, cast_signed};
+ghost use Rattle.vm_facts.specs.Answers.{Answers};
 ghost use Rattle.user_vax.specs.Program.{run};
 ghost use Rattle.user_vax.specs.Computation.{computation};
-ghost use Rattle.user_vax.specs.Effects.{division, subroutine_return, complement};
+ghost use Rattle.user_vax.specs.Effects.{division, complement};
 ghost use Rattle.user_vax.specs.Operands.{IsPlace};
 ghost use Rattle.user_vax.specs.Outcomes.{IsOutcome, effect_of, ComesTo};
 
-use crate::effect::{count, enter, jump_if, move_to, push, store_result};
+use crate::byte::{decrement_byte, increment_byte, low_byte, narrow, widen};
+use crate::calling::call_procedure;
+use crate::effect::{count, enter, jump_if, move_to, push, store_result, test_to};
 use crate::operand::{Evaluated, Place};
 use crate::outcome::{Outcome, registers_only};
-use crate::reading::read_long;
-use crate::refused::{Refused, SIGFPE, SIGILL};
+use crate::refused::{Refused, SIGFPE};
 use crate::registers::{with_codes, with_move_codes, with_register, with_test_codes};
-use vax_alu::{add, compare, div, mul, sub};
+use crate::returning::return_from_procedure;
+use crate::stack::return_from_subroutine;
+use vax_alu::{add, compare, div, mul, neg, shift, sub};
 use vax_code::Name;
 use vm_facts::{Memory, Regs};
 
@@ -34,7 +38,8 @@ pub fn compute<M: Memory>(
 {
     let outcome = match name {
         Name::Nop => registers_only(regs),
-        Name::Rsb => return leave(memory, regs),
+        Name::Ret => return return_from_procedure(memory, regs),
+        Name::Rsb => return return_from_subroutine(memory, regs),
         Name::Bsbb | Name::Bsbw | Name::Jsb => enter(regs, a.value),
         Name::Brb | Name::Brw | Name::Jmp => registers_only(with_register(regs, 15, a.value)),
         Name::Bneq => jump_if(!regs.z, regs, a.value),
@@ -52,9 +57,12 @@ pub fn compute<M: Memory>(
         Name::Movb => move_to(regs, 1, b.place, a.value),
         Name::Movw => move_to(regs, 2, b.place, a.value),
         Name::Movl | Name::Movzbl | Name::Movab | Name::Moval => move_to(regs, 4, b.place, a.value),
+        Name::Cmpb => registers_only(with_codes(regs, compare(a.value, b.value, 1))),
+        Name::Cmpw => registers_only(with_codes(regs, compare(a.value, b.value, 2))),
         Name::Cmpl => registers_only(with_codes(regs, compare(a.value, b.value, 4))),
         Name::Clrb => move_to(regs, 1, a.place, 0),
         Name::Clrl => move_to(regs, 4, a.place, 0),
+        Name::Tstb => registers_only(with_test_codes(regs, 1, a.value)),
         Name::Tstl => registers_only(with_test_codes(regs, 4, a.value)),
         Name::Pushab | Name::Pushal | Name::Pushl => push(
             with_move_codes(regs, 4, a.value),
@@ -67,8 +75,17 @@ pub fn compute<M: Memory>(
         Name::Subl3 => store_result(regs, 4, c.place, sub(b.value, a.value)),
         Name::Mull2 => store_result(regs, 4, b.place, mul(b.value, a.value)),
         Name::Mull3 => store_result(regs, 4, c.place, mul(b.value, a.value)),
-        Name::Divl2 => return divide(memory, regs, b.place, b.value, a.value),
-        Name::Divl3 => return divide(memory, regs, c.place, b.value, a.value),
+        Name::Divl2 => return divide(regs, b.place, b.value, a.value),
+        Name::Divl3 => return divide(regs, c.place, b.value, a.value),
+        Name::Ashl => store_result(
+            regs,
+            4,
+            c.place,
+            shift(b.value, low_byte(a.value).cast_signed()),
+        ),
+        Name::Mnegl => store_result(regs, 4, b.place, neg(a.value)),
+        Name::Cvtbl => test_to(regs, b.place, widen(a.value)),
+        Name::Cvtlb => store_result(regs, 1, b.place, narrow(a.value)),
         Name::Bisl2 => move_to(regs, 4, b.place, b.value | a.value),
         Name::Bisl3 => move_to(regs, 4, c.place, b.value | a.value),
         Name::Bicl2 => move_to(regs, 4, b.place, b.value & complement(a.value)),
@@ -77,8 +94,15 @@ pub fn compute<M: Memory>(
         Name::Xorl3 => move_to(regs, 4, c.place, b.value ^ a.value),
         Name::Mcoml => move_to(regs, 4, b.place, complement(a.value)),
         Name::Bitl => registers_only(with_move_codes(regs, 4, a.value & b.value)),
+        Name::Incb => store_result(regs, 1, a.place, increment_byte(a.value)),
         Name::Incl => store_result(regs, 4, a.place, add(a.value, 1)),
+        Name::Decb => store_result(regs, 1, a.place, decrement_byte(a.value)),
         Name::Decl => store_result(regs, 4, a.place, sub(a.value, 1)),
+        Name::Callg => return call_procedure(memory, registers_only(regs), false, a.value, b.value),
+        Name::Calls => {
+            let before = push(regs, a.value);
+            return call_procedure(memory, before, true, before.regs.r[14], b.value);
+        }
         Name::Blbs => jump_if(a.value % 2 == 1, regs, b.value),
         Name::Blbc => jump_if(a.value % 2 == 0, regs, b.value),
         Name::Aoblss => {
@@ -99,18 +123,6 @@ pub fn compute<M: Memory>(
             let sum = sub(a.value, 1);
             count(regs, a.place, sum, !(sum.n || sum.z), b.value)
         }
-        Name::Ret
-        | Name::Ashl
-        | Name::Cmpb
-        | Name::Cmpw
-        | Name::Tstb
-        | Name::Incb
-        | Name::Decb
-        | Name::Cvtbl
-        | Name::Cvtlb
-        | Name::Callg
-        | Name::Calls
-        | Name::Mnegl => return Err(Refused::Signal(SIGILL)),
     };
     Ok(outcome)
 }
@@ -124,33 +136,15 @@ fn complement(word: u32) -> u32
 
 /// A quotient to a place.
 #[tactic(auto, unfolding(crate::specs::Effects::division))]
-fn divide<M: Memory>(
-    memory: &M,
-    regs: Regs,
-    place: Place,
-    dividend: u32,
-    divisor: u32,
-) -> Result<Outcome, Refused>
+fn divide(regs: Regs, place: Place, dividend: u32, divisor: u32) -> Result<Outcome, Refused>
     requires { IsPlace place }
-    ensures value { ComesTo result (run (M.answers memory.now) (division regs place dividend divisor)) }
+    ensures value { (memory : Answers) → ComesTo result (run memory (division regs place dividend divisor)) }
     ensures sound { IfOk result IsOutcome }
 {
-    let _ = memory;
     match div(dividend, divisor) {
         None => Err(Refused::Signal(SIGFPE)),
         Some(sum) => Ok(store_result(regs, 4, place, sum)),
     }
-}
-
-/// The return from a subroutine.
-#[tactic(auto, using(crate::proofs::Runs::run_bind), unfolding(crate::specs::Effects::subroutine_return))]
-fn leave<M: Memory>(memory: &M, regs: Regs) -> Result<Outcome, Refused>
-    ensures value { ComesTo result (run (M.answers memory.now) (subroutine_return regs)) }
-    ensures sound { IfOk result IsOutcome }
-{
-    let target = read_long(memory, regs.r[14])?;
-    let popped = with_register(regs, 14, regs.r[14].wrapping_add(4));
-    Ok(registers_only(with_register(popped, 15, target)))
 }
 
 /// A system call, whose number is a signed word.

@@ -1,11 +1,11 @@
 ghost use Rattle.std.specs.Prelude.{◌≡◌};
-ghost use Rattle.user_vax.specs.Effects.{store_effect, move_effect, result_effect, jump_effect, count_effect, entry_effect, push_effect};
+ghost use Rattle.user_vax.specs.Effects.{with_test_codes, store_effect, move_effect, result_effect, jump_effect, count_effect, entry_effect, push_effect};
 ghost use Rattle.user_vax.specs.Operands.{IsPlace};
 ghost use Rattle.user_vax.specs.Outcomes.{IsSize, IsOutcome, effect_of};
 
 use crate::operand::Place;
 use crate::outcome::{Outcome, Write, one_write, registers_only};
-use crate::registers::{with_codes, with_move_codes, with_register};
+use crate::registers::{with_codes, with_move_codes, with_register, with_test_codes};
 use vax_alu::Sum;
 use vm_facts::Regs;
 
@@ -47,6 +47,15 @@ pub fn move_to(regs: Regs, size: u8, place: Place, value: u32) -> Outcome
     ensures sound { IsOutcome result }
 {
     store(with_move_codes(regs, size, value), size, place, value)
+}
+
+/// A number with the codes of a test to a place.
+pub fn test_to(regs: Regs, place: Place, value: u32) -> Outcome
+    requires { IsPlace place }
+    ensures effect { effect_of result ≡ store_effect (with_test_codes regs 4 value) 4 place value }
+    ensures sound { IsOutcome result }
+{
+    store(with_test_codes(regs, 4, value), 4, place, value)
 }
 
 /// A result with its codes to a place.
@@ -96,18 +105,12 @@ pub fn enter(regs: Regs, target: u32) -> Outcome
 }
 
 /// A longword to the stack.
-#[tactic(auto, unfolding(crate::specs::Effects::push_effect))]
 pub fn push(regs: Regs, value: u32) -> Outcome
     ensures effect { effect_of result ≡ push_effect regs value }
     ensures sound { IsOutcome result }
+    ensures one { result.count ≡ 1 }
 {
-    let address = regs.r[14].wrapping_sub(4);
-    one_write(
-        with_register(regs, 14, address),
-        Write {
-            address,
-            value,
-            size: 4,
-        },
-    )
+    let mut outcome = registers_only(regs);
+    outcome.push(value);
+    outcome
 }

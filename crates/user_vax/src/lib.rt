@@ -4,6 +4,8 @@
 //! `step` either carries out the whole instruction or changes nothing.
 #![tactic(auto)]
 
+mod byte;
+mod calling;
 mod commit;
 mod compute;
 mod effect;
@@ -13,9 +15,11 @@ mod outcome;
 mod reading;
 mod refused;
 mod registers;
+mod returning;
+mod stack;
 mod stepping;
 
-pub use laws::{first_refusal_decides, missing_bytes_only_stop};
+pub use laws::{first_refusal_decides, missing_bytes_only_stop, writes_are_allowed};
 pub use reading::{read_byte, read_long};
 pub use refused::{Refused, SIGBUS, SIGFPE, SIGILL, SIGSEGV};
 pub use stepping::{Stepped, step};

@@ -1,5 +1,5 @@
-ghost use Rattle.std.specs.Prelude.{◌∷◌, [], None, ◌≡◌, ◌≤◌, take};
-ghost use Rattle.user_vax.specs.Effects.{bytes_at, registers_only};
+ghost use Rattle.std.specs.Prelude.{◌∷◌, [], None, ◌≡◌, ◌<◌, ◌+◌, ◌≤◌, take};
+ghost use Rattle.user_vax.specs.Effects.{bytes_at, registers_only, push_onto};
 ghost use Rattle.user_vax.specs.Operands.{with_register};
 ghost use Rattle.user_vax.specs.Outcomes.{IsSize, IsOutcome, effect_of, writes_in};
 
@@ -42,6 +42,25 @@ impl Outcome {
         &self.writes[..self.count as usize]
     }
 
+    /// Pushes one more longword.
+    #[tactic(auto, using(crate::proofs::Pushing::all_bytes_more, crate::proofs::Pushing::sizes_more), unfolding(crate::specs::Effects::push_onto))]
+    pub fn push(&mut self, value: u32)
+        requires room { self.old.count < 18 }
+        requires sound { IsOutcome self.old }
+        ensures effect { effect_of self.new ≡ push_onto (effect_of self.old) value }
+        ensures sound { IsOutcome self.new }
+        ensures count { self.new.count ≡ self.old.count + 1 }
+    {
+        let address = self.regs.r[14].wrapping_sub(4);
+        self.writes[self.count as usize] = Write {
+            address,
+            value,
+            size: 4,
+        };
+        self.count += 1;
+        self.regs.r[14] = address;
+    }
+
     /// The same with PC at a target.
     pub fn jumping(self, target: u32) -> Outcome
         requires { IsOutcome self }
@@ -59,6 +78,7 @@ impl Outcome {
 pub fn registers_only(regs: Regs) -> Outcome
     ensures effect { effect_of result ≡ registers_only regs }
     ensures sound { IsOutcome result }
+    ensures none { result.count ≡ 0 }
 {
     Outcome {
         regs,

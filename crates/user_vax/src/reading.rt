@@ -3,6 +3,7 @@ ghost use Rattle.user_vax.specs.Program.{run, Reads, Gives};
 ghost use Rattle.user_vax.specs.Operands.{number_at};
 
 use crate::refused::{Refused, SIGSEGV};
+use byteorder::{ByteOrder, LittleEndian};
 use vm_facts::{ByteRead, Memory};
 
 /// The byte at an address.
@@ -35,7 +36,7 @@ pub fn read_word<M: Memory>(memory: &M, address: u32) -> Result<u32, Refused>
 {
     let low = read_byte(memory, address)?;
     let high = read_byte(memory, address.wrapping_add(1))?;
-    Ok(u32::from(u16::from_le_bytes([low, high])))
+    Ok(u32::from(LittleEndian::read_u16(&[low, high])))
 }
 
 /// The little-endian longword at an address, lowest address first.
@@ -47,7 +48,7 @@ pub fn read_long<M: Memory>(memory: &M, address: u32) -> Result<u32, Refused>
     let b = read_byte(memory, address.wrapping_add(1))?;
     let c = read_byte(memory, address.wrapping_add(2))?;
     let d = read_byte(memory, address.wrapping_add(3))?;
-    Ok(u32::from_le_bytes([a, b, c, d]))
+    Ok(LittleEndian::read_u32(&[a, b, c, d]))
 }
 
 /// The little-endian number of 1, 2 or 4 bytes at an address.
