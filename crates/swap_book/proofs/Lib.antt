@@ -1,0 +1,5 @@
+pub mod OwnerLaws
+pub mod HoldingLaws
+pub mod BookLaws
+pub mod PlaceLaws
+pub mod PlacingLaws

@@ -1,0 +1,1 @@
+use Rattle.swap_book.proofs.SwapBook.cut.Goals as goal
