@@ -1,8 +1,8 @@
 -- What is true of a book's holdings stays true as pieces are added at their places and given back.
-use Rattle.std.proofs.Common.{◌≡◌, ℕ, zero, suc, ◌+◌, ◌-◌, ◌*◌, ◌/◌, ◌%◌, ◌<◌, ◌≤◌, max, Bool, true, false, cond, not, List, [], ◌∷◌, ◌++◌, length, get_or, take, map, Option, Some, None, refl, sym, ap, ap₂, ◌∙◌, subst, arith, inl, inr, ◌⊎◌}
-use Rattle.std.specs.Prelude.{filter, remove, slice_get, All, AllPairs}
-use Rattle.std.proofs.lemmas.Bool.{cases_Bool, cases_lt, cases_eq, false≢true, true≢false, not-true, not_from_false, false_from_ne_true, cond-true, cond-false}
-use Rattle.std.proofs.lemmas.List.{append-nil, map-append, length-map, length-append, take_at}
+use Rattle.std.proofs.Common.{◌≡◌, ℕ, ◌+◌, ◌-◌, ◌%◌, ◌<◌, max, Bool, true, false, cond, not, List, [], ◌∷◌, ◌++◌, length, get_or, take, map, Some, refl, sym, ap, ◌∙◌, subst, arith, inl, inr}
+use Rattle.std.specs.Prelude.{remove, All}
+use Rattle.std.proofs.lemmas.Bool.{cases_Bool, cases_lt, cases_eq, false≢true, not-true, not_from_false, cond-true, cond-false}
+use Rattle.std.proofs.lemmas.List.{append-nil, map-append, length-append, take_at}
 use Rattle.std.proofs.lemmas.List.Edits.{length-remove, get_or-remove_below, get_or-remove_above}
 use Rattle.std.proofs.lemmas.List.Elements.{All-push, filter-append}
 use Rattle.std.proofs.lemmas.List.Quantifiers.{all_pairs_push, all_pairs_remove}
@@ -13,7 +13,7 @@ use Rattle.swap_book.specs.Owners.{same_owner, pieces_of}
 use Rattle.swap_book.specs.Holdings.{is_in, is_held, fit, of_owner, lengths}
 use Rattle.swap_book.specs.Book.{IsPiece, IsApart, IsBook}
 use Rattle.swap_book.proofs.OwnerLaws.{same_owner_gives, same_owner_itself, front_of, no_pieces}
-use Rattle.swap_book.proofs.HoldingLaws.{in_from, in_low, in_high, no_piece, Holder, holder_of, held_from, filter-remove_other, filter-remove_last}
+use Rattle.swap_book.proofs.HoldingLaws.{in_from, in_low, in_high, no_piece, holder_of, held_from, filter-remove_other, filter-remove_last}
 
 pub empty_is_book : (size : ℕ) → IsBook size []
 empty_is_book size = record {

@@ -3,3 +3,5 @@ pub mod HoldingLaws
 pub mod BookLaws
 pub mod PlaceLaws
 pub mod PlacingLaws
+pub mod GrowthLaws
+pub mod KeptLaws

@@ -1,15 +1,15 @@
 -- Places don't meet: two pages have no block in common, and each page lies in its own owner's holding.
-use Rattle.std.proofs.Common.{◌≡◌, ℕ, zero, suc, ◌+◌, ◌-◌, ◌*◌, ◌/◌, ◌%◌, ◌<◌, ◌≤◌, Bool, true, false, cond, nat_lt, List, [], ◌∷◌, length, get_or, map, Option, Some, None, refl, sym, ap, ap₂, ◌∙◌, subst, arith, inl, inr, ◌⊎◌}
-use Rattle.std.specs.Prelude.{slice_get, IsSome, option_map, AllPairs}
-use Rattle.std.proofs.lemmas.Bool.{cases_Bool, cases_lt, cases_eq, cases_order, lt-ltb, ltb-true, cond-true, cond-false, false≢true}
+use Rattle.std.proofs.Common.{◌≡◌, ℕ, ◌+◌, ◌*◌, ◌%◌, ◌<◌, ◌≤◌, true, false, nat_lt, List, get_or, Option, Some, None, refl, sym, ap, ◌∙◌, subst, arith, inl, inr, ◌⊎◌}
+use Rattle.std.specs.Prelude.{slice_get, IsSome, option_map}
+use Rattle.std.proofs.lemmas.Bool.{cases_Bool, cases_order, lt-ltb, ltb-true, cond-true, cond-false, false≢true}
 use Rattle.std.proofs.lemmas.Option.{slice_get-map, slice_get_within, get_or_from_slice_get}
 use Rattle.swap_book.specs.declared.Owner.{Owner}
 use Rattle.swap_book.specs.declared.Held.{Held}
 use Rattle.swap_book.specs.Owners.{same_owner, pieces_of, MayHold, spot_of}
 use Rattle.swap_book.specs.Holdings.{of_owner, lengths, block_at, block_in}
 use Rattle.swap_book.specs.Book.{IsPiece, IsApart, IsBook, IsPlace, ArePlacesApart}
-use Rattle.swap_book.proofs.OwnerLaws.{same_owner_gives, same_owner_itself, spot_of_even, spot_of_same, SpotFits, spot_fits}
-use Rattle.swap_book.proofs.HoldingLaws.{From, filter_from, FromBoth, filter_both, some_is}
+use Rattle.swap_book.proofs.OwnerLaws.{same_owner_gives, same_owner_itself, spot_of_even, spot_of_same, spot_fits}
+use Rattle.swap_book.proofs.HoldingLaws.{filter_from, filter_both, some_is}
 
 -- an owner's piece stands in the holdings
 pub record Own (size : ℕ) (hs : List Held) (owner : Owner) (h : Held) : Type 0 where

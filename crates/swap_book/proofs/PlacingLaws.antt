@@ -1,5 +1,5 @@
 -- Finding the places of pieces, and giving them back: the map and the holdings go on agreeing.
-use Rattle.std.proofs.Common.{◌≡◌, ℕ, zero, suc, ◌+◌, ◌-◌, ◌%◌, ◌<◌, ◌≤◌, Bool, true, false, not, ◌||◌, List, [], ◌∷◌, ◌++◌, length, get_or, take, drop, map, Option, Some, None, Result, Ok, Err, refl, sym, ap, ap₂, ◌∙◌, subst, arith, inl, inr, ◌⊎◌}
+use Rattle.std.proofs.Common.{◌≡◌, ℕ, zero, suc, ◌+◌, ◌%◌, ◌<◌, ◌≤◌, Bool, true, false, not, ◌||◌, List, [], ◌∷◌, ◌++◌, length, get_or, take, drop, map, Option, Some, None, Result, Ok, Err, refl, sym, ap, ◌∙◌, subst, arith, inl, inr, ◌⊎◌}
 use Rattle.std.specs.Prelude.{remove, slice_get, IfNone}
 use Rattle.std.proofs.lemmas.Bool.{cases_lt, cond-true}
 use Rattle.std.proofs.lemmas.List.{length_push, length-map, length-take, take-append-le, take_more, drop_more, drop_all}
@@ -9,7 +9,7 @@ use Rattle.swap_dmap.proofs.PieceLaws.{pieces_front}
 use Rattle.std.proofs.lemmas.List.Edits.{length-remove}
 use Rattle.resource_map.specs.Blocks.{Blocks, is_free, marked, taken, freed}
 use Rattle.resource_map.specs.Room.{lowest_room}
-use Rattle.resource_map.proofs.RoomLaws.{HasRoom, IsLowestRoom, lowest_room_gives, lowest_room_same}
+use Rattle.resource_map.proofs.RoomLaws.{IsLowestRoom, lowest_room_gives, lowest_room_same}
 use Rattle.resource_map.proofs.BlockLaws.{length-marked, is_free-marked_in, is_free-marked_out}
 use Rattle.swap_book.specs.declared.Owner.{Owner}
 use Rattle.swap_book.specs.declared.Owner.TheVariants.{Data, Stack, U, Text}

@@ -1,5 +1,5 @@
 -- The book of who holds which blocks, as its callers see it, and what is true of its holdings.
-use Rattle.std.specs.Prelude.{◌≡◌, ℕ, zero, ◌+◌, ◌-◌, ◌*◌, ◌/◌, ◌%◌, ◌<◌, ◌≤◌, Bool, true, false, ◌⊎◌, List, [], length, All, AllPairs, Any, Option, Some, IsSome, Result, Ok, Err}
+use Rattle.std.specs.Prelude.{◌≡◌, ℕ, ◌+◌, ◌-◌, ◌*◌, ◌/◌, ◌%◌, ◌<◌, ◌≤◌, ◌⊎◌, List, [], All, AllPairs, Any, Some, IsSome, Result, Ok, Err}
 use Rattle.swap_book.specs.declared.Owner.{Owner}
 use Rattle.swap_book.specs.declared.Owner.TheVariants.{Data, Stack, U, Text}
 use Rattle.swap_book.specs.declared.Held.{Held}

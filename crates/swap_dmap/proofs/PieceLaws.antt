@@ -32,14 +32,14 @@ pieces_enough blocks =
     let s = chunk_start_least blocks in
     let passes = lowest_passes (λ n. nat_le blocks (chunk_start n)) blocks (le-leb blocks (chunk_start blocks) (omega arith)) in
     subst (λ (n : ℕ). blocks ≤ chunk_start n) (sym (length-pieces blocks))
-      (leb-true blocks (chunk_start (lowest (λ n. nat_le blocks (chunk_start n)) blocks)) passes)
+    (leb-true blocks (chunk_start (lowest (λ n. nat_le blocks (chunk_start n)) blocks)) passes)
 
 -- as many chunks as are before chunk k are the pieces of the blocks before chunk k
 pub pieces_at_start : (k : ℕ) → pieces (chunk_start k) ≡ map chunk (range_with_len 0 k)
 unfolding pieces
 pieces_at_start k =
     ap (λ (n : ℕ). map chunk (range_with_len 0 n))
-      (sym (length-pieces (chunk_start k)) ∙ sym (counted_is (chunk_start k) k (omega arith) (λ j lt. chunk_start_below j k lt)))
+    (sym (length-pieces (chunk_start k)) ∙ sym (counted_is (chunk_start k) k (omega arith) (λ j lt. chunk_start_below j k lt)))
 
 pub pieces_none : pieces 0 ≡ []
 unfolding chunk_start
@@ -97,18 +97,18 @@ spot_within v true = omega (arith, chunk_least (chunk_reached (2 * v)))
 pub spot_chunk : (v blocks : ℕ) (reversed : Bool) → 2 * v < blocks → (spot v reversed).0 < length (pieces blocks)
 unfolding spot
 spot_chunk v blocks reversed lt = elim (cases_lt (chunk_reached (2 * v)) (length (pieces blocks))) [
-    inl within ↦ within
+  | inl within ↦ within
   | inr past ↦
-    let r = (reaches v).total in
-    let e = pieces_enough blocks in
-    absurd (beyond (length (pieces blocks)) (chunk_reached (2 * v)) past e r)
-  ]
+      let r = (reaches v).total in
+      let e = pieces_enough blocks in
+      absurd (beyond (length (pieces blocks)) (chunk_reached (2 * v)) past e r)
+]
   where
     beyond : (n i : ℕ) → n ≤ i → blocks ≤ chunk_start n → 2 * v - chunk_start i + chunk_start i ≡ 2 * v → ⊥
     beyond n i le enough total = elim (cases_eq n i) [
-        inl same ↦ let s = ap chunk_start same in omega arith
+      | inl same ↦ let s = ap chunk_start same in omega arith
       | inr less ↦ let s = chunk_start_below n i (omega arith) in omega arith
-      ]
+    ]
 
 pub spot_same : (v w : ℕ) (reversed : Bool) → (spot v reversed).0 ≡ (spot w reversed).0 → (spot v reversed).1 ≡ (spot w reversed).1 → v ≡ w
 unfolding spot counted_from
@@ -143,6 +143,7 @@ slice_get-text_pieces_rest blocks i = back (blocks / 1024) i (last_piece (blocks
   where
     one_more : (n i : ℕ) → suc n + i ≡ suc (n + i)
     one_more n i = omega arith
+
     back : (n i : ℕ) (rest : List ℕ) → slice_get (replicate n 1024 ++ rest) (n + i) ≡ slice_get rest i
     back zero i rest = ap (slice_get rest) (omega arith)
     back (suc n) i rest = ap (slice_get (1024 ∷ (replicate n 1024 ++ rest))) (one_more n i) ∙ back n i rest

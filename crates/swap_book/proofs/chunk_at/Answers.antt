@@ -1,4 +1,4 @@
-use Rattle.std.proofs.Common.{◌≡◌, ℕ, Some, arith, sym, ap, ◌∙◌}
+use Rattle.std.proofs.Common.{ℕ, Some, arith, sym, ap, ◌∙◌}
 use Rattle.std.proofs.lemmas.Option.{slice_get_past}
 use Rattle.swap_dmap.specs.Chunks.{pieces}
 use Rattle.swap_dmap.proofs.PieceLaws.{slice_get-pieces}

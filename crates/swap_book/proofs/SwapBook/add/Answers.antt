@@ -1,6 +1,5 @@
-use Rattle.std.proofs.Common.{◌≡◌, ℕ, ◌+◌, ◌<◌, ◌≤◌, false, List, [], ◌∷◌, ◌++◌, length, Option, Some, None, Result, Ok, Err, sym, ap, ap₂, ◌∙◌, subst, refl}
-use Rattle.resource_map.specs.Blocks.{Blocks, is_free, taken}
-use Rattle.resource_map.specs.Room.{lowest_room}
+use Rattle.std.proofs.Common.{◌≡◌, ℕ, false, List, [], ◌∷◌, ◌++◌, length, Some, Result, Ok, Err, sym, ap, ◌∙◌, subst}
+use Rattle.resource_map.specs.Blocks.{Blocks, taken}
 use Rattle.resource_map.proofs.BlockLaws.{length-marked}
 use Rattle.swap_book.specs.declared.Held.{Held}
 use Rattle.swap_book.specs.Owners.{pieces_of}

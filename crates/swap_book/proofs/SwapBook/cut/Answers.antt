@@ -1,1 +1,0 @@
-use Rattle.swap_book.proofs.SwapBook.cut.Goals as goal

@@ -1,13 +1,12 @@
-use Rattle.std.proofs.Common.{◌≡◌, ℕ, ◌+◌, ◌<◌, ◌≤◌, List, [], ◌∷◌, ◌++◌, length, take, drop, Option, Some, None, Result, Ok, Err, Bool, true, false, sym, ap, ap₂, ◌∙◌, subst, refl, arith}
-use Rattle.std.specs.Prelude.{slice_get}
+use Rattle.std.proofs.Common.{ℕ, ◌+◌, List, [], ◌∷◌, ◌++◌, length, take, drop, Bool, sym, ap, ◌∙◌, subst, refl, arith}
 use Rattle.std.proofs.lemmas.List.{take_all}
 use Rattle.std.proofs.lemmas.Option.{slice_get_within}
 use Rattle.swap_book.specs.declared.Held.{Held}
 use Rattle.swap_book.specs.Owners.{pieces_of}
-use Rattle.swap_book.specs.Holdings.{of_owner, fit, lengths}
-use Rattle.swap_book.specs.Placing.{Wanted, wanted, placed_at, place_all, more_pieces, Adds}
-use Rattle.swap_book.specs.Book.{Book, CanGrow, IsBook}
-use Rattle.swap_book.proofs.OwnerLaws.{IsWhole, pieces_whole}
+use Rattle.swap_book.specs.Holdings.{of_owner, fit}
+use Rattle.swap_book.specs.Placing.{Wanted, wanted, place_all, Adds}
+use Rattle.swap_book.specs.Book.{Book, IsBook}
+use Rattle.swap_book.proofs.OwnerLaws.{pieces_whole}
 use Rattle.swap_book.proofs.PlacingLaws.{held_front, whole_pages, take_next, next_of, place_next, place_refused, place_done, placed_gives, front_kept, lengths_grown}
 use Rattle.swap_book.proofs.SwapBook.find_all.Goals as goal
 

@@ -1,4 +1,4 @@
-use Rattle.std.proofs.Common.{◌≡◌, ℕ, ◌<◌, ◌≤◌, List, length, sym, ap, ap₂, ◌∙◌, subst}
+use Rattle.std.proofs.Common.{ℕ, ◌<◌, ◌≤◌, List, length, sym, ap, ap₂, ◌∙◌, subst}
 use Rattle.swap_book.specs.declared.Held.{Held}
 use Rattle.swap_book.specs.Holdings.{of_owner, kept, IsLastOf}
 use Rattle.swap_book.specs.Book.{Book}

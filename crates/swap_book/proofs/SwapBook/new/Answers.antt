@@ -1,6 +1,6 @@
-use Rattle.std.proofs.Common.{◌≡◌, ℕ, ◌<◌, Bool, true, false, not, List, length, replicate, refl, sym, ap, ◌∙◌, subst, arith}
+use Rattle.std.proofs.Common.{◌≡◌, Bool, true, false, not, List, length, sym, ap, ◌∙◌, subst, arith}
 use Rattle.std.proofs.lemmas.List.{length-replicate, get_or-replicate}
-use Rattle.resource_map.specs.Blocks.{Blocks, is_free, all_free}
+use Rattle.resource_map.specs.Blocks.{Blocks, is_free}
 use Rattle.swap_book.specs.declared.Held.{Held}
 use Rattle.swap_book.specs.Holdings.{is_held}
 use Rattle.swap_book.specs.Book.{IsBook}
