@@ -1,5 +1,6 @@
 -- A resource map as its callers see it: a set of free blocks.
-use Rattle.std.specs.Prelude.{ℕ, ◌+◌, ◌-◌, Bool, true, false, List, ◌++◌, take, drop, replicate, slice_index_or, Option, Some, None}
+use Rattle.std.specs.Prelude.{ℕ, ◌+◌, ◌-◌, Bool, true, false, List, ◌++◌, length, take, drop, replicate, slice_index_or, Option, Some, None}
+use Rattle.resource_map.specs.Room.{lowest_room}
 
 -- for each block whether it is free, and how many ranges may still be freed
 pub record Blocks : Type 0 where
@@ -9,6 +10,10 @@ pub record Blocks : Type 0 where
 -- block b is there and free
 abbrev pub is_free : List Bool → ℕ → Bool
 is_free free b = slice_index_or free b false
+
+-- the lowest start from which n blocks of one unit are free, where there is one
+abbrev pub lowest_start : Blocks → ℕ → Option ℕ
+lowest_start blocks n = lowest_room (is_free blocks.free) (length blocks.free) n
 
 -- the n blocks from start on are made free, or taken
 unfoldable pub marked : List Bool → ℕ → ℕ → Bool → List Bool

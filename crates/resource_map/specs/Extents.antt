@@ -54,6 +54,10 @@ joins_left es at e = nat_lt 0 at && joins (slice_index_or es (at - 1) e) e
 abbrev pub joins_right : List Extent → ℕ → Extent → Bool
 joins_right es at e = nat_lt at (length es) && joins e (slice_index_or es at e)
 
+-- the extent is put in at its place, one with the neighbours that it joins
+abbrev pub given_back : List Extent → ℕ → Extent → List Extent
+given_back es at e = put_in (joins_left es at e) (joins_right es at e) es at e
+
 -- the first n blocks of an extent are taken; nothing is left of one that has no more
 abbrev pub cut_front : List Extent → ℕ → ℕ → Extent → Bool → List Extent
 cut_front es at n e true = remove es at

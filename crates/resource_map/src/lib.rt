@@ -9,10 +9,10 @@
 //! back adds at most one extent. Both look at the extents once, in order, and shift at most the list.
 #![tactic(auto)]
 
-ghost use Rattle.std.specs.Prelude.{◌≡◌, ℕ, ◌+◌, ◌-◌, ◌/◌, ◌<◌, ◌≤◌, ◌^◌, ◌==◌, nat_le, nat_lt, true, false, List, length, IfOk, IsTrue, ◌↔◌, OnErr, position, slice_index_or, vec_len, vec_capacity, All, MatchOption, is_some};
-ghost use Rattle.resource_map.specs.Blocks.{is_free, all_free, taken, freed as after_free};
-ghost use Rattle.resource_map.specs.Room.{lowest_room};
-ghost use Rattle.resource_map.specs.Extents.{InOrder, free_blocks, covers, joins as is_join, merged, put_in, joins_left, joins_right, cut_front, IsSmall};
+ghost use Rattle.std.specs.Prelude.{◌≡◌, ℕ, ◌+◌, ◌-◌, ◌/◌, ◌<◌, ◌≤◌, ◌^◌, ◌==◌, nat_le, true, false, length, IfOk, OnErr, position, slice_index_or, vec_len, vec_capacity, All, HoldsAt};
+ghost use Rattle.resource_map.specs.declared.Extent.{Extent as ExtentOf};
+ghost use Rattle.resource_map.specs.Blocks.{is_free, all_free, lowest_start, taken, freed as after_free};
+ghost use Rattle.resource_map.specs.Extents.{InOrder, free_blocks, covers, joins as is_join, given_back, joins_left, joins_right, cut_front, IsSmall};
 
 use std::alloc::Global;
 use std::marker::Model;
@@ -72,7 +72,7 @@ impl ResourceMap {
     /// `NoMemory`. Each start that is given raises `spare` by one.
     pub fn alloc(&mut self, n: u32) -> Result<Option<u32>, NoMemory>
         requires { 0 < n }
-        ensures lowest { IfOk result (λ start. start ≡ lowest_room (is_free self.old.free) (length self.old.free) n) }
+        ensures lowest { IfOk result (λ start. start ≡ lowest_start self.old n) }
         ensures taken { IfOk result (λ start. self.new ≡ taken self.old n start) }
         ensures err { OnErr result (self.new ≡ self.old) }
     {
@@ -144,10 +144,10 @@ fn first_fit(extents: &[Extent], n: u32) -> Option<usize>
 /// Takes the first `n` blocks of an extent, and answers where they begin.
 fn take_front(extents: &mut Vec<Extent>, at: usize, n: u32) -> u32
     requires within { at < vec_len extents.old }
-    requires fits { (d : _) → n ≤ (slice_index_or extents.old.items at d).length }
-    requires small { (d : _) → (slice_index_or extents.old.items at d).start + (slice_index_or extents.old.items at d).length < 2 ^ 32 }
-    ensures start { (d : _) → result ≡ (slice_index_or extents.old.items at d).start }
-    ensures cut { (d : _) → let e = slice_index_or extents.old.items at d in extents.new.items ≡ cut_front extents.old.items at n e (e.length == n) }
+    requires fits { HoldsAt (λ e. n ≤ e.length) extents.old.items at }
+    requires small { HoldsAt IsSmall extents.old.items at }
+    ensures start { HoldsAt (λ e. result ≡ e.start) extents.old.items at }
+    ensures cut { HoldsAt (λ e. extents.new.items ≡ cut_front extents.old.items at n e (e.length == n)) extents.old.items at }
     ensures len { vec_len extents.new ≤ vec_len extents.old }
     ensures capacity { vec_capacity extents.new ≡ vec_capacity extents.old }
 {
@@ -166,8 +166,8 @@ fn take_front(extents: &mut Vec<Extent>, at: usize, n: u32) -> u32
 /// The place of the first extent that begins above a block, or the number of extents.
 fn first_above(extents: &[Extent], block: u32) -> usize
     ensures within { result ≤ length extents.now }
-    ensures below { (k : ℕ) (d : _) → k < result → (slice_index_or extents.now k d).start ≤ block }
-    ensures above { (d : _) → result < length extents.now → block < (slice_index_or extents.now result d).start }
+    ensures below { (k : ℕ) (d : ExtentOf) → k < result → (slice_index_or extents.now k d).start ≤ block }
+    ensures above { (d : ExtentOf) → result < length extents.now → block < (slice_index_or extents.now result d).start }
 {
     extents
         .iter()
@@ -206,7 +206,7 @@ fn give_back(extents: &mut Vec<Extent>, at: usize, freed: Extent)
     requires room { vec_len extents.old < vec_capacity extents.old }
     requires small { All IsSmall extents.old.items }
     requires small_too { IsSmall freed }
-    ensures put_in { extents.new.items ≡ put_in (joins_left extents.old.items at freed) (joins_right extents.old.items at freed) extents.old.items at freed }
+    ensures put_in { extents.new.items ≡ given_back extents.old.items at freed }
     ensures len { vec_len extents.new ≤ vec_len extents.old + 1 }
     ensures capacity { vec_capacity extents.new ≡ vec_capacity extents.old }
 {

@@ -7,6 +7,7 @@ use Rattle.swap_book.specs.declared.Grown.{Grown}
 use Rattle.swap_book.specs.declared.Grown.TheVariants.{Ok as AllFound, NoFit}
 use Rattle.swap_book.specs.Owners.{pieces_of, MayHold}
 use Rattle.swap_book.specs.Holdings.{of_owner, lengths, block_in}
+use Rattle.swap_book.specs.Placing.{more_pieces, place_all}
 
 -- how many blocks there are, and the pieces of them that are held
 pub record Book : Type 0 where
@@ -34,6 +35,10 @@ CanShrink (Data sid) = Unit {0}
 CanShrink (Stack sid) = Unit {0}
 CanShrink (U pid) = ⊥
 CanShrink (Text image) = ⊥
+
+-- the holdings once an owner holds `blocks` blocks, or the length of the first piece for that which finds no place
+abbrev pub growth_of : Book → Owner → ℕ → Result (List Held) ℕ
+growth_of b owner blocks = place_all b.size b.holdings (more_pieces b.holdings owner blocks)
 
 -- what growing answers, and the book that it leaves
 abbrev pub answer_of : Result (List Held) ℕ → Grown

@@ -12,9 +12,12 @@ pub record Wanted : Type 0 where
   pub owner : Owner
   pub length : ℕ
 
+abbrev pub one : Owner → ℕ → Wanted
+one owner length = record { owner = owner; length = length }
+
 -- the owner wants pieces of these lengths
 abbrev pub wanted : Owner → List ℕ → List Wanted
-wanted owner lengths = map (λ n. record { owner = owner; length = n }) lengths
+wanted owner lengths = map (one owner) lengths
 
 -- the pieces beyond those it holds with which an owner holds a number of blocks
 abbrev pub more_pieces : List Held → Owner → ℕ → List Wanted

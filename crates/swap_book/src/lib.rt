@@ -8,13 +8,13 @@
 //! maps; units, sizes and the order of finding are this project's profile.
 #![tactic(auto)]
 
-ghost use Rattle.std.specs.Prelude.{◌≡◌, ℕ, ◌+◌, ◌-◌, ◌*◌, ◌/◌, ◌%◌, ◌<◌, ◌≤◌, ◌^◌, true, false, Bool, List, [], ◌∷◌, ◌++◌, length, remove, take, slice_get, slice_index_or, IfOk, OnErr, OnOk, OnSome, IfSome, IfNone, vec_len};
+ghost use Rattle.std.specs.Prelude.{◌≡◌, ℕ, ◌%◌, ◌<◌, ◌≤◌, ◌^◌, List, [], ◌∷◌, ◌++◌, length, remove, take, slice_get, IfOk, OnErr, OnOk, OnSome, IfSome, IfNone};
 ghost use Rattle.swap_dmap.specs.Chunks.{pieces, text_pieces};
 ghost use Rattle.swap_book.specs.declared.Held.{Held as HeldPiece};
 ghost use Rattle.swap_book.specs.Owners.{same_owner as is_same_owner, pieces_of, u_pieces, spot_of};
 ghost use Rattle.swap_book.specs.Holdings.{of_owner, lengths, kept, block_in, IsLastOf, LastOf, IsItsOwnersLast};
-ghost use Rattle.swap_book.specs.Placing.{more_pieces, place_all, Adds, Finds};
-ghost use Rattle.swap_book.specs.Book.{empty_book, with_holdings, CanGrow, CanShrink, answer_of, grown_book, IsBook, ArePlacesApart};
+ghost use Rattle.swap_book.specs.Placing.{one, Adds, Finds};
+ghost use Rattle.swap_book.specs.Book.{empty_book, with_holdings, CanGrow, CanShrink, growth_of, answer_of, grown_book, IsBook, ArePlacesApart};
 
 use resource_map::{NoMemory, ResourceMap};
 use std::alloc::Global;
@@ -99,8 +99,8 @@ impl SwapBook {
     /// A u page asks for 2 blocks; a text asks for an even number, while it holds nothing.
     pub fn grow(&mut self, owner: Owner, blocks: u32) -> Result<Grown, NoMemory>
         requires { CanGrow self.old.holdings owner blocks }
-        ensures answer { IfOk result (λ grown. grown ≡ answer_of (place_all self.old.size self.old.holdings (more_pieces self.old.holdings owner blocks))) }
-        ensures book { OnOk result (self.new ≡ grown_book self.old (place_all self.old.size self.old.holdings (more_pieces self.old.holdings owner blocks))) }
+        ensures answer { IfOk result (λ grown. grown ≡ answer_of (growth_of self.old owner blocks)) }
+        ensures book { OnOk result (self.new ≡ grown_book self.old (growth_of self.old owner blocks)) }
         ensures err { OnErr result (self.new ≡ self.old) }
     {
         let before = self.holdings.len();
@@ -156,7 +156,7 @@ impl SwapBook {
     /// Finds places for the pieces that an owner lacks, until one finds none.
     fn find_all(&mut self, owner: Owner, blocks: u32) -> Result<Grown, NoMemory>
         requires { CanGrow self.old.holdings owner blocks }
-        ensures found { IfOk result (λ grown. Finds grown (place_all self.old.size self.old.holdings (more_pieces self.old.holdings owner blocks)) self.new.holdings) }
+        ensures found { IfOk result (λ grown. Finds grown (growth_of self.old owner blocks) self.new.holdings) }
         ensures front { take (length self.old.holdings) self.new.holdings ≡ self.old.holdings }
         ensures size { self.new.size ≡ self.old.size }
     {
@@ -175,7 +175,7 @@ impl SwapBook {
         requires some { 0 < length }
         requires even { length % 2 ≡ 0 }
         requires next { (blocks : ℕ) × (lengths owner self.old.holdings ++ length ∷ [] ≡ pieces_of owner blocks) }
-        ensures added { IfOk result (λ found. Adds found self.old.size self.old.holdings (record { owner = owner; length = length }) self.new.holdings) }
+        ensures added { IfOk result (λ found. Adds found self.old.size self.old.holdings (one owner length) self.new.holdings) }
         ensures size { self.new.size ≡ self.old.size }
         ensures err { OnErr result (self.new ≡ self.old) }
     {
