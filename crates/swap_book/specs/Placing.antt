@@ -5,7 +5,7 @@ use Rattle.swap_book.specs.declared.Held.{Held}
 use Rattle.swap_book.specs.declared.Grown.{Grown}
 use Rattle.swap_book.specs.declared.Grown.TheVariants.{Ok as AllFound, NoFit}
 use Rattle.swap_book.specs.Owners.{pieces_of}
-use Rattle.swap_book.specs.Holdings.{fit, of_owner}
+use Rattle.swap_book.specs.Holdings.{Holdings, fit, of_owner}
 
 -- a piece that an owner wants
 pub record Wanted : Type 0 where
@@ -20,7 +20,7 @@ abbrev pub wanted : Owner → List ℕ → List Wanted
 wanted owner lengths = map (one owner) lengths
 
 -- the pieces beyond those it holds with which an owner holds a number of blocks
-abbrev pub more_pieces : List Held → Owner → ℕ → List Wanted
+abbrev pub more_pieces : Holdings → Owner → ℕ → List Wanted
 more_pieces hs owner blocks = wanted owner (drop (length (of_owner owner hs)) (pieces_of owner blocks))
 
 -- with one more piece at the end, or the length of a piece for which no place was found
@@ -33,12 +33,12 @@ and_then (Ok hs) next = next hs
 and_then (Err n) next = Err n
 
 -- the holdings once each piece has found its place after the earlier ones, or the length of the first that finds none
-unfoldable pub place_all : ℕ → List Held → List Wanted → Result (List Held) ℕ
+unfoldable pub place_all : ℕ → Holdings → List Wanted → Result Holdings ℕ
 place_all size hs [] = Ok hs
 place_all size hs (w ∷ ws) = and_then (placed_at hs w (fit size hs w.length)) (λ now. place_all size now ws)
 
 -- each piece finds its place after the earlier ones
-abbrev pub fits : ℕ → List Held → List Wanted → Bool
+abbrev pub fits : ℕ → Holdings → List Wanted → Bool
 fits size hs ws = is_ok (place_all size hs ws)
 
 -- a piece is added at its place, or finds none

@@ -8,11 +8,10 @@
 //! maps; units, sizes and the order of finding are this project's profile.
 #![tactic(auto)]
 
-ghost use Rattle.std.specs.Prelude.{◌≡◌, ℕ, ◌%◌, ◌<◌, ◌≤◌, ◌^◌, List, [], ◌∷◌, ◌++◌, length, remove, take, slice_get, IfOk, OnErr, OnOk, OnSome, IfSome, IfNone};
+ghost use Rattle.std.specs.Prelude.{◌≡◌, ℕ, ◌%◌, ◌<◌, ◌≤◌, ◌^◌, [], ◌∷◌, ◌++◌, length, remove, take, slice_get, IfOk, OnErr, OnOk, OnSome, IfSome, IfNone};
 ghost use Rattle.swap_dmap.specs.Chunks.{pieces, text_pieces};
-ghost use Rattle.swap_book.specs.declared.Held.{Held as HeldPiece};
 ghost use Rattle.swap_book.specs.Owners.{same_owner as is_same_owner, pieces_of, u_pieces, spot_of};
-ghost use Rattle.swap_book.specs.Holdings.{of_owner, lengths, kept, block_in, IsLastOf, LastOf, IsItsOwnersLast};
+ghost use Rattle.swap_book.specs.Holdings.{Holdings, of_owner, lengths, kept, block_in, IsLastOf, LastOf, IsItsOwnersLast};
 ghost use Rattle.swap_book.specs.Placing.{one, Adds, Finds};
 ghost use Rattle.swap_book.specs.Book.{empty_book, with_holdings, CanGrow, CanShrink, growth_of, answer_of, grown_book, IsBook, ArePlacesApart};
 
@@ -230,7 +229,7 @@ impl SwapBook {
 /// In a book's holdings each page that an owner's blocks are for has a place. The place is even, below the
 /// size and in a piece of the page's own owner, and two different pages, of whichever owners, share no block.
 pub fn places_apart()
-    ensures { (size : ℕ) (hs : List HeldPiece) → IsBook size hs → ArePlacesApart size hs }
+    ensures { (size : ℕ) (hs : Holdings) → IsBook size hs → ArePlacesApart size hs }
 {}
 
 /// Whether the two are one owner.
