@@ -1,0 +1,5 @@
+pub mod RoomLaws
+pub mod BlockLaws
+pub mod ExtentLaws
+pub mod AllocLaws
+pub mod FreeLaws

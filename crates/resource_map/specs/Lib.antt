@@ -1,0 +1,4 @@
+pub mod Blocks
+pub mod Room
+pub mod Extents
+pub mod Fields

@@ -1,0 +1,5 @@
+pub mod Owners
+pub mod Holdings
+pub mod Placing
+pub mod Book
+pub mod Fields
