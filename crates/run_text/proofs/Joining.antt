@@ -19,6 +19,7 @@ ended_parts x y z = ap (λ (u : List ℕ). u ++ (y ++ z)) (append-nil x) ∙ sym
 
 -- the line of a `Ran`, number by number
 pub ran_line : (pid count : ℕ) → (codes "r" ++ parts (pid ∷ [])) ++ (part count ++ codes "\n") ≡ line_of (Ran pid count)
+unfolding line_of
 ran_line pid count = ap (λ (z : List ℕ). codes "r" ++ z) (ended_parts (part pid) (part count) (codes "\n"))
 
 same_process : (p : ℕ) → (p == p) ≡ true

@@ -42,7 +42,7 @@ bit_of true = 1
 bit_of false = 0
 
 -- the line of an entry, with its end
-abbrev pub line_of : Entry → List ℕ
+unfoldable pub line_of : Entry → List ℕ
 line_of (Event line) = codes "e" ++ rest_of_line (line ∷ [])
 line_of (Turn pid) = codes "t" ++ rest_of_line (pid ∷ [])
 line_of (Ran pid count) = codes "r" ++ rest_of_line (pid ∷ count ∷ [])
@@ -108,6 +108,6 @@ joined (e ∷ es) = join e (joined es)
 
 -- the text of a journal: every entry's line, or, without the trace of the paging, the lines of the
 -- other entries, neighbouring `Ran` of one process joined
-abbrev pub text_of : Bool → List Entry → List ℕ
+unfoldable pub text_of : Bool → List Entry → List ℕ
 text_of true es = lines_of es
 text_of false es = lines_of (joined (without_paging es))

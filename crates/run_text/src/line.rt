@@ -217,6 +217,7 @@ fn bit_of(carry: bool) -> u32
 }
 
 // Puts the line of an entry.
+#[tactic(auto, unfolding(crate::specs::Text::line_of))]
 pub fn put_entry<S: Sink>(out: &mut OutputBuffer, sink: &mut S, e: &Entry) -> Moved
     ensures leads { S.leads sink.old sink.new }
     ensures puts { Puts result (S.written sink.old) out.old (line_of e.now) (S.written sink.new) out.new }

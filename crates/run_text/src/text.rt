@@ -190,6 +190,7 @@ fn put_joined<S: Sink>(out: &mut OutputBuffer, sink: &mut S, entries: &[Entry]) 
 }
 
 // Puts the text of a journal.
+#[tactic(auto, unfolding(crate::specs::Text::text_of))]
 fn put_text<S: Sink>(out: &mut OutputBuffer, sink: &mut S, trace: bool, entries: &[Entry]) -> Moved
     ensures leads { S.leads sink.old sink.new }
     ensures puts { Puts result (S.written sink.old) out.old (text_of trace entries.now) (S.written sink.new) out.new }
