@@ -1,5 +1,5 @@
 -- The files that are told, by place.
-use Rattle.std.specs.Prelude.{◌≡◌, ◌≤◌, ◌<◌, ◌+◌, ℕ, List, [], length, take, drop, Option, Some, None, position, bytes_eq, slice_index_or, ⊤}
+use Rattle.std.specs.Prelude.{◌≡◌, ◌≤◌, ◌<◌, ◌+◌, ℕ, List, [], length, take, drop, Option, Some, None, position, bytes_eq, slice_index_or, String, Vec, string_bytes, ⊤}
 use Rattle.io_edge.specs.Count.{Rose}
 use Rattle.io_edge.specs.declared.Found.{Found}
 use Rattle.io_edge.specs.declared.Found.TheVariants.{Is, Absent, Failed}
@@ -8,6 +8,10 @@ use Rattle.io_edge.specs.declared.Found.TheVariants.{Is, Absent, Failed}
 pub record NamedFile : Type 0 where
   pub name : List ℕ
   pub bytes : List ℕ
+
+-- a name and its bytes, as a caller hands them in
+abbrev pub named_file : {A B : Type 0} → String A × Vec ℕ B → NamedFile
+named_file file = record { name = string_bytes file.0; bytes = file.1.items }
 
 -- the first place of this name
 abbrev pub place_of : List NamedFile → List ℕ → Option ℕ

@@ -3,11 +3,22 @@
 //! adapters over the system.
 #![tactic(auto)]
 
+mod count;
+pub mod dir_files;
 pub mod files;
+pub mod mem_files;
+pub mod mem_sink;
+pub mod mem_swap;
+pub mod out_sink;
 pub mod sink;
 pub mod swap_dev;
 
+pub use dir_files::DirFiles;
 pub use files::Files;
+pub use mem_files::{MemFiles, SureFiles};
+pub use mem_sink::{MemSink, SureSink};
+pub use mem_swap::SureSwap;
+pub use out_sink::OutSink;
 pub use sink::Sink;
 pub use swap_dev::SwapDev;
 
@@ -34,3 +45,6 @@ pub enum Moved {
 /// The memory that a value needs wasn't there.
 #[derive(Clone, Copy, PartialEq, Eq, Debug)]
 pub struct NoMemory;
+
+#[cfg(test)]
+mod tests;

@@ -1,7 +1,7 @@
 // Where a run's output goes.
 ghost use Rattle.std.specs.Prelude.{◌≡◌, ℕ, ◌≤◌, List, Option};
 ghost use Rattle.io_edge.specs.Count.{Counts, OnDone, OnFailed};
-ghost use Rattle.io_edge.specs.Written.{Appends, AppendsSome};
+ghost use Rattle.io_edge.specs.Written.{Appends, AppendsSome, Extends};
 
 use crate::Moved;
 
@@ -32,7 +32,7 @@ pub trait Sink {
     ghost leads_through: { (a b c : Self) → leads a b → leads b c → leads a c };
 
     /// What was written stays, and more may follow it.
-    ghost leads_more: { (a b : Self) → leads a b → (more : List ℕ) × Appends (written a) more (written b) };
+    ghost leads_more: { (a b : Self) → leads a b → Extends (written a) (written b) };
 
     /// The count never falls.
     ghost faults_grow: { (a b : Self) → leads a b → faults a ≤ faults b };

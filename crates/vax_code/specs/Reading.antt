@@ -9,6 +9,7 @@ use Rattle.vax_code.specs.declared.instr.Instr.{Instr}
 use Rattle.vax_code.specs.declared.instr.Decoded.{Decoded}
 use Rattle.vax_code.specs.declared.instr.Decoded.TheVariants as decodings
 use Rattle.vax_code.specs.declared.reader.Fault.{Fault}
+use Rattle.vax_code.specs.declared.reader.Spelled.{Spelled}
 use Rattle.vax_code.specs.declared.reader.Fault.TheVariants.{Short, Bad}
 use Rattle.vax_code.specs.declared.table.Row.{Row}
 use Rattle.vax_code.specs.declared.table.Slot.{Slot}
@@ -113,13 +114,19 @@ abbrev pub row_or_bad : Option Row → Result Row Fault
 row_or_bad None = Err Bad
 row_or_bad (Some row) = Ok row
 
--- the operand in a place of the row, or the filler where the instruction has none there
-unfoldable pub place_at : Row → ℕ → List ℕ → Read Operand
-place_at row place bytes =
-    if nat_lt place row.count then operand_at (slot_in row place) bytes
-    else Ok (operands.Literal 0, bytes)
+-- what was read, and how many bytes it took
+unfoldable pub counted : (List ℕ → Read Operand) → List ℕ → Read Spelled
+counted read bytes = do
+  operand ← read bytes
+  Ok (record { operand = operand.0; size = length bytes - length operand.1 }, operand.1)
 
--- a displacement on PC counts from the end of the instruction, which is so many bytes behind it
+-- the operand in a place of the row, or the filler where the instruction has none there
+unfoldable pub place_at : Row → ℕ → List ℕ → Read Spelled
+place_at row place bytes =
+    if nat_lt place row.count then counted (operand_at (slot_in row place)) bytes
+    else Ok (record { operand = operands.Literal 0; size = 0 }, bytes)
+
+-- a displacement on PC counts from the end of the instruction, which is so many bytes behind the operand
 abbrev pub base_from_end : ℕ → Base → Base
 base_from_end behind (bases.Disp reg by deferred) =
     if reg == 15 then bases.Disp reg (int_wrapping_sub w32 by (pos behind)) deferred
@@ -131,14 +138,30 @@ from_end behind (operands.Disp reg by deferred) = operand_of (base_from_end behi
 from_end behind (operands.Indexed index base) = operands.Indexed index (base_from_end behind base)
 from_end behind operand = operand
 
+-- the instruction that an opcode and its operands make
+abbrev pub assembled : ℕ → Row → Spelled → Spelled → Spelled → Instr
+assembled op row a b c = record {
+  op = op;
+  length = 1 + a.size + b.size + c.size;
+  count = row.count;
+  a = from_end (b.size + c.size) a.operand;
+  b = from_end c.size b.operand;
+  c = c.operand;
+}
+
+-- the operands that follow the opcode
+unfoldable pub operands_at : ℕ → Row → List ℕ → Read Instr
+operands_at op row bytes = do
+  a ← place_at row 0 bytes
+  b ← place_at row 1 a.1
+  c ← place_at row 2 b.1
+  Ok (assembled op row a.0 b.0 c.0, c.1)
+
 unfoldable pub instruction_at : List ℕ → Read Instr
 instruction_at bytes = do
   first ← byte_at bytes
   row ← row_or_bad (row_for first.0)
-  a ← place_at row 0 first.1
-  b ← place_at row 1 a.1
-  c ← place_at row 2 b.1
-  Ok (record { op = first.0; length = length bytes - length c.1; count = row.count; a = from_end (length a.1 - length c.1) a.0; b = from_end (length b.1 - length c.1) b.0; c = c.0 }, c.1)
+  operands_at first.0 row first.1
 
 abbrev pub decoding_of : Read Instr → Decoded
 decoding_of (Ok read) = decodings.Is read.0

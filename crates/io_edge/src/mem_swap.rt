@@ -1,0 +1,87 @@
+// Swap devices in memory.
+ghost use Rattle.std.specs.Prelude.{◌≡◌, ◌+◌, ◌*◌, ◌≤◌, ℕ, Some, List, length, IfOk, replicate, refl};
+ghost use Rattle.std.proofs.Common.{◌∙◌, lit≤};
+ghost use Rattle.io_edge.specs.SwapImage.{page_at, put_page};
+ghost use Rattle.io_edge.specs.Told.{told_length};
+
+use crate::{Moved, NoMemory, SwapDev};
+use std::alloc::Global;
+
+// Copies out the two blocks from this place on.
+#[tactic(auto, unfolding(crate::specs::SwapImage::page_at))]
+fn copy_page(image: &[u8], block: usize, buf: &mut [u8; 1024])
+    requires { 512 * (block + 2) ≤ length image.now }
+    ensures { buf.new ≡ page_at image.now block }
+{
+    let start = 512 * block;
+    buf.copy_from_slice(&image[start..start + 1024]);
+}
+
+// Copies in the two blocks from this place on.
+#[tactic(auto, unfolding(crate::specs::SwapImage::put_page))]
+fn put_page(image: &mut [u8], block: usize, bytes: &[u8; 1024])
+    requires { 512 * (block + 2) ≤ length image.old }
+    ensures { image.new ≡ put_page image.old block bytes.now }
+{
+    let start = 512 * block;
+    image[start..start + 1024].copy_from_slice(bytes);
+}
+
+/// A swap device in memory that never fails.
+#[derive(Drop)]
+pub struct SureSwap {
+    image: Vec<u8>,
+    blocks: u32,
+    ghost whole: { length image.items ≡ 512 * blocks },
+}
+
+impl SureSwap {
+    /// A device of this many blocks of zeros.
+    pub fn new(alloc: Global, blocks: u32) -> Result<SureSwap, NoMemory>
+        ensures blocks { IfOk result (λ swap. ⟦<SureSwap as SwapDev>⟧.blocks swap ≡ blocks) }
+        ensures zeros { IfOk result (λ swap. ⟦<SureSwap as SwapDev>⟧.image swap ≡ Some (replicate (512 * blocks) 0)) }
+    {
+        match vec![in alloc; 0u8; blocks as usize * 512] {
+            Ok(image) => Ok(SureSwap { image, blocks }),
+            Err(_) => Err(NoMemory),
+        }
+    }
+}
+
+impl SwapDev for SureSwap {
+    ghost image = { λ d. Some d.image.items };
+
+    ghost blocks = { λ d. d.blocks };
+
+    ghost read_faults = { λ _. 0 };
+
+    ghost write_faults = { λ _. 0 };
+
+    ghost leads = { λ a b. b.blocks ≡ a.blocks };
+
+    fn blocks(&self) -> u32 {
+        self.blocks
+    }
+
+    fn read(&mut self, block: u32, buf: &mut [u8; 1024]) -> Moved {
+        copy_page(&self.image, block as usize, buf);
+        Moved::Done
+    }
+
+    fn write(&mut self, block: u32, bytes: &[u8; 1024]) -> Moved {
+        put_page(&mut self.image, block as usize, bytes);
+        Moved::Done
+    }
+
+    ghost whole = { λ d bytes told. told_length d.image.items bytes (512 * d.blocks) told d.whole };
+
+    ghost leads_nowhere = { λ _. refl };
+
+    ghost leads_through = { λ _ _ _ first then. then ∙ first };
+
+    ghost blocks_stay = { λ _ _ led. led };
+
+    ghost reads_grow = { λ _ _ _. lit≤ tt };
+
+    ghost writes_grow = { λ _ _ _. lit≤ tt };
+}

@@ -1,0 +1,105 @@
+ghost use Rattle.std.specs.Prelude.{OnOk, ◌≡◌, ℕ, ◌∷◌, [], ◌%◌};
+ghost use Rattle.std.specs.List.{All};
+ghost use Rattle.vm_facts.specs.Answers.{Answers, ByteWrite};
+ghost use Rattle.user_vax.specs.Program.{run, Gives, Tests};
+ghost use Rattle.user_vax.specs.Instruction.{write_tests};
+ghost use Rattle.user_vax.specs.Outcomes.{IsSize, IsReady, bytes_of, all_bytes};
+
+use crate::outcome::Write;
+use crate::refused::{Refused, SIGBUS, SIGSEGV};
+use vm_facts::{MayWrite, Memory};
+
+/// The byte may be written.
+fn test_byte<M: Memory>(memory: &M, address: u32) -> Result<(), Refused>
+    ensures { result ≡ run (M.answers memory.now) (Tests address (Gives tt)) }
+{
+    match memory.may_write(address) {
+        MayWrite::May => Ok(()),
+        MayWrite::Miss => Err(Refused::Miss {
+            address,
+            write: true,
+        }),
+        MayWrite::Below => Err(Refused::Below { address }),
+        MayWrite::Text => Err(Refused::Signal(SIGBUS)),
+        MayWrite::Outside => Err(Refused::Signal(SIGSEGV)),
+    }
+}
+
+/// The bytes of a number may be written.
+#[tactic(auto, using(crate::proofs::Runs::run_bind), unfolding(crate::specs::Instruction::write_tests, crate::specs::Effects::bytes_at))]
+fn test_write<M: Memory>(memory: &M, write: &Write) -> Result<(), Refused>
+    requires { IsSize write.now.size }
+    ensures { result ≡ run (M.answers memory.now) (write_tests (bytes_of write.now)) }
+{
+    let address = write.address;
+    match write.size {
+        1 => test_byte(memory, address),
+        2 => {
+            test_byte(memory, address)?;
+            test_byte(memory, address.wrapping_add(1))
+        }
+        _ => {
+            test_byte(memory, address)?;
+            test_byte(memory, address.wrapping_add(1))?;
+            test_byte(memory, address.wrapping_add(2))?;
+            test_byte(memory, address.wrapping_add(3))
+        }
+    }
+}
+
+/// All these numbers may be written.
+#[tactic(auto, using(crate::proofs::Writing::tests_more), unfolding(crate::specs::Instruction::write_tests))]
+pub fn test_all<M: Memory>(memory: &M, writes: &[Write]) -> Result<(), Refused>
+    requires { All (λ write. IsSize write.size) writes.now }
+    ensures value { result ≡ run (M.answers memory.now) (write_tests (all_bytes writes.now)) }
+    ensures ready { OnOk result (All (IsReady (M.answers memory.now)) writes.now) }
+{
+    for write in writes {
+        test_write(memory, write)?;
+    }
+    Ok(())
+}
+
+/// Writes a byte that may be written.
+fn put_byte<M: Memory>(memory: &mut M, address: u32, byte: u8)
+    requires { (M.answers memory.old).may_write address ≡ MayWrite.May }
+    ensures wrote { M.wrote memory.old (record { address = address; byte = byte } ∷ []) memory.new }
+    ensures tests { (M.answers memory.new).may_write ≡ (M.answers memory.old).may_write }
+{
+    memory.write(address, byte);
+}
+
+/// Writes a number, each byte of which may be written.
+#[tactic(auto, unfolding(crate::specs::Effects::bytes_at))]
+fn put_write<M: Memory>(memory: &mut M, write: &Write)
+    requires { IsReady (M.answers memory.old) write.now }
+    ensures wrote { M.wrote memory.old (bytes_of write.now) memory.new }
+    ensures tests { (M.answers memory.new).may_write ≡ (M.answers memory.old).may_write }
+{
+    let address = write.address;
+    let [a, b, c, d] = write.value.to_le_bytes();
+    match write.size {
+        1 => put_byte(memory, address, a),
+        2 => {
+            put_byte(memory, address, a);
+            put_byte(memory, address.wrapping_add(1), b);
+        }
+        _ => {
+            put_byte(memory, address, a);
+            put_byte(memory, address.wrapping_add(1), b);
+            put_byte(memory, address.wrapping_add(2), c);
+            put_byte(memory, address.wrapping_add(3), d);
+        }
+    }
+}
+
+/// Writes them all, in order.
+#[tactic(auto, using(crate::proofs::Writing::bytes_more, crate::proofs::Writing::ready_along))]
+pub fn put_all<M: Memory>(memory: &mut M, writes: &[Write])
+    requires { All (IsReady (M.answers memory.old)) writes.now }
+    ensures { M.wrote memory.old (all_bytes writes.now) memory.new }
+{
+    for write in writes {
+        put_write(memory, write);
+    }
+}

@@ -1,0 +1,24 @@
+//! One instruction of a user process, over any memory.
+//!
+//! The instructions, their operands and their condition codes are this project's profile of the VAX.
+//! `step` either carries out the whole instruction or changes nothing.
+#![tactic(auto)]
+
+mod commit;
+mod compute;
+mod effect;
+mod laws;
+mod operand;
+mod outcome;
+mod reading;
+mod refused;
+mod registers;
+mod stepping;
+
+pub use laws::{first_refusal_decides, missing_bytes_only_stop};
+pub use reading::{read_byte, read_long};
+pub use refused::{Refused, SIGBUS, SIGFPE, SIGILL, SIGSEGV};
+pub use stepping::{Stepped, step};
+
+#[cfg(test)]
+mod tests;

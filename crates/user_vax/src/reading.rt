@@ -1,0 +1,63 @@
+ghost use Rattle.std.specs.Prelude.{◌≡◌, ◌<◌, ◌≤◌, ◌⊎◌, ℕ, IfOk, ◌^◌};
+ghost use Rattle.user_vax.specs.Program.{run, Reads, Gives};
+ghost use Rattle.user_vax.specs.Operands.{number_at};
+
+use crate::refused::{Refused, SIGSEGV};
+use vm_facts::{ByteRead, Memory};
+
+/// The byte at an address.
+pub fn read_byte<M: Memory>(memory: &M, address: u32) -> Result<u8, Refused>
+    ensures { result ≡ run (M.answers memory.now) (Reads address (λ byte. Gives byte)) }
+{
+    match memory.read(address) {
+        ByteRead::Is(byte) => Ok(byte),
+        ByteRead::Miss => Err(Refused::Miss {
+            address,
+            write: false,
+        }),
+        ByteRead::Below => Err(Refused::Below { address }),
+        ByteRead::Outside => Err(Refused::Signal(SIGSEGV)),
+    }
+}
+
+/// The byte at an address, as a number.
+#[tactic(auto, unfolding(crate::specs::Operands::number_at))]
+fn read_byte_number<M: Memory>(memory: &M, address: u32) -> Result<u32, Refused>
+    ensures { result ≡ run (M.answers memory.now) (number_at 1 address) }
+{
+    Ok(u32::from(read_byte(memory, address)?))
+}
+
+/// The little-endian word at an address, lowest address first.
+#[tactic(auto, unfolding(crate::specs::Operands::number_at))]
+pub fn read_word<M: Memory>(memory: &M, address: u32) -> Result<u32, Refused>
+    ensures { result ≡ run (M.answers memory.now) (number_at 2 address) }
+{
+    let low = read_byte(memory, address)?;
+    let high = read_byte(memory, address.wrapping_add(1))?;
+    Ok(u32::from(u16::from_le_bytes([low, high])))
+}
+
+/// The little-endian longword at an address, lowest address first.
+#[tactic(auto, unfolding(crate::specs::Operands::number_at))]
+pub fn read_long<M: Memory>(memory: &M, address: u32) -> Result<u32, Refused>
+    ensures { result ≡ run (M.answers memory.now) (number_at 4 address) }
+{
+    let a = read_byte(memory, address)?;
+    let b = read_byte(memory, address.wrapping_add(1))?;
+    let c = read_byte(memory, address.wrapping_add(2))?;
+    let d = read_byte(memory, address.wrapping_add(3))?;
+    Ok(u32::from_le_bytes([a, b, c, d]))
+}
+
+/// The little-endian number of 1, 2 or 4 bytes at an address.
+pub fn read_number<M: Memory>(memory: &M, size: u8, address: u32) -> Result<u32, Refused>
+    requires { (size ≡ 1) ⊎ (size ≡ 2) ⊎ (size ≡ 4) }
+    ensures { result ≡ run (M.answers memory.now) (number_at size address) }
+{
+    match size {
+        1 => read_byte_number(memory, address),
+        2 => read_word(memory, address),
+        _ => read_long(memory, address),
+    }
+}

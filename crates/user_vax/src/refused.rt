@@ -1,0 +1,19 @@
+/// The signal of a reserved opcode or operand mode, by the number of 4.3BSD.
+pub const SIGILL: u8 = 4;
+/// The signal of a division by 0, by the number of 4.3BSD.
+pub const SIGFPE: u8 = 8;
+/// The signal of a write to the text, by the number of 4.3BSD.
+pub const SIGBUS: u8 = 10;
+/// The signal of an address in no segment, by the number of 4.3BSD.
+pub const SIGSEGV: u8 = 11;
+
+/// Why an instruction changed nothing.
+#[derive(Clone, Copy, Debug, PartialEq, Eq)]
+pub enum Refused {
+    /// The byte's page has to be brought in first; `write` says whether the byte was to be written.
+    Miss { address: u32, write: bool },
+    /// The byte lies below the stack, near enough for the stack to grow.
+    Below { address: u32 },
+    /// The instruction ends the process with this signal.
+    Signal(u8),
+}
