@@ -8,3 +8,6 @@ mod waiting;
 
 pub use buffer::OutputBuffer;
 pub use text::{write_entry, write_text};
+
+#[cfg(test)]
+mod tests;
