@@ -1,2 +1,5 @@
+pub mod Events
 pub mod Joining
+pub mod LineEnds
 pub mod Passing
+pub mod Reading

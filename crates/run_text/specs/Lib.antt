@@ -1,3 +1,6 @@
 pub mod Buffered
+pub mod Lines
+pub mod Pieces
 pub mod Running
+pub mod Schedule
 pub mod Text

@@ -1,12 +1,18 @@
-//! The texts of a run: the lines of a journal, written to a sink.
+//! The texts of a run: schedules, which are read, and the lines of a journal, which are written to a
+//! sink and read.
 #![tactic(auto)]
 
+mod answers;
 mod buffer;
 mod line;
+mod pieces;
+mod schedule_reader;
 mod text;
 mod waiting;
 
+pub use answers::{Schedule, Transcript};
 pub use buffer::OutputBuffer;
+pub use schedule_reader::read_schedule;
 pub use text::{write_entry, write_text};
 
 #[cfg(test)]

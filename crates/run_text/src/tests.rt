@@ -1,9 +1,9 @@
 // What no clause says: that the lines are those of the table of entries, and which texts a sink gets.
-use crate::{write_entry, write_text};
+use crate::{Schedule, read_schedule, write_entry, write_text};
 use io_edge::{MemSink, Moved};
 use std::alloc::{AllocError, Global};
 use std::test::Fail;
-use vm_facts::{Bytes, Entry, Page};
+use vm_facts::{Bytes, Entry, Event, Page};
 
 // The bytes that a process wrote.
 fn out(alloc: Global, bytes: &[u8]) -> Result<Entry, AllocError> {
@@ -117,5 +117,54 @@ fn a_failed_put_ends_the_writing(rt: HostRuntime) -> Result<(), Fail> {
         Moved::Done
     );
     assert_eq!(rt; sink.written().len(), 2 + 2 * 2053);
+    Ok(())
+}
+
+// The first bad line of a schedule, or 0.
+fn bad_line(alloc: Global, bytes: &[u8]) -> Result<u32, Fail> {
+    match read_schedule(alloc, bytes) {
+        Ok(Schedule::Is(_)) => Ok(0),
+        Ok(Schedule::BadLine(line)) => Ok(line),
+        Err(_) => Err(Fail::from("no memory")),
+    }
+}
+
+#[test]
+fn reads_the_events_of_a_schedule(rt: HostRuntime) -> Result<(), Fail> {
+    let Ok(Schedule::Is(events)) = read_schedule(
+        rt.alloc(),
+        b"d 00000001 1000000\ni\nh 8192\nw\nm\n",
+    ) else {
+        return Err(Fail::from("not read"));
+    };
+    let expected = [
+        Event::Dispatch {
+            pid: 1,
+            count: 1_000_000,
+        },
+        Event::Interrupt,
+        Event::Hands { count: 8192 },
+        Event::Swapper,
+        Event::Audit,
+    ];
+    assert_eq!(rt; events.as_slice(), expected.as_slice());
+    Ok(())
+}
+
+#[test]
+fn tells_the_first_bad_line_of_a_schedule(rt: HostRuntime) -> Result<(), Fail> {
+    assert_eq!(rt; bad_line(rt.alloc(), b"")?, 0);
+    assert_eq!(rt; bad_line(rt.alloc(), b"i\nd 1\n")?, 2);
+    assert_eq!(rt; bad_line(rt.alloc(), b"i\nw")?, 2);
+    assert_eq!(rt; bad_line(rt.alloc(), b"h 000000001\n")?, 1);
+    assert_eq!(rt; bad_line(rt.alloc(), b"d 0 1\n")?, 1);
+    assert_eq!(rt; bad_line(rt.alloc(), b"i\n\n")?, 2);
+    let mut long = Vec::new(rt.alloc());
+    for _ in 0..65_536 {
+        long.extend_from_slice(b"i\n")?;
+    }
+    assert_eq!(rt; bad_line(rt.alloc(), long.as_slice())?, 0);
+    long.push(b'm')?;
+    assert_eq!(rt; bad_line(rt.alloc(), long.as_slice())?, 65_537);
     Ok(())
 }

@@ -1,0 +1,12 @@
+-- Parts of a line.
+use Rattle.std.specs.Prelude.{◌≢◌, ℕ, ◌==◌, suc, zero, Bool, true, false, if◌then◌else◌, List, [], ◌∷◌, ⊤}
+
+-- how long the first line is, with its end
+abbrev pub line_len : List ℕ → ℕ
+line_len [] = 0
+line_len (b ∷ bs) = if b == 10 then 1 else suc (line_len bs)
+
+-- a byte doesn't stand there
+abbrev pub HasNo : ℕ → List ℕ → Type 0
+HasNo c [] = ⊤
+HasNo c (b ∷ bs) = (b ≢ c) × HasNo c bs
