@@ -1,5 +1,9 @@
 pub mod Events
+pub mod HexRows
 pub mod Joining
 pub mod LineEnds
+pub mod NumberRows
+pub mod Parts
 pub mod Passing
 pub mod Reading
+pub mod Words

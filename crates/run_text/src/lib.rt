@@ -4,7 +4,9 @@
 
 mod answers;
 mod buffer;
+mod hex;
 mod line;
+mod numbers;
 mod pieces;
 mod schedule_reader;
 mod text;

@@ -1,7 +1,7 @@
 // Parts of a line.
-ghost use Rattle.std.specs.Prelude.{◌≡◌, ◌≢◌, ℕ, ◌^◌, ◌<◌, ◌≤◌, ◌==◌, List, [], ◌∷◌, ◌++◌, length, take, drop, MatchOption, codes};
+ghost use Rattle.std.specs.Prelude.{◌≡◌, ◌≢◌, ℕ, ◌^◌, ◌<◌, ◌≤◌, ◌==◌, List, [], ◌∷◌, ◌++◌, length, take, drop, MatchOption, MatchBool, slice_index, codes, decimal};
 ghost use Rattle.std.specs.Str.Parse.{IsNumeral, digits_value};
-ghost use Rattle.run_text.specs.Pieces.{line_len, HasNo};
+ghost use Rattle.run_text.specs.Pieces.{line_len, HasNo, AtSpace};
 
 use std::str;
 
@@ -56,7 +56,7 @@ pub fn split_word(text: &[u8]) -> Option<(&[u8], &[u8])>
 
 // The number that digits write, of which there is at least one, where it fits.
 pub fn read_digits(text: &[u8]) -> Option<u32>
-    ensures { MatchOption result (IsNumeral 10 text.now → digits_value 10 text.now < 2 ^ 32 → ⊥) (λ n. IsNumeral 10 text.now × (digits_value 10 text.now ≡ n)) }
+    ensures { MatchOption result (IsNumeral 10 text.now → digits_value 10 text.now < 2 ^ 32 → ⊥) (λ n. IsNumeral 10 text.now × (digits_value 10 text.now ≡ n) × (n < 2 ^ 32)) }
 {
     if text.is_empty() || !text[0].is_ascii_digit() {
         return None;
@@ -65,4 +65,38 @@ pub fn read_digits(text: &[u8]) -> Option<u32>
         return None;
     };
     text.parse::<u32>().ok()
+}
+
+// The first word, and what stands from the first space on.
+pub fn split_at_space(text: &[u8]) -> (&[u8], &[u8])
+    ensures cut { text.now ≡ result.0.now ++ result.1.now }
+    ensures word { HasNo 32 result.0.now }
+    ensures rest { AtSpace result.1.now }
+{
+    for (i, byte) in text.iter().enumerate() {
+        if *byte == b' ' {
+            return text.split_at(i);
+        }
+    }
+    text.split_at(text.len())
+}
+
+// Whether digits begin with a zero that isn't all of them.
+fn has_zero_in_front(text: &[u8]) -> bool
+    ensures { MatchBool result ((1 < length text.now) × (slice_index text.now 0 ≡ 48)) (slice_index text.now 0 ≡ 48 → length text.now ≤ 1) }
+{
+    text.len() > 1 && text[0] == b'0'
+}
+
+// The number that this is the decimal of, without leading zeros.
+pub fn read_decimal(text: &[u8]) -> Option<u32>
+    ensures { MatchOption result ((n : ℕ) → n < 2 ^ 32 → text.now ≢ decimal n) (λ n. (text.now ≡ decimal n) × (n < 2 ^ 32)) }
+{
+    if has_zero_in_front(text) {
+        return None;
+    }
+    let Some(number) = read_digits(text) else {
+        return None;
+    };
+    Some(number)
 }
