@@ -1,3 +1,4 @@
+pub mod EntryTexts
 pub mod Events
 pub mod HexRows
 pub mod Joining
@@ -7,3 +8,4 @@ pub mod Parts
 pub mod Passing
 pub mod Reading
 pub mod Words
+pub mod WrittenLines

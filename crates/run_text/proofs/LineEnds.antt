@@ -1,9 +1,9 @@
 -- Lines and words, cut at a byte.
-use Rattle.std.proofs.Common.{◌≡◌, ◌≢◌, ℕ, ◌+◌, ◌<◌, ◌≤◌, suc, zero, Bool, true, false, List, [], ◌∷◌, ◌++◌, length, get_or, take, drop, refl, sym, ◌∙◌, ap, subst, append_assoc, arith, drop-cons, add-one}
-use Rattle.std.specs.Prelude.{◌==◌, ⊤, if◌then◌else◌}
-use Rattle.std.proofs.lemmas.List.{append-nil, take_more, take-append-drop, drop_all}
+use Rattle.std.proofs.Common.{◌≡◌, ◌≢◌, ℕ, ◌+◌, ◌<◌, ◌≤◌, suc, Bool, true, false, List, [], ◌∷◌, ◌++◌, length, get_or, take, drop, refl, sym, ◌∙◌, ap, subst, arith, drop-cons, add-one}
+use Rattle.std.specs.Prelude.{◌==◌, if◌then◌else◌}
+use Rattle.std.proofs.lemmas.List.{take_more, take-append-drop}
 use Rattle.std.proofs.lemmas.Bool.Decides.{nat_tests}
-use Rattle.run_text.specs.Lines.{begin_line, lines_in, AreLines, IsFirstBad}
+use Rattle.run_text.specs.Lines.{begin_line, lines_in}
 use Rattle.run_text.specs.Pieces.{line_len, HasNo}
 
 is_byte : (b c : ℕ) → b ≡ c → (b == c) ≡ true

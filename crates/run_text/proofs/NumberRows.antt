@@ -1,6 +1,5 @@
 -- Numbers that are read one after another.
-use Rattle.std.proofs.Common.{◌≡◌, ℕ, ◌+◌, ◌<◌, ◌≤◌, ◌^◌, List, [], ◌∷◌, ◌++◌, length, refl, sym, ◌∙◌, ap, subst, append_assoc, arith, length-append}
-use Rattle.std.specs.Prelude.{⊤}
+use Rattle.std.proofs.Common.{◌≡◌, ℕ, ◌<◌, ◌≤◌, ◌^◌, List, [], ◌∷◌, ◌++◌, length, refl, sym, ◌∙◌, ap, subst, append_assoc, arith, length-append}
 use Rattle.std.proofs.lemmas.List.{append-nil}
 use Rattle.std.proofs.lemmas.Grind.{flat_map-append}
 use Rattle.run_text.specs.Text.{part, parts}
@@ -30,8 +29,8 @@ parts_push ns n rest =
 further_step : (numbers rest more : List ℕ) (n : ℕ) → n < 4294967296 → rest ≡ part n ++ more → AtSpace more → (ns ms : List ℕ) → ns ≡ numbers ++ ms → AllBelow 4294967296 ms → rest ≡ parts ms → (ks : List ℕ) × (ns ≡ (numbers ++ n ∷ []) ++ ks) × AllBelow 4294967296 ks × (more ≡ parts ks)
 further_step numbers rest more n small cut at ns [] is below e = absurd (no_part n more (sym cut ∙ e))
   where
-  no_part : (n : ℕ) (more : List ℕ) → part n ++ more ≡ [] → ⊥
-  no_part n more e = cc
+    no_part : (n : ℕ) (more : List ℕ) → part n ++ more ≡ [] → ⊥
+    no_part n more e = cc
 further_step numbers rest more n small cut at ns (m ∷ ms) is below e =
     let same : (n ≡ m) × (more ≡ parts ms) = cut_part n m more (parts ms) small below.0 at (parts_at_space ms) (sym cut ∙ e) in
     (ms, is ∙ ap (λ (z : ℕ). numbers ++ z ∷ ms) (sym same.0) ∙ sym (append_assoc numbers (n ∷ []) ms), below.1, same.1)
@@ -41,16 +40,16 @@ row_step text numbers rest more n small cut at so_far = record {
   split = so_far.split ∙ ap (λ (z : List ℕ). parts numbers ++ z) cut ∙ sym (parts_push numbers n more);
   below = below_push numbers n so_far.below small;
   further = λ ns h e. (let f : (ms : List ℕ) × (ns ≡ numbers ++ ms) × AllBelow 4294967296 ms × (rest ≡ parts ms) = so_far.further ns h e in
-    further_step numbers rest more n small cut at ns f.0 f.1 f.2 f.3);
+      further_step numbers rest more n small cut at ns f.0 f.1 f.2 f.3);
 }
 
 -- no number stands there, so the text is no row
 pub row_none : (text numbers rest : List ℕ) → 0 < length rest → ((n : ℕ) (more : List ℕ) → n < 2 ^ 32 → AtSpace more → rest ≡ part n ++ more → ⊥) → RowSoFar text numbers rest → (ns : List ℕ) → AllBelow 4294967296 ns → text ≡ parts ns → ⊥
 row_none text numbers rest some none so_far ns h e = by_further rest some none (so_far.further ns h e).0 (so_far.further ns h e).2 (so_far.further ns h e).3
   where
-  by_further : (rest : List ℕ) → 0 < length rest → ((n : ℕ) (more : List ℕ) → n < 2 ^ 32 → AtSpace more → rest ≡ part n ++ more → ⊥) → (ms : List ℕ) → AllBelow 4294967296 ms → rest ≡ parts ms → ⊥
-  by_further rest some none [] below e = let empty : length rest ≡ 0 = ap length e in omega arith
-  by_further rest some none (m ∷ ms) below e = none m (parts ms) below.0 (parts_at_space ms) e
+    by_further : (rest : List ℕ) → 0 < length rest → ((n : ℕ) (more : List ℕ) → n < 2 ^ 32 → AtSpace more → rest ≡ part n ++ more → ⊥) → (ms : List ℕ) → AllBelow 4294967296 ms → rest ≡ parts ms → ⊥
+    by_further rest some none [] below e = let empty : length rest ≡ 0 = ap length e in omega arith
+    by_further rest some none (m ∷ ms) below e = none m (parts ms) below.0 (parts_at_space ms) e
 
 -- more than five numbers
 pub row_full : (text numbers rest more : List ℕ) (n : ℕ) → length numbers ≡ 5 → n < 4294967296 → rest ≡ part n ++ more → AtSpace more → RowSoFar text numbers rest → (ns : List ℕ) → length ns ≤ 5 → AllBelow 4294967296 ns → text ≡ parts ns → ⊥

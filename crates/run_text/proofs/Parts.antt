@@ -1,16 +1,15 @@
 -- Each entry is got back from the parts of its line.
-use Rattle.std.proofs.Common.{◌≡◌, ◌≢◌, ℕ, suc, zero, ◌+◌, ◌^◌, ◌<◌, ◌≤◌, Bool, true, false, List, [], ◌∷◌, ◌++◌, length, refl, sym, ◌∙◌, ap, subst, append_assoc, arith, codes, length-append}
-use Rattle.std.specs.Prelude.{◌==◌, ⊤, ◌&&◌, nat_lt, if◌then◌else◌, Option, Some, None}
+use Rattle.std.proofs.Common.{◌≡◌, ℕ, suc, ◌≤◌, Bool, true, false, List, [], ◌∷◌, ◌++◌, length, refl, sym, ◌∙◌, ap, subst, append_assoc, arith, codes}
+use Rattle.std.specs.Prelude.{nat_lt, if◌then◌else◌, Some, None}
 use Rattle.std.proofs.lemmas.List.{append-nil}
-use Rattle.std.proofs.lemmas.Option.{none-some}
 use Rattle.std.proofs.lemmas.Bool.Decides.{nat_tests}
 use Rattle.vm_facts.specs.declared.page.Page.{Page}
 use Rattle.vm_facts.specs.declared.page.Page.TheVariants.{Data, Stack, Text}
 use Rattle.vm_facts.specs.declared.entry.Entry.{Entry}
-use Rattle.vm_facts.specs.declared.entry.Entry.TheVariants.{Event, Turn, Ran, Out, Grew, Call, Refused, Sleeps, Ended, Zero, Get, Copy, Reclaim, Hands, Put, Done, SwapOut, SwapIn, Owners}
-use Rattle.run_text.specs.Text.{bit_of, part, parts, page_text, hex_text, rest_of_line, line_of}
-use Rattle.run_text.specs.Transcript.{page_numbers, numbers_of, AllBelow, CountsSome, IsWithin, IsEntryLine}
-use Rattle.run_text.specs.EntryParts.{Body, Counted, Paged, Written, segment_of, letter_of, body_of, body_text, entry_text, is_page_letter, from_numbers, page_from, page_alone, page_and_one, page_and_two, from_paged, entry_from, kind_of, kind_for, HasParts}
+use Rattle.vm_facts.specs.declared.entry.Entry.TheVariants.{Ran, Out, Grew, Call, Zero, Get, Copy, Reclaim, Hands, Put}
+use Rattle.run_text.specs.Text.{part, parts, page_text, hex_text, rest_of_line, line_of}
+use Rattle.run_text.specs.Transcript.{page_numbers, numbers_of, AllBelow, IsWithin}
+use Rattle.run_text.specs.EntryParts.{Body, Counted, Paged, Written, segment_of, letter_of, body_of, body_text, entry_text, page_alone, page_and_one, page_and_two, from_paged, entry_from, kind_of, kind_for}
 
 some_count : (n : ℕ) → 1 ≤ n → nat_lt 0 n ≡ true
 some_count n h = grind (arith, nat_tests)

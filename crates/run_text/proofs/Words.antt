@@ -1,22 +1,20 @@
 -- Words, numbers and pairs of hexadecimal digits can be read in one way only.
-use Rattle.std.proofs.Common.{◌≡◌, ◌≢◌, ℕ, suc, zero, ◌+◌, ◌*◌, ◌/◌, ◌%◌, ◌^◌, ◌<◌, ◌≤◌, Bool, true, false, List, [], ◌∷◌, ◌++◌, length, get_or, refl, sym, ◌∙◌, ap, subst, append_assoc, arith, codes, decimal, lit<}
-use Rattle.std.specs.Prelude.{◌==◌, ⊤, nat_lt, if◌then◌else◌}
+use Rattle.std.proofs.Common.{◌≡◌, ℕ, suc, zero, ◌/◌, ◌%◌, ◌^◌, ◌<◌, List, [], ◌∷◌, ◌++◌, length, get_or, refl, sym, ◌∙◌, ap, subst, arith, codes, decimal, lit<}
 use Rattle.std.specs.Str.Parse.{IsNumeral, AllDigits, digits_value}
 use Rattle.std.proofs.lemmas.Str.Parse.{IsNumeralModel, numerals_by_value, tells_digits}
 use Rattle.std.proofs.lemmas.Fmt.{decimal_is_IsNumeral, decimal_injective, decimal-digits_value, first_decimal, decimal_digit}
-use Rattle.std.proofs.lemmas.List.{append-nil, append_cancel_right}
-use Rattle.std.specs.Prelude.{Option, Some, None}
+use Rattle.std.proofs.lemmas.List.{append_cancel_right}
+use Rattle.std.specs.Prelude.{Some}
 use Rattle.std.proofs.lemmas.Option.{same_Some}
 use Rattle.vm_facts.specs.declared.entry.Entry.TheVariants.{Out}
 use Rattle.std.proofs.lemmas.Bool.Decides.{nat_tests}
-use Rattle.std.specs.List.{flat_map}
 use Rattle.vm_facts.specs.declared.entry.Entry.{Entry}
-use Rattle.run_text.specs.Text.{part, parts, hex_digit, hex_pair, hex_text, line_of}
+use Rattle.run_text.specs.Text.{part, parts, hex_digit, hex_pair, hex_text}
 use Rattle.run_text.specs.Pieces.{HasNo, AtSpace}
-use Rattle.run_text.specs.Transcript.{numbers_of, AllBelow, CountsSome, IsWithin, IsEntryLine}
+use Rattle.run_text.specs.Transcript.{AllBelow, IsWithin, IsEntryLine}
 use Rattle.run_text.specs.EntryParts.{Body, Counted, Paged, Written, letter_of, body_of, body_text, entry_text, entry_from, kind_of, kind_for}
 use Rattle.run_text.proofs.Events.{digits_no}
-use Rattle.run_text.proofs.Parts.{line_is, entry_back, kind_is, body_numbers, numbers_are, written_some}
+use Rattle.run_text.proofs.Parts.{line_is, entry_back, kind_is}
 
 -- digits and their value
 own : IsNumeralModel (AllDigits 10) (digits_value 10)
@@ -56,8 +54,8 @@ cut_word (a ∷ front) (b ∷ bs) x y h k s t e =
     let heads : a ≡ b = cc in
     (cons_both a b front bs heads more.0, more.1)
   where
-  cons_both : (a b : ℕ) (xs ys : List ℕ) → a ≡ b → xs ≡ ys → a ∷ xs ≡ b ∷ ys
-  cons_both a b xs ys p q = cc
+    cons_both : (a b : ℕ) (xs ys : List ℕ) → a ≡ b → xs ≡ ys → a ∷ xs ≡ b ∷ ys
+    cons_both a b xs ys p q = cc
 
 pub parts_at_space : (ns : List ℕ) → AtSpace (parts ns)
 parts_at_space [] = tt
@@ -139,7 +137,7 @@ text_once a b h k e =
     let kinds : kind_of (body_of a) ≡ kind_of (body_of b) = kind_is a ∙ ap kind_for letters ∙ sym (kind_is b) in
     let same : body_of a ≡ body_of b = body_once (body_of a) (body_of b) kinds (in_body a h) (in_body b k) bodies in
     let found : Some a ≡ Some b =
-        sym (entry_back a h) ∙ ap (λ (l : ℕ). entry_from l (body_of a)) letters ∙ ap (λ (x : Body). entry_from (letter_of b) x) same ∙ entry_back b k in
+    sym (entry_back a h) ∙ ap (λ (l : ℕ). entry_from l (body_of a)) letters ∙ ap (λ (x : Body). entry_from (letter_of b) x) same ∙ entry_back b k in
     same_Some a b found
 
 -- a line is that of one entry at most
@@ -157,7 +155,7 @@ pub no_digits : (ds : List ℕ) (n : ℕ) → n < 2 ^ 32 → ds ≡ decimal n �
 no_digits ds n small is none =
     let value : IsNumeral 10 (decimal n) × (digits_value 10 (decimal n) ≡ n) = decimal_value n small in
     none (subst (λ (xs : List ℕ). IsNumeral 10 xs) (sym is) value.0)
-        (subst (λ (xs : List ℕ). digits_value 10 xs < 4294967296) (sym is) (subst (λ (k : ℕ). k < 4294967296) (sym value.1) small))
+    (subst (λ (xs : List ℕ). digits_value 10 xs < 4294967296) (sym is) (subst (λ (k : ℕ). k < 4294967296) (sym value.1) small))
 
 pub no_word : (text after word behind : List ℕ) → text ≡ 32 ∷ after → after ≡ word ++ behind → HasNo 32 word → AtSpace behind → ((n : ℕ) → n < 2 ^ 32 → word ≡ decimal n → ⊥) → (n : ℕ) (rest : List ℕ) → n < 2 ^ 32 → AtSpace rest → text ≡ part n ++ rest → ⊥
 no_word text after word behind front cut one at none n rest small start is =

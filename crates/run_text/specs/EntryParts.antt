@@ -1,12 +1,12 @@
 -- The parts of an entry's line: a letter, and behind it numbers, a page's letter and numbers, or a
 -- process and bytes.
-use Rattle.std.specs.Prelude.{◌≡◌, ◌≤◌, ◌<◌, ℕ, ◌==◌, Bool, true, false, ◌&&◌, ◌||◌, if◌then◌else◌, nat_lt, List, [], ◌∷◌, ◌++◌, length, codes, Option, Some, None, ⊤}
+use Rattle.std.specs.Prelude.{◌≡◌, ℕ, ◌==◌, Bool, ◌&&◌, ◌||◌, if◌then◌else◌, nat_lt, List, [], ◌∷◌, ◌++◌, Option, Some, None}
 use Rattle.vm_facts.specs.declared.page.Page.{Page}
 use Rattle.vm_facts.specs.declared.page.Page.TheVariants.{Data, Stack, Text}
 use Rattle.vm_facts.specs.declared.entry.Entry.{Entry}
 use Rattle.vm_facts.specs.declared.entry.Entry.TheVariants.{Event, Turn, Ran, Out, Grew, Call, Refused, Sleeps, Ended, Zero, Get, Copy, Reclaim, Hands, Put, Done, SwapOut, SwapIn, Owners}
-use Rattle.run_text.specs.Text.{bit_of, part, parts, hex_text}
-use Rattle.run_text.specs.Transcript.{page_numbers, numbers_of, IsWithin}
+use Rattle.run_text.specs.Text.{part, parts, hex_text}
+use Rattle.run_text.specs.Transcript.{page_numbers, numbers_of, AllBelow, IsWithin}
 
 pub data Body : Type 0 where
   Counted : List ℕ → Body
@@ -129,3 +129,8 @@ kind_for l = if l == 111 then 2 else (if is_page_letter l then 1 else 0)
 -- an entry has this letter and this body, and is within its ranges
 abbrev pub HasParts : ℕ → Body → Entry → Type 0
 HasParts l body e = (letter_of e ≡ l) × (body_of e ≡ body) × IsWithin e
+
+-- an entry has this letter, this page and these further numbers, and is within its ranges where all of
+-- these numbers are
+abbrev pub HasPageParts : ℕ → Page → List ℕ → Entry → Type 0
+HasPageParts l page ns e = (letter_of e ≡ l) × (body_of e ≡ Paged (segment_of page) (page_numbers page ++ ns)) × (AllBelow 4294967296 (page_numbers page ++ ns) → IsWithin e)

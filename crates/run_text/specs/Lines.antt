@@ -1,5 +1,5 @@
 -- The lines of a text, and where the first one stands that isn't in a grammar.
-use Rattle.std.specs.Prelude.{◌≡◌, ◌≤◌, ◌<◌, ℕ, ◌+◌, ◌==◌, Bool, true, false, List, [], ◌∷◌, ◌++◌, length, codes, ⊤}
+use Rattle.std.specs.Prelude.{◌≡◌, ◌≤◌, ℕ, ◌+◌, ◌==◌, Bool, true, false, List, [], ◌∷◌, ◌++◌, length, ⊤}
 
 -- a byte before lines: a line's end is a line of its own, and another byte begins the first of them
 abbrev pub begin_line : Bool → ℕ → List (List ℕ) → List (List ℕ)

@@ -1,5 +1,5 @@
 -- Parts of a line.
-use Rattle.std.specs.Prelude.{◌≡◌, ◌≢◌, ℕ, ◌==◌, suc, zero, Bool, true, false, if◌then◌else◌, List, [], ◌∷◌, ⊤}
+use Rattle.std.specs.Prelude.{◌≡◌, ◌≢◌, ℕ, ◌==◌, suc, if◌then◌else◌, List, [], ◌∷◌, ⊤}
 
 -- how long the first line is, with its end
 abbrev pub line_len : List ℕ → ℕ

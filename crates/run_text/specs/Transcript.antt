@@ -1,5 +1,5 @@
 -- The grammar of a transcript: each line is that of an entry within its ranges.
-use Rattle.std.specs.Prelude.{◌≡◌, ◌≤◌, ◌<◌, ◌^◌, ℕ, List, [], ◌∷◌, ◌++◌, length, ⊤}
+use Rattle.std.specs.Prelude.{◌≡◌, ◌≤◌, ◌<◌, ℕ, List, [], ◌∷◌, ◌++◌, length, ⊤}
 use Rattle.vm_facts.specs.declared.page.Page.{Page}
 use Rattle.vm_facts.specs.declared.page.Page.TheVariants.{Data, Stack, Text}
 use Rattle.vm_facts.specs.declared.entry.Entry.{Entry}
@@ -7,7 +7,7 @@ use Rattle.vm_facts.specs.declared.entry.Entry.TheVariants.{Event, Turn, Ran, Ou
 use Rattle.run_text.specs.declared.answers.Transcript.{Transcript}
 use Rattle.run_text.specs.declared.answers.Transcript.TheVariants.{Is, BadLine}
 use Rattle.run_text.specs.Lines.{lines_in, AreLines, IsFirstBad}
-use Rattle.run_text.specs.Text.{bit_of, line_of, lines_of}
+use Rattle.run_text.specs.Text.{bit_of, line_of}
 
 -- the numbers of a page
 abbrev pub page_numbers : Page → List ℕ

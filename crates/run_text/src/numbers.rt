@@ -55,7 +55,7 @@ impl Numbers {
 }
 
 // The number behind a space, and what stands behind it.
-fn read_part(text: &[u8]) -> Option<(u32, &[u8])>
+pub fn read_part(text: &[u8]) -> Option<(u32, &[u8])>
     ensures { MatchOption result ((n : ℕ) (rest : List ℕ) → n < 2 ^ 32 → AtSpace rest → text.now ≡ part n ++ rest → ⊥) (λ x. (text.now ≡ part x.0 ++ x.1.now) × AtSpace x.1.now × (x.0 < 2 ^ 32)) }
 {
     let Some(after) = strip_front(text, b" ") else {

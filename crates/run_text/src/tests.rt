@@ -1,5 +1,7 @@
 // What no clause says: that the lines are those of the table of entries, and which texts a sink gets.
-use crate::{Schedule, read_schedule, write_entry, write_text};
+ghost use Rattle.std.specs.Prelude.{◌<◌, length};
+
+use crate::{Schedule, Transcript, read_schedule, read_transcript, write_entry, write_text};
 use io_edge::{MemSink, Moved};
 use std::alloc::{AllocError, Global};
 use std::test::Fail;
@@ -166,5 +168,59 @@ fn tells_the_first_bad_line_of_a_schedule(rt: HostRuntime) -> Result<(), Fail> {
     assert_eq!(rt; bad_line(rt.alloc(), long.as_slice())?, 0);
     long.push(b'm')?;
     assert_eq!(rt; bad_line(rt.alloc(), long.as_slice())?, 65_537);
+    Ok(())
+}
+
+// A transcript with a line for each entry, neighbours that could be joined among them.
+const LINES: &[u8] =
+    b"e 65536\nt 1\nr 1 4294967295\nr 1 1\no 1 68690aaf\ng 1 3\nc 1 4 1 14 0\nc 0 2 0 0 1\nf 1\ns 2\nx 1 256\nZ s 3 0\nG x 0 9 8 2\nC d 1 2\nR d 1 2\nH 7\nP d 1 2 2\nD\nO 2\nI 2\nM 60 3 0 28\n";
+
+#[test]
+fn reads_what_is_written(rt: HostRuntime) -> Result<(), Fail> {
+    let Ok(Transcript::Is(entries)) = read_transcript(rt.alloc(), LINES) else {
+        return Err(Fail::from("not read"));
+    };
+    assert_eq!(rt; entries.len(), 21);
+    let Ok(mut sink) = MemSink::new(rt.alloc(), 400, Vec::new(rt.alloc())) else {
+        return Err(Fail::from("no memory"));
+    };
+    assert_eq!(rt;
+        write_text(&mut sink, true, entries.as_slice(), b""),
+        Moved::Done
+    );
+    assert_eq!(rt; sink.written(), LINES);
+    Ok(())
+}
+
+// The first bad line of a transcript, or 0.
+fn bad_transcript_line(alloc: Global, bytes: &[u8]) -> Result<u32, Fail>
+    requires { length bytes.now < 100 }
+{
+    match read_transcript(alloc, bytes) {
+        Ok(Transcript::Is(_)) => Ok(0),
+        Ok(Transcript::BadLine(line)) => Ok(line),
+        Err(_) => Err(Fail::from("no memory")),
+    }
+}
+
+#[test]
+fn tells_the_first_bad_line_of_a_transcript(rt: HostRuntime) -> Result<(), Fail> {
+    assert_eq!(rt; bad_transcript_line(rt.alloc(), b"")?, 0);
+    assert_eq!(rt;
+        bad_transcript_line(
+            rt.alloc(),
+            b"t 1\nr 1 1\no 1 6869\nc 1 4 0 2 0\nr 1 1\nx 1 0\n"
+        )?,
+        0
+    );
+    assert_eq!(rt; bad_transcript_line(rt.alloc(), b"t 1\nq\no 1 6869\n")?, 2);
+    assert_eq!(rt; bad_transcript_line(rt.alloc(), b"t 1\nr 1 1")?, 2);
+    assert_eq!(rt; bad_transcript_line(rt.alloc(), b"t 01\n")?, 1);
+    assert_eq!(rt; bad_transcript_line(rt.alloc(), b"t 4294967296\n")?, 1);
+    assert_eq!(rt; bad_transcript_line(rt.alloc(), b"o 1 6A\n")?, 1);
+    assert_eq!(rt; bad_transcript_line(rt.alloc(), b"o 1 \n")?, 1);
+    assert_eq!(rt; bad_transcript_line(rt.alloc(), b"r 1 0\n")?, 1);
+    assert_eq!(rt; bad_transcript_line(rt.alloc(), b"c 1 4 2 0 0\n")?, 1);
+    assert_eq!(rt; bad_transcript_line(rt.alloc(), b"D\nZ s 1\n")?, 2);
     Ok(())
 }

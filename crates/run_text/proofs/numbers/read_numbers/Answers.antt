@@ -1,5 +1,5 @@
 -- No number, too many numbers, one more number, and the end.
-use Rattle.std.proofs.Common.{rules, ◌≡◌, ℕ, ◌<◌, ◌≤◌, length, arith}
+use Rattle.std.proofs.Common.{rules, ◌≡◌, ◌<◌, length, arith}
 use Rattle.std.proofs.lemmas.Bool.Decides.{nat_tests}
 use Rattle.run_text.proofs.NumberRows.{row_none, row_full, row_push, row_end}
 use Rattle.run_text.proofs.numbers.read_numbers.Goals as goal

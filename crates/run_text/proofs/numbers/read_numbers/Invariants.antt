@@ -1,7 +1,5 @@
 -- The numbers so far, and each row of numbers that the text consists of begins with them.
-use Rattle.std.proofs.Common.{◌≡◌, ◌≤◌, ℕ, List, ◌++◌, length}
-use Rattle.run_text.specs.Text.{parts}
-use Rattle.run_text.specs.Transcript.{AllBelow}
+use Rattle.std.proofs.Common.{length}
 use Rattle.run_text.proofs.NumberRows.{RowSoFar}
 use Rattle.run_text.proofs.numbers.read_numbers.Given as goal
 

@@ -11,7 +11,8 @@ pub returns-in_default : goal.returns-in_default
 returns-in_default c n small is = no_digits c.args.text.now n small is c.in_default.ensures
 
 pub returns : goal.returns
-returns c =
-    (is_decimal c.args.text.now c.in-Some.number c.in-Some.ensures.0 c.in-Some.ensures.1 c.in-Some.ensures.2
-        (λ zero_first. omega (arith, c.if-has_zero_in_front.ensures zero_first, c.in-Some.ensures.0.0)),
-     c.in-Some.ensures.2)
+returns c = (
+  is_decimal c.args.text.now c.in-Some.number c.in-Some.ensures.0 c.in-Some.ensures.1 c.in-Some.ensures.2
+      (λ zero_first. omega (arith, c.if-has_zero_in_front.ensures zero_first, c.in-Some.ensures.0.0)),
+  c.in-Some.ensures.2,
+)

@@ -1,11 +1,9 @@
 -- A line that is bad, one more line that is read, and the end.
-use Rattle.std.proofs.Common.{rules, ◌≡◌, ℕ, ◌+◌, ◌≤◌, ◌<◌, List, [], ◌∷◌, ◌++◌, length, arith, subst, sym}
-use Rattle.vm_facts.specs.declared.event.Event.{Event}
+use Rattle.std.proofs.Common.{rules, ◌≡◌, ◌<◌, length, arith}
 use Rattle.run_text.specs.Schedule.{IsEventLine}
-use Rattle.run_text.specs.Pieces.{line_len}
 use Rattle.run_text.specs.Lines.{lines_in}
 use Rattle.run_text.proofs.Events.{all_in_ranges}
-use Rattle.run_text.proofs.Reading.{ReadSoFar, read_bad, read_none, read_push, read_end}
+use Rattle.run_text.proofs.Reading.{read_bad, read_none, read_push, read_end}
 use Rattle.run_text.proofs.schedule_reader.read_schedule.Goals as goal
 
 pub returns-then-line-gt65536-clause-exact : goal.returns-then-line-gt65536-clause-exact
