@@ -1,5 +1,5 @@
 -- Where a file that was found may be read.
-use Rattle.std.proofs.Common.{◌≡◌, ◌≤◌, ◌<◌, ◌+◌, ℕ, List, Option, Some, None, length, bytes_eq, subst, sym, arith}
+use Rattle.std.proofs.Common.{◌≡◌, ◌≤◌, ◌+◌, ℕ, List, Option, Some, None, bytes_eq, subst, sym, arith}
 use Rattle.std.proofs.lemmas.List.Quantifiers.{position-Some}
 use Rattle.io_edge.specs.FileHolding.{NamedFile, AnswersName, HasRange, no_file}
 use Rattle.io_edge.specs.declared.Found.TheVariants.{Is}

@@ -1,2 +1,6 @@
 pub mod NamedFiles
 pub mod FileRanges
+pub mod Pages
+pub mod Stripes
+pub mod StripeWrites
+pub mod PairCalls

@@ -1,5 +1,5 @@
 -- Counts of faults, and what a call that moves bytes says by its answer.
-use Rattle.std.specs.Prelude.{◌≡◌, ◌≤◌, ◌<◌, ◌⊎◌, ℕ, ⊤}
+use Rattle.std.specs.Prelude.{◌≡◌, ◌≤◌, ◌<◌, ◌+◌, ◌⊎◌, min, ℕ, ⊤}
 use Rattle.io_edge.specs.declared.Moved.{Moved}
 use Rattle.io_edge.specs.declared.Moved.TheVariants.{Done, Failed}
 
@@ -10,6 +10,10 @@ last_count = 0xffff_ffff_ffff_ffff
 -- the count rose, or stands at its last value
 abbrev pub Rose : ℕ → ℕ → Type 0
 Rose old new = (old < new) ⊎ ((last_count ≤ old) × (new ≡ old))
+
+-- the count after one more failed call
+abbrev pub next_count : ℕ → ℕ
+next_count count = min (count + 1) last_count
 
 -- a count of faults over one call: it rises where the call failed, and in no other call
 abbrev pub Counts : Moved → ℕ → ℕ → Type 0

@@ -2,4 +2,9 @@ pub mod Count
 pub mod FileHolding
 pub mod SwapImage
 pub mod Written
+pub mod Striping
+pub mod PairFailures
 pub mod Told
+pub mod PairLeads
+pub mod StripeSizes
+pub mod FailedDevice

@@ -1,4 +1,6 @@
 -- The bytes of a swap device, 512 a block, two blocks a page.
+use Rattle.io_edge.specs.Count.{OnDone, OnFailed}
+use Rattle.io_edge.specs.declared.Moved.{Moved}
 use Rattle.std.specs.Prelude.{◌≡◌, ◌+◌, ◌*◌, ℕ, List, ◌++◌, length, take, drop, Option, Some, None, ⊤}
 
 -- the page that begins at this block
@@ -22,3 +24,7 @@ WritesPage (Some image) block bytes new = new ≡ Some (put_page image block byt
 -- the image after some bytes came into the page: all else is as it was
 abbrev pub SpoilsPage : Option (List ℕ) → ℕ → Option (List ℕ) → Type 0
 SpoilsPage old block new = (bytes : List ℕ) × (length bytes ≡ 1024) × WritesPage old block bytes new
+
+-- the image after a write with this answer
+abbrev pub LeavesPage : Moved → Option (List ℕ) → ℕ → List ℕ → Option (List ℕ) → Type 0
+LeavesPage moved old block bytes new = OnDone moved (WritesPage old block bytes new) × OnFailed moved (SpoilsPage old block new)

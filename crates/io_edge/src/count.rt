@@ -1,10 +1,11 @@
 // Counts of faults, and the calls of a form in memory that are to fail.
 ghost use Rattle.std.specs.Prelude.{◌≡◌, ◌≤◌};
-ghost use Rattle.io_edge.specs.Count.{Rose};
+ghost use Rattle.io_edge.specs.Count.{Rose, next_count};
 
 // The count after one more fault.
 pub(crate) fn raised(count: u64) -> u64
-    ensures { Rose count result }
+    ensures rose { Rose count result }
+    ensures next { result ≡ next_count count }
 {
     count.saturating_add(1)
 }

@@ -7,9 +7,9 @@ use crate::{Found, Moved};
 
 /// A store of files that no call changes.
 ///
-/// Faults are counted in two kinds: those met on the way to a file's first bytes, in `find` and in a
-/// `read_at` of offset 0, and those of every other `read_at`. A count never falls. It is a `u64` where
-/// it is kept by the system's side, and stands still at its last value.
+/// Faults are counted in two kinds (this project's profile): those met on the way to a file's first
+/// bytes, in `find` and in a `read_at` of offset 0, and those of every other `read_at`. A count never
+/// falls. It is kept as a `u64`, which stands still at its last value.
 pub trait Files {
     /// The names and bytes of all files, in order, where they are told.
     ghost holds: { Self → Option (List NamedFile) };

@@ -5,6 +5,8 @@
 
 mod count;
 pub mod dir_files;
+mod failures;
+pub mod file_swap;
 pub mod files;
 pub mod mem_files;
 pub mod mem_sink;
@@ -12,15 +14,18 @@ pub mod mem_swap;
 pub mod out_sink;
 pub mod sink;
 pub mod swap_dev;
+pub mod swap_pair;
 
 pub use dir_files::DirFiles;
+pub use file_swap::FileSwap;
 pub use files::Files;
 pub use mem_files::{MemFiles, SureFiles};
 pub use mem_sink::{MemSink, SureSink};
-pub use mem_swap::SureSwap;
+pub use mem_swap::{MemSwap, SureSwap};
 pub use out_sink::OutSink;
 pub use sink::Sink;
 pub use swap_dev::SwapDev;
+pub use swap_pair::SwapPair;
 
 /// What `Files::find` answers for a name.
 #[derive(Clone, Copy, PartialEq, Eq, Debug)]

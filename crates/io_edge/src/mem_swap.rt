@@ -1,9 +1,10 @@
 // Swap devices in memory.
 ghost use Rattle.std.specs.Prelude.{◌≡◌, ◌+◌, ◌*◌, ◌≤◌, ℕ, Some, List, length, IfOk, replicate, refl};
-ghost use Rattle.std.proofs.Common.{◌∙◌, lit≤};
+ghost use Rattle.std.proofs.Common.{◌∙◌, le_refl, le_trans, lit≤};
 ghost use Rattle.io_edge.specs.SwapImage.{page_at, put_page};
 ghost use Rattle.io_edge.specs.Told.{told_length};
 
+use crate::count::{FaultPlan, raised};
 use crate::{Moved, NoMemory, SwapDev};
 use std::alloc::Global;
 
@@ -84,4 +85,83 @@ impl SwapDev for SureSwap {
     ghost reads_grow = { λ _ _ _. lit≤ tt };
 
     ghost writes_grow = { λ _ _ _. lit≤ tt };
+}
+
+/// A swap device in memory with calls that are to fail.
+#[derive(Drop)]
+pub struct MemSwap {
+    store: SureSwap,
+    reads: FaultPlan,
+    writes: FaultPlan,
+    read_faults: u64,
+    write_faults: u64,
+}
+
+impl MemSwap {
+    /// A device of this many blocks of zeros. `fail_reads` and `fail_writes` hold the numbers of the
+    /// calls of `read` and of `write` that are to fail, each kind counted from 1. A failing `write`
+    /// leaves the device as it was.
+    pub fn new(
+        alloc: Global,
+        blocks: u32,
+        fail_reads: Vec<u64>,
+        fail_writes: Vec<u64>,
+    ) -> Result<MemSwap, NoMemory>
+        ensures blocks { IfOk result (λ swap. ⟦<MemSwap as SwapDev>⟧.blocks swap ≡ blocks) }
+        ensures zeros { IfOk result (λ swap. ⟦<MemSwap as SwapDev>⟧.image swap ≡ Some (replicate (512 * blocks) 0)) }
+        ensures read_faults { IfOk result (λ swap. ⟦<MemSwap as SwapDev>⟧.read_faults swap ≡ 0) }
+        ensures write_faults { IfOk result (λ swap. ⟦<MemSwap as SwapDev>⟧.write_faults swap ≡ 0) }
+    {
+        Ok(MemSwap {
+            store: SureSwap::new(alloc, blocks)?,
+            reads: FaultPlan::new(fail_reads),
+            writes: FaultPlan::new(fail_writes),
+            read_faults: 0,
+            write_faults: 0,
+        })
+    }
+}
+
+impl SwapDev for MemSwap {
+    ghost image = { λ d. Some d.store.image.items };
+
+    ghost blocks = { λ d. d.store.blocks };
+
+    ghost read_faults = { λ d. d.read_faults };
+
+    ghost write_faults = { λ d. d.write_faults };
+
+    ghost leads = { λ a b. (b.store.blocks ≡ a.store.blocks) × (a.read_faults ≤ b.read_faults) × (a.write_faults ≤ b.write_faults) };
+
+    fn blocks(&self) -> u32 {
+        self.store.blocks
+    }
+
+    fn read(&mut self, block: u32, buf: &mut [u8; 1024]) -> Moved {
+        if self.reads.next_fails() {
+            self.read_faults = raised(self.read_faults);
+            return Moved::Failed;
+        }
+        self.store.read(block, buf)
+    }
+
+    fn write(&mut self, block: u32, bytes: &[u8; 1024]) -> Moved {
+        if self.writes.next_fails() {
+            self.write_faults = raised(self.write_faults);
+            return Moved::Failed;
+        }
+        self.store.write(block, bytes)
+    }
+
+    ghost whole = { λ d bytes told. told_length d.store.image.items bytes (512 * d.store.blocks) told d.store.whole };
+
+    ghost leads_nowhere = { λ d. (refl, le_refl d.read_faults, le_refl d.write_faults) };
+
+    ghost leads_through = { λ _ _ _ first then. (then.0 ∙ first.0, le_trans first.1 then.1, le_trans first.2 then.2) };
+
+    ghost blocks_stay = { λ _ _ led. led.0 };
+
+    ghost reads_grow = { λ _ _ led. led.1 };
+
+    ghost writes_grow = { λ _ _ led. led.2 };
 }

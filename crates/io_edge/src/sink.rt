@@ -5,8 +5,8 @@ ghost use Rattle.io_edge.specs.Written.{Appends, AppendsSome, Extends};
 
 use crate::Moved;
 
-/// Output that is written piece after piece. Failed calls are counted, in a count that never falls;
-/// kept as a `u64` it stands still at its last value.
+/// Output that is written piece after piece (this project's profile). Failed calls are counted, in a
+/// count that never falls. It is kept as a `u64`, which stands still at its last value.
 pub trait Sink {
     /// All bytes that were written, in order, where they are told.
     ghost written: { Self → Option (List ℕ) };

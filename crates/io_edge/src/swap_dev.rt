@@ -6,8 +6,8 @@ ghost use Rattle.io_edge.specs.SwapImage.{HoldsPage, WritesPage, SpoilsPage};
 use crate::Moved;
 
 /// A device of blocks of 512 bytes. A call moves the two blocks of one page, of which the first has an
-/// even number. Failed reads and failed writes are counted, each in a count that never falls; kept as
-/// a `u64` it stands still at its last value.
+/// even number (this project's profile). Failed reads and failed writes are counted, each in a count
+/// that never falls. It is kept as a `u64`, which stands still at its last value.
 pub trait SwapDev {
     /// All bytes of the device, block after block, where they are told.
     ghost image: { Self → Option (List ℕ) };

@@ -1,0 +1,40 @@
+use Rattle.std.proofs.Common.{◌≡◌, ◌∙◌, sym, arith}
+use Rattle.io_edge.specs.Striping.{device_of}
+use Rattle.io_edge.proofs.Stripes.{place_of-even}
+use Rattle.io_edge.proofs.StripeWrites.{not_even, inside_even, inside_odd}
+use Rattle.io_edge.proofs.PairCalls.{on_done, pair_reads_even, pair_reads_odd}
+use Rattle.io_edge.proofs.swap_pair.SwapPairSwapDev.read.Goals as goal
+
+pub read-moved-requires-clause-even : goal.read-moved-requires-clause-even
+read-moved-requires-clause-even g c = omega (arith, place_of-even c.args.block c.requires.even)
+
+pub read-moved-requires-clause-inside : goal.read-moved-requires-clause-inside
+read-moved-requires-clause-inside g c =
+    omega (arith, inside_even c.args.block _ _ c.requires.even c.requires.inside (sym c.device_number.ensures ∙ c.if-device_number-eq0.true))
+
+pub read-moved-requires-else-device_number-eq0-clause-even :
+    goal.read-moved-requires-else-device_number-eq0-clause-even
+read-moved-requires-else-device_number-eq0-clause-even g c = omega (arith, place_of-even c.args.block c.requires.even)
+
+pub read-moved-requires-else-device_number-eq0-clause-inside :
+    goal.read-moved-requires-else-device_number-eq0-clause-inside
+read-moved-requires-else-device_number-eq0-clause-inside g c =
+    omega (arith, inside_odd c.args.block _ _ c.requires.even c.requires.inside (not_even c.args.block (λ on. c.if-device_number-eq0.false (c.device_number.ensures ∙ on))))
+
+pub returns-then-device_number-eq0-clause-done : goal.returns-then-device_number-eq0-clause-done
+returns-then-device_number-eq0-clause-done g c =
+    let on : device_of c.args.block ≡ 0 = sym c.device_number.ensures ∙ c.if-device_number-eq0.true in
+    on_done c.read-moved.result _ _
+    (pair_reads_even _ _ c.place_on_device-place.result c.args.block _ _ c.read-moved.new.buf
+    (g.met.D.SwapDev.whole c.args.self.now.zero.now) (g.met.E.SwapDev.whole c.args.self.now.one.now)
+    c.place_on_device-place.ensures on c.requires.even c.requires.inside)
+    c.read-moved.ensures.done
+
+pub returns-else-device_number-eq0-clause-done : goal.returns-else-device_number-eq0-clause-done
+returns-else-device_number-eq0-clause-done g c =
+    let on : device_of c.args.block ≡ 1 = not_even c.args.block (λ on. c.if-device_number-eq0.false (c.device_number.ensures ∙ on)) in
+    on_done c.read-moved-else-device_number-eq0.result _ _
+    (pair_reads_odd _ _ c.place_on_device-place.result c.args.block _ _ c.read-moved-else-device_number-eq0.new.buf
+    (g.met.D.SwapDev.whole c.args.self.now.zero.now) (g.met.E.SwapDev.whole c.args.self.now.one.now)
+    c.place_on_device-place.ensures on c.requires.even c.requires.inside)
+    c.read-moved-else-device_number-eq0.ensures.done

@@ -1,0 +1,61 @@
+-- Why the image of a pair has 512 bytes for each block.
+use Rattle.std.specs.Prelude.{◌≡◌, ◌<◌, ◌≤◌, ◌+◌, ◌*◌, ℕ, zero, suc, List, length, drop, Option, Some, None}
+use Rattle.std.proofs.Common.{arith, refl, sym, ap, ◌∙◌, length-append}
+use Rattle.std.proofs.lemmas.List.{length-take-le, length-drop}
+use Rattle.io_edge.specs.Striping.{device_of, place_of, of_device, pair_blocks, block_at, first_blocks, pair_image}
+
+-- each block of the pair is within its device
+pub zero_has : (block even_size odd_size : ℕ) → block < pair_blocks even_size odd_size → device_of block ≡ 0 → place_of block < even_size
+unfolding pair_blocks device_of place_of
+zero_has block even_size odd_size within even = omega arith
+
+pub one_has : (block even_size odd_size other : ℕ) → block < pair_blocks even_size odd_size → device_of block ≡ suc other → place_of block < odd_size
+unfolding pair_blocks device_of place_of
+one_has block even_size odd_size other within odd = omega arith
+
+-- each block of the pair is within its device's image
+abbrev pub HasBlocks : ℕ → List ℕ → List ℕ → Type 0
+HasBlocks blocks evens odds = (device block : ℕ) → device_of block ≡ device → block < blocks → 512 * place_of block + 512 ≤ length (of_device device evens odds)
+
+pub has_blocks : (even_size odd_size : ℕ) (evens odds : List ℕ) → length evens ≡ 512 * even_size → length odds ≡ 512 * odd_size → HasBlocks (pair_blocks even_size odd_size) evens odds
+has_blocks even_size odd_size evens odds even_long odd_long zero block on within = omega (arith, zero_has block even_size odd_size within on)
+has_blocks even_size odd_size evens odds even_long odd_long (suc other) block on within = omega (arith, one_has block even_size odd_size other within on)
+
+-- a block as the pair has it
+abbrev pub pair_block : ℕ → List ℕ → List ℕ → List ℕ
+pair_block block evens odds = block_at (of_device (device_of block) evens odds) (place_of block)
+
+length-block_at : (image : List ℕ) (block : ℕ) → 512 * block + 512 ≤ length image → length (block_at image block) ≡ 512
+unfolding block_at
+length-block_at image block within = length-take-le 512 (drop (512 * block) image) (omega (arith, length-drop (512 * block) image))
+
+pub length-pair_block : (blocks block : ℕ) (evens odds : List ℕ) → HasBlocks blocks evens odds → block < blocks → length (pair_block block evens odds) ≡ 512
+length-pair_block blocks block evens odds has within = length-block_at (of_device (device_of block) evens odds) (place_of block) (has (device_of block) block refl within)
+
+-- the length of a pair's image
+pub length-first_blocks : (blocks : ℕ) (evens odds : List ℕ) → HasBlocks blocks evens odds → length (first_blocks blocks evens odds) ≡ 512 * blocks
+unfolding first_blocks
+length-first_blocks zero evens odds has = refl
+length-first_blocks (suc block) evens odds has =
+    let before = length-first_blocks block evens odds (λ device lower on below. has device lower on (omega arith)) in
+    let last = length-pair_block (suc block) block evens odds has (omega arith) in
+    omega (arith, length-append (first_blocks block evens odds) (pair_block block evens odds), before, last)
+
+-- told images have each block of the pair
+abbrev pub TellBlocks : ℕ → Option (List ℕ) → Option (List ℕ) → Type 0
+TellBlocks blocks evens odds = (even_bytes odd_bytes : List ℕ) → evens ≡ Some even_bytes → odds ≡ Some odd_bytes → HasBlocks blocks even_bytes odd_bytes
+
+-- devices that tell whole images tell each block of the pair
+pub tell_blocks : (even_size odd_size : ℕ) (evens odds : Option (List ℕ)) → ((bytes : List ℕ) → evens ≡ Some bytes → length bytes ≡ 512 * even_size) → ((bytes : List ℕ) → odds ≡ Some bytes → length bytes ≡ 512 * odd_size) → TellBlocks (pair_blocks even_size odd_size) evens odds
+tell_blocks even_size odd_size evens odds even_whole odd_whole even_bytes odd_bytes even_told odd_told =
+    has_blocks even_size odd_size even_bytes odd_bytes (even_whole even_bytes even_told) (odd_whole odd_bytes odd_told)
+
+some_is : (a b : List ℕ) → Some a ≡ Some b → a ≡ b
+some_is a b same = cc
+
+-- a told image of the pair has 512 bytes for each block
+pub pair_whole : (blocks : ℕ) (evens odds : Option (List ℕ)) (bytes : List ℕ) → TellBlocks blocks evens odds → pair_image blocks evens odds ≡ Some bytes → length bytes ≡ 512 * blocks
+pair_whole blocks None odds bytes tell told = cc
+pair_whole blocks (Some evens) None bytes tell told = cc
+pair_whole blocks (Some evens) (Some odds) bytes tell told =
+    ap length (sym (some_is (first_blocks blocks evens odds) bytes told)) ∙ length-first_blocks blocks evens odds (tell evens odds refl refl)

@@ -1,0 +1,54 @@
+-- A pair of swap devices, striped by units of 1,024 blocks: even units on device 0, odd ones on device 1.
+use Rattle.std.specs.Prelude.{◌≤◌, ◌+◌, ◌*◌, ◌/◌, ◌%◌, ◌-◌, min, ℕ, zero, suc, List, [], ◌++◌, take, drop, Option, Some, None}
+
+-- the device of a block: 0 or 1
+unfoldable pub device_of : ℕ → ℕ
+device_of block = block / 1024 % 2
+
+-- the block there
+unfoldable pub place_of : ℕ → ℕ
+place_of block = block / 1024 / 2 * 1024 + block % 1024
+
+-- the one of two that belongs to a device
+abbrev pub of_device : {A : Type 0} → ℕ → A → A → A
+of_device zero even odd = even
+of_device (suc _) even odd = odd
+
+-- the blocks of device 0 that a swap of so many blocks needs
+unfoldable pub zero_needs : ℕ → ℕ
+zero_needs blocks = (blocks / 1024 - blocks / 1024 / 2) * 1024 + of_device (device_of blocks) (blocks % 1024) 0
+
+-- the blocks of device 1 that it needs
+unfoldable pub one_needs : ℕ → ℕ
+one_needs blocks = blocks / 1024 / 2 * 1024 + of_device (device_of blocks) 0 (blocks % 1024)
+
+-- the most blocks that a pair has
+abbrev pub most_blocks : ℕ
+most_blocks = 131072
+
+-- two devices of these sizes have what a swap of so many blocks needs
+abbrev pub MeetsNeeds : ℕ → ℕ → ℕ → Type 0
+MeetsNeeds even_size odd_size blocks = (zero_needs blocks ≤ even_size) × (one_needs blocks ≤ odd_size)
+
+-- the largest swap that two devices of these sizes hold
+abbrev pub IsLargestSwap : ℕ → ℕ → ℕ → Type 0
+IsLargestSwap even_size odd_size blocks = (blocks ≤ most_blocks) × MeetsNeeds even_size odd_size blocks × ((more : ℕ) → more ≤ most_blocks → MeetsNeeds even_size odd_size more → more ≤ blocks)
+
+-- how many blocks two devices of these sizes make together
+unfoldable pub pair_blocks : ℕ → ℕ → ℕ
+pair_blocks even_size odd_size = min most_blocks (min (even_size / 1024 * 2048 + even_size % 1024) (1024 + odd_size / 1024 * 2048 + odd_size % 1024))
+
+-- one block of an image
+unfoldable pub block_at : List ℕ → ℕ → List ℕ
+block_at image block = take 512 (drop (512 * block) image)
+
+-- the first blocks of a pair, each from its device's image
+unfoldable pub first_blocks : ℕ → List ℕ → List ℕ → List ℕ
+first_blocks zero evens odds = []
+first_blocks (suc block) evens odds = first_blocks block evens odds ++ block_at (of_device (device_of block) evens odds) (place_of block)
+
+-- the image of a pair of so many blocks, told where both devices tell theirs
+abbrev pub pair_image : ℕ → Option (List ℕ) → Option (List ℕ) → Option (List ℕ)
+pair_image blocks None _ = None
+pair_image blocks (Some evens) None = None
+pair_image blocks (Some evens) (Some odds) = Some (first_blocks blocks evens odds)

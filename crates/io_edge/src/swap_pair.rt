@@ -1,0 +1,246 @@
+// Two swap devices as one.
+ghost use Rattle.std.specs.Prelude.{◌≡◌, ◌+◌, ◌%◌, ◌≤◌, ◌<◌, ◌↔◌, IsTrue, IsNone, None, refl};
+ghost use Rattle.std.proofs.Common.{sym, ◌∙◌, ap};
+ghost use Rattle.io_edge.specs.Count.{Counts, OnDone, OnFailed, next_count};
+ghost use Rattle.io_edge.specs.SwapImage.{HoldsPage, WritesPage, SpoilsPage, LeavesPage};
+ghost use Rattle.io_edge.specs.Striping.{device_of, place_of, pair_blocks, pair_image, IsLargestSwap};
+ghost use Rattle.io_edge.specs.PairFailures.{AddsFailures};
+ghost use Rattle.io_edge.specs.PairLeads.{adds_nothing, adds_through};
+ghost use Rattle.io_edge.specs.StripeSizes.{tell_blocks, pair_whole};
+
+use crate::failures::Failures;
+use crate::{Moved, SwapDev};
+
+// The device of a block.
+#[tactic(auto, unfolding(crate::specs::Striping::device_of))]
+fn device_number(block: u32) -> u32
+    ensures { result ≡ device_of block }
+{
+    block / 1024 % 2
+}
+
+// Its block there.
+#[tactic(auto, unfolding(crate::specs::Striping::place_of))]
+fn place_on_device(block: u32) -> u32
+    ensures { result ≡ place_of block }
+{
+    block / 1024 / 2 * 1024 + block % 1024
+}
+
+// How many blocks two devices of these sizes make together.
+#[tactic(auto, unfolding(crate::specs::Striping::pair_blocks))]
+fn striped_blocks(zero: u32, one: u32) -> u32
+    ensures { result ≡ pair_blocks zero one }
+{
+    let (zero, one) = (u64::from(zero), u64::from(one));
+    let zero_reach = zero / 1024 * 2048 + zero % 1024;
+    let one_reach = 1024 + one / 1024 * 2048 + one % 1024;
+    zero_reach.min(one_reach).min(131_072) as u32
+}
+
+/// Two swap devices as one, striped by units of 1,024 blocks: the even units are those of device 0, in
+/// their order, and the odd ones those of device 1. It has as many blocks as both devices have room
+/// for, and 131,072 at most (this project's profile). Its image is told where both devices tell theirs.
+///
+/// It counts its own failed calls, in a `u64` that stands still at its last value. Where calls lead from
+/// one state of the pair to a later one, its two references are the same, calls lead from each device's
+/// earlier state to its later one, and a device that is named anew for a failed call has failed: its own
+/// count of that kind rose.
+#[derive(Drop)]
+pub struct SwapPair<'a, D, E> {
+    /// Device 0.
+    pub zero: &'a mut D,
+
+    /// Device 1.
+    pub one: &'a mut E,
+    reads: Failures,
+    writes: Failures,
+}
+
+impl<'a, D: SwapDev, E: SwapDev> SwapPair<'a, D, E> {
+    ghost use Rattle.io_edge.specs.FailedDevice.{failed_read_of, failed_write_of};
+
+    /// Device 0 and device 1, with no failed call so far.
+    pub fn new(zero: &'a mut D, one: &'a mut E) -> SwapPair<'a, D, E>
+        ensures zero_reference { result.zero.ghost_name ≡ zero.entry.ghost_name }
+        ensures one_reference { result.one.ghost_name ≡ one.entry.ghost_name }
+        ensures zero { result.zero.now ≡ zero.old }
+        ensures one { result.one.now ≡ one.old }
+        ensures read_faults { ⟦<SwapPair<'a, D, E> as SwapDev>⟧.read_faults result ≡ 0 }
+        ensures write_faults { ⟦<SwapPair<'a, D, E> as SwapDev>⟧.write_faults result ≡ 0 }
+        ensures failed_read { failed_read_of result ≡ None }
+        ensures failed_write { failed_write_of result ≡ None }
+        ensures blocks { IsLargestSwap (D.blocks zero.old) (E.blocks one.old)
+            (⟦<SwapPair<'a, D, E> as SwapDev>⟧.blocks result) }
+    {
+        SwapPair {
+            zero,
+            one,
+            reads: Failures::none(),
+            writes: Failures::none(),
+        }
+    }
+
+    /// The device of the last failed `read`: 0 or 1. Its own count of failed reads rose since the pair
+    /// was made.
+    pub fn failed_read(&self) -> Option<u32>
+        ensures none { IsNone result ↔ (⟦<SwapPair<'a, D, E> as SwapDev>⟧.read_faults self.now ≡ 0) }
+        ensures device { result ≡ failed_read_of self.now }
+    {
+        self.reads.last
+    }
+
+    /// The device of the last failed `write`: 0 or 1. Its own count of failed writes rose since the
+    /// pair was made.
+    pub fn failed_write(&self) -> Option<u32>
+        ensures none { IsNone result ↔ (⟦<SwapPair<'a, D, E> as SwapDev>⟧.write_faults self.now ≡ 0) }
+        ensures device { result ≡ failed_write_of self.now }
+    {
+        self.writes.last
+    }
+}
+
+impl<'a, D: SwapDev, E: SwapDev> SwapDev for SwapPair<'a, D, E> {
+    ghost image = { λ p. pair_image (pair_blocks (D.blocks p.zero.now) (E.blocks p.one.now))
+        (D.image p.zero.now) (E.image p.one.now) };
+
+    ghost blocks = { λ p. pair_blocks (D.blocks p.zero.now) (E.blocks p.one.now) };
+
+    ghost read_faults = { λ p. p.reads.count };
+
+    ghost write_faults = { λ p. p.writes.count };
+
+    ghost leads = { λ p q. (p.zero.ghost_name ≡ q.zero.ghost_name)
+        × (p.one.ghost_name ≡ q.one.ghost_name)
+        × D.leads p.zero.now q.zero.now × E.leads p.one.now q.one.now
+        × AddsFailures p.reads.count q.reads.count p.reads.last q.reads.last
+        (D.read_faults p.zero.now) (D.read_faults q.zero.now)
+        (E.read_faults p.one.now) (E.read_faults q.one.now)
+        × AddsFailures p.writes.count q.writes.count p.writes.last q.writes.last
+        (D.write_faults p.zero.now) (D.write_faults q.zero.now)
+        (E.write_faults p.one.now) (E.write_faults q.one.now) };
+
+    fn blocks(&self) -> u32 {
+        striped_blocks(self.zero.blocks(), self.one.blocks())
+    }
+
+    fn read(&mut self, block: u32, buf: &mut [u8; 1024]) -> Moved
+        requires even { block % 2 ≡ 0 }
+        requires inside { block + 2 ≤ ⟦<SwapPair<'a, D, E> as SwapDev>⟧.blocks self.old }
+        ensures leads { ⟦<SwapPair<'a, D, E> as SwapDev>⟧.leads self.old self.new }
+        ensures blocks { ⟦<SwapPair<'a, D, E> as SwapDev>⟧.blocks self.new
+            ≡ ⟦<SwapPair<'a, D, E> as SwapDev>⟧.blocks self.old }
+        ensures image { ⟦<SwapPair<'a, D, E> as SwapDev>⟧.image self.new
+            ≡ ⟦<SwapPair<'a, D, E> as SwapDev>⟧.image self.old }
+        ensures done { OnDone result
+            (HoldsPage (⟦<SwapPair<'a, D, E> as SwapDev>⟧.image self.old) block buf.new) }
+        ensures read_faults { Counts result
+            (⟦<SwapPair<'a, D, E> as SwapDev>⟧.read_faults self.old)
+            (⟦<SwapPair<'a, D, E> as SwapDev>⟧.read_faults self.new) }
+        ensures write_faults { ⟦<SwapPair<'a, D, E> as SwapDev>⟧.write_faults self.new
+            ≡ ⟦<SwapPair<'a, D, E> as SwapDev>⟧.write_faults self.old }
+
+        // Its own failed calls, one by one.
+        ensures failed_calls { OnFailed result (⟦<SwapPair<'a, D, E> as SwapDev>⟧.read_faults self.new
+            ≡ next_count (⟦<SwapPair<'a, D, E> as SwapDev>⟧.read_faults self.old)) }
+
+        // No block of either device changes.
+        ensures zero_image { D.image self.new.zero.now ≡ D.image self.old.zero.now }
+        ensures one_image { E.image self.new.one.now ≡ E.image self.old.one.now }
+    {
+        let place = place_on_device(block);
+        if device_number(block) == 0 {
+            let moved = self.zero.read(place, buf);
+            self.reads.note(moved, 0);
+            moved
+        } else {
+            let moved = self.one.read(place, buf);
+            self.reads.note(moved, 1);
+            moved
+        }
+    }
+
+    fn write(&mut self, block: u32, bytes: &[u8; 1024]) -> Moved
+        requires even { block % 2 ≡ 0 }
+        requires inside { block + 2 ≤ ⟦<SwapPair<'a, D, E> as SwapDev>⟧.blocks self.old }
+        ensures leads { ⟦<SwapPair<'a, D, E> as SwapDev>⟧.leads self.old self.new }
+        ensures blocks { ⟦<SwapPair<'a, D, E> as SwapDev>⟧.blocks self.new
+            ≡ ⟦<SwapPair<'a, D, E> as SwapDev>⟧.blocks self.old }
+        ensures done { OnDone result
+            (WritesPage (⟦<SwapPair<'a, D, E> as SwapDev>⟧.image self.old) block bytes.now
+            (⟦<SwapPair<'a, D, E> as SwapDev>⟧.image self.new)) }
+        ensures failed { OnFailed result
+            (SpoilsPage (⟦<SwapPair<'a, D, E> as SwapDev>⟧.image self.old) block
+            (⟦<SwapPair<'a, D, E> as SwapDev>⟧.image self.new)) }
+        ensures read_faults { ⟦<SwapPair<'a, D, E> as SwapDev>⟧.read_faults self.new
+            ≡ ⟦<SwapPair<'a, D, E> as SwapDev>⟧.read_faults self.old }
+        ensures write_faults { Counts result
+            (⟦<SwapPair<'a, D, E> as SwapDev>⟧.write_faults self.old)
+            (⟦<SwapPair<'a, D, E> as SwapDev>⟧.write_faults self.new) }
+
+        // Its own failed calls, one by one.
+        ensures failed_calls { OnFailed result (⟦<SwapPair<'a, D, E> as SwapDev>⟧.write_faults self.new
+            ≡ next_count (⟦<SwapPair<'a, D, E> as SwapDev>⟧.write_faults self.old)) }
+
+        // The block's device changes at its place alone, and the other device not at all.
+        ensures on_zero { device_of block ≡ 0 → LeavesPage result (D.image self.old.zero.now)
+            (place_of block) bytes.now (D.image self.new.zero.now) }
+        ensures not_on_zero { device_of block ≡ 1 → self.new.zero.now ≡ self.old.zero.now }
+        ensures on_one { device_of block ≡ 1 → LeavesPage result (E.image self.old.one.now)
+            (place_of block) bytes.now (E.image self.new.one.now) }
+        ensures not_on_one { device_of block ≡ 0 → self.new.one.now ≡ self.old.one.now }
+    {
+        let place = place_on_device(block);
+        if device_number(block) == 0 {
+            let moved = self.zero.write(place, bytes);
+            self.writes.note(moved, 0);
+            moved
+        } else {
+            let moved = self.one.write(place, bytes);
+            self.writes.note(moved, 1);
+            moved
+        }
+    }
+
+    ghost whole = { λ p bytes told. pair_whole
+        (pair_blocks (D.blocks p.zero.now) (E.blocks p.one.now))
+        (D.image p.zero.now) (E.image p.one.now) bytes
+        (tell_blocks (D.blocks p.zero.now) (E.blocks p.one.now) (D.image p.zero.now)
+        (E.image p.one.now) (D.whole p.zero.now) (E.whole p.one.now)) told };
+
+    ghost leads_nowhere = { λ p. (
+      refl,
+      refl,
+      D.leads_nowhere p.zero.now,
+      E.leads_nowhere p.one.now,
+      adds_nothing p.reads.count p.reads.last (D.read_faults p.zero.now) (E.read_faults p.one.now),
+      adds_nothing p.writes.count p.writes.last (D.write_faults p.zero.now) (E.write_faults p.one.now),
+    ) };
+
+    ghost leads_through = { λ p q r first then. (
+      first.0 ∙ then.0,
+      first.1 ∙ then.1,
+      D.leads_through p.zero.now q.zero.now r.zero.now first.2 then.2,
+      E.leads_through p.one.now q.one.now r.one.now first.3 then.3,
+      adds_through p.reads.count q.reads.count r.reads.count p.reads.last q.reads.last r.reads.last
+          (D.read_faults p.zero.now) (D.read_faults q.zero.now) (D.read_faults r.zero.now)
+          (E.read_faults p.one.now) (E.read_faults q.one.now) (E.read_faults r.one.now)
+          (D.reads_grow p.zero.now q.zero.now first.2) (D.reads_grow q.zero.now r.zero.now then.2)
+          (E.reads_grow p.one.now q.one.now first.3) (E.reads_grow q.one.now r.one.now then.3) first.4 then.4,
+      adds_through p.writes.count q.writes.count r.writes.count p.writes.last q.writes.last r.writes.last
+          (D.write_faults p.zero.now) (D.write_faults q.zero.now) (D.write_faults r.zero.now)
+          (E.write_faults p.one.now) (E.write_faults q.one.now) (E.write_faults r.one.now)
+          (D.writes_grow p.zero.now q.zero.now first.2) (D.writes_grow q.zero.now r.zero.now then.2)
+          (E.writes_grow p.one.now q.one.now first.3) (E.writes_grow q.one.now r.one.now then.3) first.5 then.5,
+    ) };
+
+    ghost blocks_stay = { λ p q led.
+        ap (λ size. pair_blocks size (E.blocks q.one.now))
+        (D.blocks_stay p.zero.now q.zero.now led.2)
+        ∙ ap (λ size. pair_blocks (D.blocks p.zero.now) size)
+        (E.blocks_stay p.one.now q.one.now led.3) };
+
+    ghost reads_grow = { λ _ _ led. let failed = led.4 in failed.grows };
+
+    ghost writes_grow = { λ _ _ led. let failed = led.5 in failed.grows };
+}
