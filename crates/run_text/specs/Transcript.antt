@@ -37,10 +37,10 @@ numbers_of (SwapOut pid) = pid ∷ []
 numbers_of (SwapIn pid) = pid ∷ []
 numbers_of (Owners free used moving held) = free ∷ used ∷ moving ∷ held ∷ []
 
--- each of these is a number of at most so many values
+-- each number is below the bound
 abbrev pub AllBelow : ℕ → List ℕ → Type 0
-AllBelow most [] = ⊤
-AllBelow most (n ∷ ns) = (n < most) × AllBelow most ns
+AllBelow bound [] = ⊤
+AllBelow bound (n ∷ ns) = (n < bound) × AllBelow bound ns
 
 -- counts of instructions, of moves and of pages are at least 1, and a process wrote at least one byte
 abbrev pub CountsSome : Entry → Type 0
@@ -52,7 +52,7 @@ CountsSome (Hands count) = 1 ≤ count
 CountsSome (Put page n) = 1 ≤ n
 CountsSome _ = ⊤
 
--- an entry is within its ranges
+-- an entry is within its ranges: its numbers have 32 bits
 abbrev pub IsWithin : Entry → Type 0
 IsWithin e = AllBelow 4294967296 (numbers_of e) × CountsSome e
 
