@@ -1,0 +1,11 @@
+pub mod EntryTexts
+pub mod Events
+pub mod HexRows
+pub mod Joining
+pub mod LineEnds
+pub mod NumberRows
+pub mod Parts
+pub mod Passing
+pub mod Reading
+pub mod Words
+pub mod WrittenLines

@@ -1,0 +1,13 @@
+-- The name fails, or the numbers follow it.
+use Rattle.run_text.specs.Text.{parts}
+use Rattle.run_text.proofs.Passing.{puts_then, puts_failed}
+use Rattle.run_text.proofs.line.put_named.Goals as goal
+
+pub returns-in-Failed-clause-puts : goal.returns-in-Failed-clause-puts
+returns-in-Failed-clause-puts g c =
+    puts_failed (g.S.Sink.written c.args.sink.now) c.args.out.now (c.args.name.now) (parts c.args.numbers.now) (g.S.Sink.written c.put.new.sink) c.put.new.self c.in-Failed.ensures.puts
+
+pub returns-in-Done-clause-puts : goal.returns-in-Done-clause-puts
+returns-in-Done-clause-puts g c =
+    puts_then c.put_numbers.result (g.S.Sink.written c.args.sink.now) c.args.out.now (c.args.name.now) (g.S.Sink.written c.put.new.sink) c.put.new.self (parts c.args.numbers.now) (g.S.Sink.written c.put_numbers.new.sink) c.put_numbers.new.out
+    c.in-Done.ensures.puts c.put_numbers.ensures.puts

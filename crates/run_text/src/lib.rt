@@ -1,0 +1,24 @@
+//! The texts of a run: schedules, which are read, and the lines of a journal, which are written to a
+//! sink and read.
+#![tactic(auto)]
+
+mod answers;
+mod buffer;
+mod entry_reader;
+mod hex;
+mod line;
+mod numbers;
+mod pieces;
+mod schedule_reader;
+mod text;
+mod transcript_reader;
+mod waiting;
+
+pub use answers::{Schedule, Transcript};
+pub use buffer::OutputBuffer;
+pub use schedule_reader::read_schedule;
+pub use text::{write_entry, write_text};
+pub use transcript_reader::read_transcript;
+
+#[cfg(test)]
+mod tests;
