@@ -1,0 +1,71 @@
+-- Units, and the journal that they make: neighbouring `Ran` of one process are joined.
+use Rattle.std.specs.Prelude.{◌≡◌, ℕ, zero, suc, ◌+◌, ◌==◌, Bool, true, false, List, [], ◌∷◌, ◌++◌}
+use Rattle.vm_facts.specs.declared.entry.Entry.{Entry}
+use Rattle.vm_facts.specs.declared.entry.Entry.TheVariants.{Ran, Call, Ended}
+
+-- a last `Ran` and so many more instructions, of the same process or not
+abbrev pub join_by : Bool → ℕ → ℕ → ℕ → ℕ → List Entry
+join_by true p m q n = Ran p (m + n) ∷ []
+join_by false p m q n = Ran p m ∷ Ran q n ∷ []
+
+-- a last entry and so many more instructions of a process
+abbrev pub join : Entry → ℕ → ℕ → List Entry
+join (Ran p m) q n = join_by (p == q) p m q n
+join e q n = e ∷ Ran q n ∷ []
+
+abbrev pub append_after : Entry → List Entry → ℕ → ℕ → List Entry
+append_after e [] q n = join e q n
+append_after e (f ∷ journal) q n = e ∷ append_after f journal q n
+
+abbrev pub append_ran : List Entry → ℕ → ℕ → List Entry
+append_ran [] q n = Ran q n ∷ []
+append_ran (e ∷ journal) q n = append_after e journal q n
+
+-- a journal and one more unit
+abbrev pub append : List Entry → Entry → List Entry
+append journal (Ran q n) = append_ran journal q n
+append journal e = journal ++ e ∷ []
+
+-- a journal and further units, in order
+abbrev pub appended : List Entry → List Entry → List Entry
+appended journal [] = journal
+appended journal (u ∷ us) = appended (append journal u) us
+
+-- so many times one instruction, and then these
+abbrev pub ones : ℕ → ℕ → List Entry → List Entry
+ones p zero us = us
+ones p (suc n) us = Ran p 1 ∷ ones p n us
+
+abbrev pub units_with : Entry → List Entry → List Entry
+units_with (Ran p n) us = ones p n us
+units_with e us = e ∷ us
+
+-- the units of a journal, in order: each entry, or so many times one instruction
+abbrev pub units_of : List Entry → List Entry
+units_of [] = []
+units_of (e ∷ journal) = units_with e (units_of journal)
+
+-- how many instructions an entry counts
+abbrev pub counted : Entry → ℕ
+counted (Ran p n) = n
+counted (Call p number carry r0 r1) = 1
+counted (Ended p status) = 1
+counted e = 0
+
+abbrev pub instructions_of : List Entry → ℕ
+instructions_of [] = 0
+instructions_of (e ∷ journal) = counted e + instructions_of journal
+
+-- an entry that is never joined
+abbrev pub IsPlain : Entry → Type 0
+IsPlain (Ran p n) = ⊥
+IsPlain e = Unit {0}
+
+-- one entry, or one count of a `Ran`
+abbrev pub IsUnit : Entry → Type 0
+IsUnit (Ran p n) = n ≡ 1
+IsUnit e = Unit {0}
+
+abbrev pub AllUnits : List Entry → Type 0
+AllUnits [] = Unit {0}
+AllUnits (u ∷ us) = IsUnit u × AllUnits us

@@ -1,0 +1,6 @@
+//! The definitions of a process's space and of paging, over lists, with no instruction in sight.
+#![tactic(auto)]
+
+pub mod spot;
+
+pub use spot::{PAGE, STACK_REACH, STACK_TOP, Spot, locate};

@@ -1,0 +1,110 @@
+-- The ending of a run that began, by the words and the files.
+use Rattle.std.proofs.Common.{◌≡◌, inl, inr, ℕ, List, Option, Some, None, Result, Ok, Err, refl, sym, ◌∙◌, subst}
+use Rattle.vm_facts.specs.declared.entry.Entry.{Entry}
+use Rattle.io_edge.specs.Count.{Rose}
+use Rattle.io_edge.specs.FileHolding.{NamedFile, place_of, bytes_at}
+use Rattle.aout_image.specs.declared.Image.{Image}
+use Rattle.aout_image.specs.Image.{Loaded, image_of}
+use Rattle.page_model.specs.Flat.{Inputs}
+use Rattle.vm_run.specs.declared.words.Numbers.{Numbers}
+use Rattle.vm_run.specs.Words.{numbers_of}
+use Rattle.vm_run.specs.declared.ending.Ending.{Ending}
+use Rattle.vm_run.specs.declared.ending.Ending.TheVariants.{Finished, BadWords, Absent, NotImage, BadSchedule, FileFault, NoMemory, ShortDevice, OutOfFrames}
+use Rattle.vm_run.specs.Opening.{IsLoaded, word_of, judged}
+use Rattle.vm_run.specs.Transcript.{Faults, IsRunOf, IsOpenedAs, LawfulFrom, LawfulBy, EndsOpened, EndsRun, EndsBy, EndsWords, IsRunEnding, IsCaused, WritesSome, Transcribes}
+
+lawful_by : (numbers : Numbers) (image : List ℕ) (files : List NamedFile) (journal : List Entry) (A : Inputs) → IsRunOf A numbers image files → LawfulFrom A journal → LawfulBy numbers image files journal
+lawful_by numbers image files journal A of l = record { inputs = A; of = of; state = l.state; lawful = l.lawful }
+
+ends_as : (numbers : Numbers) (image : List ℕ) (files : List NamedFile) (f : Faults) (ending : Ending) (journal : List Entry) (A : Inputs) → IsRunOf A numbers image files
+    → EndsOpened A ending journal → IsRunEnding f ending → f.open_after ≡ f.open_before → EndsRun numbers image files f ending journal
+ends_as numbers image files f Finished journal A of e kind opens =
+    (record { inputs = A; of = of; state = e.state; finished = e.finished }, record { open_same = opens; page_same = kind })
+ends_as numbers image files f BadWords journal A of e kind opens = absurd e
+ends_as numbers image files f (Absent named) journal A of e kind opens = absurd e
+ends_as numbers image files f (NotImage reason) journal A of e kind opens = absurd e
+ends_as numbers image files f (BadSchedule line) journal A of e kind opens = absurd e
+ends_as numbers image files f FileFault journal A of e kind opens = inr (lawful_by numbers image files journal A of e.0, e.1, kind)
+ends_as numbers image files f NoMemory journal A of (inl l) kind opens = inl (lawful_by numbers image files journal A of l)
+ends_as numbers image files f NoMemory journal A of (inr empty) kind opens = inr empty
+ends_as numbers image files f (ShortDevice device blocks needed) journal A of e kind opens = absurd e
+ends_as numbers image files f OutOfFrames journal A of e kind opens = lawful_by numbers image files journal A of e
+
+pub run_ends : (numbers : Numbers) (image : List ℕ) (files : List NamedFile) (f : Faults) (ending : Ending) (journal : List Entry) (file : ℕ) (facts : Image)
+    → place_of files image ≡ Some file → IsLoaded (image_of (bytes_at files file)) facts
+    → ((A : Inputs) → IsOpenedAs A files facts file numbers.limit image → EndsOpened A ending journal) → IsRunEnding f ending → f.open_after ≡ f.open_before
+    → EndsRun numbers image files f ending journal
+run_ends numbers image files f ending journal file facts found is ends kind opens = go (image_of (bytes_at files file)) refl is
+  where
+    go : (r : Result Loaded ℕ) → image_of (bytes_at files file) ≡ r → IsLoaded r facts → EndsRun numbers image files f ending journal
+    go (Err reason) e k = absurd k
+    go (Ok loaded) e k =
+        let A : Inputs = record { name = image; image = loaded; limit = numbers.limit } in
+        ends_as numbers image files f ending journal A
+        (record { name = refl; place = file; found = found; image_is = e; limit = refl })
+        (ends A (record { image_is = e; facts = k; limit_is = refl; name_is = refl })) kind opens
+
+-- only the counts of a page's faults matter to a run's ending
+pub kind_by : (f g : Faults) (ending : Ending) → f.page_before ≡ g.page_before → f.page_after ≡ g.page_after → IsRunEnding f ending → IsRunEnding g ending
+kind_by f g Finished b a k = sym a ∙ k ∙ b
+kind_by f g BadWords b a k = k
+kind_by f g (Absent named) b a k = k
+kind_by f g (NotImage reason) b a k = k
+kind_by f g (BadSchedule line) b a k = k
+kind_by f g FileFault b a k = subst (λ (n : ℕ). Rose n g.page_after) b (subst (Rose f.page_before) a k)
+kind_by f g NoMemory b a k = k
+kind_by f g (ShortDevice device blocks needed) b a k = k
+kind_by f g OutOfFrames b a k = k
+
+forget_run : (numbers : Numbers) (image : List ℕ) (files : List NamedFile) (f : Faults) (ending : Ending) (journal : List Entry)
+    → EndsRun numbers image files f ending journal → EndsRun numbers image files f NoMemory journal
+forget_run numbers image files f Finished journal e = inl (record { inputs = e.0.inputs; of = e.0.of; state = e.0.state; lawful = e.0.finished.lawful })
+forget_run numbers image files f BadWords journal e = absurd e
+forget_run numbers image files f (Absent named) journal e = absurd e
+forget_run numbers image files f (NotImage reason) journal e = absurd e
+forget_run numbers image files f (BadSchedule line) journal e = absurd e
+forget_run numbers image files f FileFault journal (inl before) = inr before.0
+forget_run numbers image files f FileFault journal (inr after) = inl after.0
+forget_run numbers image files f NoMemory journal e = e
+forget_run numbers image files f (ShortDevice device blocks needed) journal e = absurd e
+forget_run numbers image files f OutOfFrames journal e = inl e
+
+forget_by : (told : Option Ending) (numbers : Numbers) (image : List ℕ) (files : List NamedFile) (f : Faults) (ending : Ending) (journal : List Entry)
+    → EndsBy told numbers image files f ending journal → EndsBy told numbers image files f NoMemory journal
+forget_by None numbers image files f ending journal e = forget_run numbers image files f ending journal e
+forget_by (Some told) numbers image files f ending journal e = (e.0, tt)
+
+-- want of memory may come in place of any ending
+pub forget : (numbers : Option Numbers) (words : List (List ℕ)) (files : List NamedFile) (zero_blocks one_blocks : ℕ) (f : Faults) (ending : Ending) (journal : List Entry)
+    → EndsWords numbers words files zero_blocks one_blocks f ending journal → EndsWords numbers words files zero_blocks one_blocks f NoMemory journal
+forget None words files zero_blocks one_blocks f ending journal e = (e.0, tt)
+forget (Some numbers) words files zero_blocks one_blocks f ending journal e =
+    forget_by (judged numbers (word_of words 4) (word_of words 5) files zero_blocks one_blocks) numbers (word_of words 5) files f ending journal e
+
+-- a run that was written is transcribed
+pub transcribed : (words : List (List ℕ)) (holds : Option (List NamedFile)) (had_zero had_one zero_blocks one_blocks : ℕ) (f : Faults) (before after : Option (List ℕ))
+    (old_faults new_faults status : ℕ) (schedule image : List ℕ) (ending : Ending) (journal : List Entry) → had_zero ≡ zero_blocks → had_one ≡ one_blocks
+    → schedule ≡ word_of words 4 → image ≡ word_of words 5 → IsCaused (numbers_of words) f ending
+    → ((files : List NamedFile) → holds ≡ Some files → EndsWords (numbers_of words) words files had_zero had_one f ending journal)
+    → WritesSome before after old_faults new_faults schedule image ending journal status
+    → Transcribes words holds zero_blocks one_blocks f before after old_faults new_faults status
+transcribed words holds had_zero had_one zero_blocks one_blocks f before after old_faults new_faults status schedule image ending journal z o s i caused ends w =
+    go (subst (λ (x : List ℕ). WritesSome before after old_faults new_faults x (word_of words 5) ending journal status) s
+    (subst (λ (x : List ℕ). WritesSome before after old_faults new_faults schedule x ending journal status) i w))
+  where
+    devices : (e : Ending) → ((files : List NamedFile) → holds ≡ Some files → EndsWords (numbers_of words) words files had_zero had_one f e journal)
+        → (files : List NamedFile) → holds ≡ Some files → EndsWords (numbers_of words) words files zero_blocks one_blocks f e journal
+    devices e h files told =
+        subst (λ (n : ℕ). EndsWords (numbers_of words) words files n one_blocks f e journal) z
+        (subst (λ (n : ℕ). EndsWords (numbers_of words) words files had_zero n f e journal) o (h files told))
+
+    go : WritesSome before after old_faults new_faults (word_of words 4) (word_of words 5) ending journal status
+        → Transcribes words holds zero_blocks one_blocks f before after old_faults new_faults status
+    go (inl written) = record { ending = ending; journal = journal; caused = caused; ends = devices ending ends; writes = written }
+    go (inr written) = record {
+      ending = NoMemory;
+      journal = journal;
+      caused = tt;
+      ends = devices NoMemory (λ files told. forget (numbers_of words) words files had_zero had_one f ending journal (ends files told));
+      writes = written;
+    }

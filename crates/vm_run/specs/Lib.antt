@@ -1,0 +1,11 @@
+pub mod Resident
+pub mod ResidentLaws
+pub mod Next
+pub mod Lawful
+pub mod LastRan
+pub mod Running
+pub mod Words
+pub mod Ending
+pub mod Opening
+pub mod Transcript
+pub mod Halted

@@ -1,0 +1,209 @@
+ghost use Rattle.std.specs.Prelude.{◌≡◌, ◌≤◌, ◌<◌, ℕ, false, List, [], ◌++◌, length, map, Option, Some, None, Ok, Err};
+ghost use Rattle.io_edge.specs.FileHolding.{NamedFile};
+ghost use Rattle.aout_image.specs.Image.{IsSound, file_length_of};
+ghost use Rattle.page_model.specs.Flat.{Inputs};
+ghost use Rattle.run_text.specs.Text.{text_of};
+ghost use Rattle.vm_run.specs.Words.{numbers_of};
+ghost use Rattle.vm_run.specs.Halted.{halted};
+ghost use Rattle.vm_run.specs.Resident.{HasBytes};
+ghost use Rattle.vm_run.specs.Opening.{word_of, judged};
+ghost use Rattle.vm_run.specs.Transcript.{EndsOpened, EndsBy, EndsWords, Transcribes, Writes, WritesSome, IsCaused, IsRunEnding, IsOpenedAs};
+
+use crate::ending::{Ending, NO_MEMORY};
+use crate::journal::Journal;
+use crate::opening::{Opened, judge_devices, open_image, open_schedule};
+use crate::running::{Halt, Running};
+use crate::words::{Numbers, read_words};
+use io_edge::{Files, Moved, Sink, SwapDev};
+use run_text::write_text;
+use std::alloc::Global;
+
+/// A run before its text is written: how it ended, and its journal.
+#[derive(Drop)]
+pub struct Ran {
+    pub ending: Ending,
+    pub journal: Journal,
+}
+
+// The word at a place.
+fn word_at<'a>(words: &[&'a str], place: usize) -> &'a str
+    requires { place < length words.now }
+    ensures { result.now ≡ word_of (map (λ word. word.now) words.now) place }
+{
+    words[place]
+}
+
+// A run that ended before it began.
+fn ended_early(alloc: Global, ending: Ending) -> Ran
+    ensures ending { result.ending ≡ ending }
+    ensures journal { result.journal ≡ [] }
+{
+    Ran {
+        ending,
+        journal: Journal::new(alloc),
+    }
+}
+
+// How a run ended.
+fn ending_of(end: Result<(), Halt>) -> Ending
+    ensures { result ≡ halted end }
+{
+    match end {
+        Ok(()) => Ending::Finished,
+        Err(Halt::NoMemory) => Ending::NoMemory,
+        Err(Halt::FileFault) => Ending::FileFault,
+        Err(Halt::OutOfFrames) => Ending::OutOfFrames,
+    }
+}
+
+// Runs an image that was opened.
+fn run_opened<F: Files>(
+    alloc: Global,
+    files: &mut F,
+    numbers: Numbers,
+    opened: Opened,
+    name: &str,
+) -> Ran
+    requires sound { IsSound opened.image }
+    requires file { HasBytes (F.holds files.old) opened.file (file_length_of opened.image) }
+    requires name { length name.now < 64 }
+    requires frames { 0 < numbers.frames }
+    requires limit { numbers.limit ≤ 1000000 }
+    ensures ends { (list : List NamedFile) → F.holds files.old ≡ Some list → (A : Inputs) → IsOpenedAs A list opened.image opened.file numbers.limit name.now
+        → EndsOpened A result.ending result.journal }
+    ensures kind { IsRunEnding (record { open_before = F.open_faults files.old; open_after = F.open_faults files.new; page_before = F.page_faults files.old; page_after = F.page_faults files.new }) result.ending }
+    ensures open_faults { F.open_faults files.new ≡ F.open_faults files.old }
+{
+    let Ok(mut run) = Running::start(
+        alloc,
+        opened.image,
+        opened.file,
+        numbers.limit,
+        numbers.frames,
+        name.as_bytes(),
+    ) else {
+        return ended_early(alloc, Ending::NoMemory);
+    };
+    let end = run.run(alloc, files);
+    Ran {
+        ending: ending_of(end),
+        journal: run.into_journal(),
+    }
+}
+
+// A run with these numbers, of an image and a schedule that are named.
+fn run_named<F: Files>(
+    alloc: Global,
+    files: &mut F,
+    numbers: Numbers,
+    schedule: &str,
+    image: &str,
+    zero_blocks: u32,
+    one_blocks: u32,
+) -> Ran
+    requires name { length image.now < 64 }
+    requires frames { 0 < numbers.frames }
+    requires swap { numbers.swap ≤ 131072 }
+    requires limit { numbers.limit ≤ 1000000 }
+    ensures ends { (list : List NamedFile) → F.holds files.old ≡ Some list
+        → EndsBy (judged numbers schedule.now image.now list zero_blocks one_blocks) numbers image.now list (record { open_before = F.open_faults files.old; open_after = F.open_faults files.new; page_before = F.page_faults files.old; page_after = F.page_faults files.new }) result.ending result.journal }
+    ensures caused { IsCaused (Some numbers) (record { open_before = F.open_faults files.old; open_after = F.open_faults files.new; page_before = F.page_faults files.old; page_after = F.page_faults files.new }) result.ending }
+{
+    if let Err(ending) = open_schedule(alloc, files, schedule) {
+        return ended_early(alloc, ending);
+    }
+    let opened = match open_image(files, image) {
+        Ok(opened) => opened,
+        Err(ending) => return ended_early(alloc, ending),
+    };
+    if let Some(ending) = judge_devices(numbers.swap, zero_blocks, one_blocks) {
+        return ended_early(alloc, ending);
+    }
+    run_opened(alloc, files, numbers, opened, image)
+}
+
+// The numbers of blocks of the devices decide after the files.
+fn run_words<F: Files>(
+    alloc: Global,
+    words: &[&str],
+    files: &mut F,
+    zero_blocks: u32,
+    one_blocks: u32,
+) -> Ran
+    ensures ends { (list : List NamedFile) → F.holds files.old ≡ Some list
+        → EndsWords (numbers_of (map (λ word. word.now) words.now)) (map (λ word. word.now) words.now) list zero_blocks one_blocks (record { open_before = F.open_faults files.old; open_after = F.open_faults files.new; page_before = F.page_faults files.old; page_after = F.page_faults files.new }) result.ending result.journal }
+    ensures caused { IsCaused (numbers_of (map (λ word. word.now) words.now)) (record { open_before = F.open_faults files.old; open_after = F.open_faults files.new; page_before = F.page_faults files.old; page_after = F.page_faults files.new }) result.ending }
+{
+    let Some(numbers) = read_words(words) else {
+        return ended_early(alloc, Ending::BadWords);
+    };
+    let schedule = word_at(words, 4);
+    let image = word_at(words, 5);
+    run_named(
+        alloc,
+        files,
+        numbers,
+        schedule,
+        image,
+        zero_blocks,
+        one_blocks,
+    )
+}
+
+// The word at a place, or none.
+fn word_or_none<'a>(words: &[&'a str], place: usize) -> &'a str
+    ensures { result.now ≡ word_of (map (λ word. word.now) words.now) place }
+{
+    if place < words.len() {
+        word_at(words, place)
+    } else {
+        ""
+    }
+}
+
+// Writes a journal's text and the line behind it, and answers the status.
+fn write_as<S: Sink>(sink: &mut S, ending: Ending, journal: &Journal, line: &[u8]) -> u8
+    ensures { Writes (S.written sink.old) (S.written sink.new) (S.faults sink.old) (S.faults sink.new) (text_of false journal.now ++ line.now) ending result }
+{
+    match write_text(sink, false, journal.entries(), line) {
+        Moved::Done => ending.status(),
+        Moved::Failed => 8,
+    }
+}
+
+// Writes a run. Where its fault line finds no memory, that is how it ends.
+fn write_run<S: Sink>(alloc: Global, sink: &mut S, ran: Ran, schedule: &str, image: &str) -> u8
+    ensures { WritesSome (S.written sink.old) (S.written sink.new) (S.faults sink.old) (S.faults sink.new) schedule.now image.now ran.ending ran.journal result }
+{
+    match ran.ending.fault_line(alloc, schedule, image) {
+        Ok(line) => write_as(sink, ran.ending, &ran.journal, line.as_slice()),
+        Err(_) => write_as(sink, Ending::NoMemory, &ran.journal, NO_MEMORY),
+    }
+}
+
+/// Runs the words of a command line, without the program's name, over files, two swap devices and an
+/// output, and answers the exit status: 0 where the run is finished; 1 bad words; 2 an absent file; 3
+/// no image; 4 a bad schedule; 5 a file fault; 8 a fault of the output; 9 want of memory; 12 a swap
+/// device that is too short; 13 out of frames, until the pager frees them. The first thing met
+/// decides, but an output that fails gives 8 whatever came before (this project's profile).
+pub fn vmrun<F: Files, D: SwapDev, E: SwapDev, S: Sink>(
+    alloc: Global,
+    words: &[&str],
+    files: &mut F,
+    zero: &mut D,
+    one: &mut E,
+    sink: &mut S,
+) -> u8
+    ensures { Transcribes (map (λ word. word.now) words.now) (F.holds files.old) (D.blocks zero.old) (E.blocks one.old)
+        (record { open_before = F.open_faults files.old; open_after = F.open_faults files.new; page_before = F.page_faults files.old; page_after = F.page_faults files.new })
+        (S.written sink.old) (S.written sink.new) (S.faults sink.old) (S.faults sink.new) result }
+{
+    let ran = run_words(alloc, words, files, zero.blocks(), one.blocks());
+    write_run(
+        alloc,
+        sink,
+        ran,
+        word_or_none(words, 4),
+        word_or_none(words, 5),
+    )
+}

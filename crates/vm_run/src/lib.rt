@@ -1,0 +1,15 @@
+//! The top call: the words of a command line, the files, the devices and the output in, a status out.
+#![tactic(auto)]
+
+pub mod command;
+pub mod ending;
+pub mod journal;
+pub mod opening;
+pub mod replies;
+pub mod resident;
+pub mod running;
+pub mod segment;
+pub mod start;
+pub mod words;
+
+pub use command::vmrun;

@@ -1,0 +1,59 @@
+//! The program: it hands the words, the current folder, two swap devices and standard output to the
+//! call `vmrun`, and ends with its status.
+#![tactic(auto)]
+
+use io_edge::{DirFiles, OutSink, Sink, SureSwap};
+use std::env;
+use std::io::ErrorKind;
+use std::process::ExitCode;
+use vm_run::vmrun;
+
+// The blocks of each swap device.
+const SWAP_BLOCKS: u32 = 65_536;
+
+// The status of bad words, and of want of memory.
+const BAD_WORDS: u8 = 1;
+
+const NO_MEMORY: u8 = 9;
+
+fn main(rt: HostRuntime) -> ExitCode {
+    let alloc = rt.alloc();
+    let mut sink = OutSink::new(&rt);
+    let mut words = Vec::<String>::new(alloc);
+    match env::args(&rt) {
+        Ok(given) => {
+            for word in given {
+                if words.push(word).is_err() {
+                    return ExitCode::from(NO_MEMORY);
+                }
+            }
+        }
+        Err(error) if error.kind() == ErrorKind::OutOfMemory => return ExitCode::from(NO_MEMORY),
+        Err(_) => {
+            let _ = sink.put(b"vmrun: bad words\n");
+            return ExitCode::from(BAD_WORDS);
+        }
+    }
+    let mut list = Vec::new(alloc);
+    for word in words.as_slice().iter().skip(1) {
+        if list.push(word.as_str()).is_err() {
+            return ExitCode::from(NO_MEMORY);
+        }
+    }
+    let (Ok(mut zero), Ok(mut one)) = (
+        SureSwap::new(alloc, SWAP_BLOCKS),
+        SureSwap::new(alloc, SWAP_BLOCKS),
+    ) else {
+        return ExitCode::from(NO_MEMORY);
+    };
+    let mut files = DirFiles::new(&rt);
+    let status = vmrun(
+        alloc,
+        list.as_slice(),
+        &mut files,
+        &mut zero,
+        &mut one,
+        &mut sink,
+    );
+    ExitCode::from(status)
+}
