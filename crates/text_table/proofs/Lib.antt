@@ -1,0 +1,2 @@
+pub mod BitmapLaws
+pub mod TableLaws

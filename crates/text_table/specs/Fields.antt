@@ -1,0 +1,8 @@
+-- The text table by its fields.
+use Rattle.std.specs.Prelude.{List, map}
+use Rattle.text_table.specs.Texts.{Text}
+use Rattle.text_table.specs.Entries.{text_in}
+use Rattle.text_table.specs.declared.table.TextTable.TheInside.{Inside}
+
+abbrev pub texts_of : Inside → List Text
+texts_of a = map text_in a.entries

@@ -1,0 +1,4 @@
+pub mod Texts
+pub mod Bitmap
+pub mod Entries
+pub mod Fields
