@@ -10,6 +10,8 @@ pub mod resident;
 pub mod running;
 pub mod segment;
 pub mod start;
+#[cfg(test)]
+mod tests;
 pub mod words;
 
 pub use command::vmrun;
