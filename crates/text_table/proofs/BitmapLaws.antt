@@ -1,5 +1,5 @@
 -- A bitmap as the set of the pages that it marks.
-use Rattle.std.proofs.Common.{◌≡◌, ℕ, ◌/◌, ◌%◌, ◌*◌, ◌+◌, ◌<◌, Bool, true, false, cond, eqb, List, length, get_or, set, replicate, sym, ap, ◌∙◌, arith, inl, inr, refl, ◌≢◌}
+use Rattle.std.proofs.Common.{◌≡◌, ℕ, ◌/◌, ◌%◌, ◌<◌, Bool, true, false, cond, eqb, List, length, get_or, set, replicate, sym, ap, ◌∙◌, arith, inl, inr, refl, ◌≢◌}
 use Rattle.std.specs.Int.{bit_at}
 use Rattle.std.proofs.lemmas.Bool.{cases_eq}
 use Rattle.std.proofs.lemmas.Nat.Bits.{bit_at-zero}
@@ -34,7 +34,7 @@ pages_of-zeros =
     ext_get_or false (pages_of (replicate 64 0)) (replicate 2048 false)
     (length-pages_of (replicate 64 0) ∙ sym (length-replicate 2048 false))
     (λ v lt. let h : v < 2048 = omega (arith, length-pages_of (replicate 64 0)) in
-        get_or-pages_of (replicate 64 0) v h ∙ has_page-zeros v h ∙ sym (get_or-replicate 2048 v false false h))
+    get_or-pages_of (replicate 64 0) v h ∙ has_page-zeros v h ∙ sym (get_or-replicate 2048 v false false h))
 
 -- a page is marked as the bit was written
 has_page-set_same : (words : List ℕ) (v word : ℕ) (member : Bool) → v / 32 < length words
@@ -70,7 +70,7 @@ pages_of-set words v word member whole h same others =
     ext_get_or false (pages_of (set words (v / 32) word)) (set (pages_of words) v member)
     (length-pages_of (set words (v / 32) word) ∙ sym (length-set (pages_of words) v member ∙ length-pages_of words))
     (λ u lt. let below : u < 2048 = omega (arith, length-pages_of (set words (v / 32) word)) in
-        get_or-pages_of (set words (v / 32) word) u below ∙ at u below)
+    get_or-pages_of (set words (v / 32) word) u below ∙ at u below)
   where
     within : v / 32 < length words
     within = omega arith

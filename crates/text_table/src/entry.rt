@@ -1,5 +1,5 @@
 //! What the table has for one image.
-ghost use Rattle.std.specs.Prelude.{◌≡◌, ◌+◌, ◌-◌, ◌<◌, ◌^◌, length};
+ghost use Rattle.std.specs.Prelude.{◌≡◌, ◌+◌, ◌-◌, ◌<◌, ◌^◌};
 ghost use Rattle.text_table.specs.Entries.{text_in};
 ghost use Rattle.text_table.specs.Texts.{unused_text, is_saved, entered, left, marked};
 
