@@ -1,16 +1,19 @@
 -- What the words of a command line come to, case by case.
-use Rattle.std.proofs.Common.{◌≡◌, ◌≢◌, ℕ, ◌^◌, ◌<◌, ◌≤◌, Bool, true, false, ◌&&◌, List, [], ◌∷◌, length, map, get_or, refl, sym, ap, subst, inl, inr, cond, None, Some, Result, Ok, Err, arith, codes, leb, rules}
+use Rattle.std.proofs.Common.{◌≡◌, ◌≢◌, ℕ, ◌+◌, ◌-◌, ◌^◌, ◌<◌, ◌≤◌, ◌∙◌, Bool, true, false, ◌&&◌, ◌||◌, List, [], ◌∷◌, ◌++◌, take, drop, position, length, map, get_or, refl, sym, ap, subst, inl, inr, cond, None, Some, Result, Ok, Err, arith, codes, leb, rules}
 use Rattle.std.specs.Prelude.{bytes_eq}
 use Rattle.std.specs.Char.{is_ascii_digit}
-use Rattle.std.specs.List.{list_all, AllWithin}
+use Rattle.std.specs.List.{list_all, list_any, AllWithin}
 use Rattle.std.specs.Result.{result_ok}
 use Rattle.std.specs.Str.Parse.{ParsesUnsigned, digits_value}
 use Rattle.std.proofs.lemmas.Bool.{and_parts, leb-true, le-leb}
 use Rattle.std.proofs.lemmas.Bool.Decides.{leb_tells}
-use Rattle.std.proofs.lemmas.List.{get_or_default}
-use Rattle.std.proofs.lemmas.List.Folds.{list_all-map}
+use Rattle.std.proofs.Math.Seq.{drop-append-add}
+use Rattle.std.proofs.lemmas.List.{append-nil, drop-append-le, drop-map, drop_all, get_or_append_left, get_or-append_right, get_or_default, length-append, length-drop, length-map, take-map, take_all}
+use Rattle.std.proofs.lemmas.List.Folds.{list_all-append, list_all-map, list_any-append}
 use Rattle.std.proofs.lemmas.Str.Parse.{IsNumeralModel, numerals_by_value, parse_digits, digits_value_short}
-use Rattle.vm_run.specs.Words.{numbers_of, run_numbers, limits_of, number_of, is_plain, is_name, is_started, has_up_to}
+use Rattle.io_edge.proofs.NamedFiles.{position-map}
+use Rattle.vm_run.specs.Opening.{word_of}
+use Rattle.vm_run.specs.Words.{numbers_of, run_numbers, limits_of, number_of, is_plain, is_name, is_started, has_up_to, is_trace, around, without_trace}
 use denote.Ref.{Bor}
 
 -- digits alone are a numeral in decimal
@@ -110,3 +113,83 @@ pub names_last : (words : List (Bor (List ℕ))) (d : Bor (List ℕ)) → length
 names_last words d six good =
     let parts = and_parts _ _ good in
     last_two words d six (named _ (and_parts _ _ parts.0).1) (named _ (started _ parts.1))
+
+-- the bytes of words
+abbrev bytes_of : List (Bor (List ℕ)) → List (List ℕ)
+bytes_of words = map (λ (word : Bor (List ℕ)). word.now) words
+
+-- the number of the words of two parts
+pub kept_length : (before after : List (Bor (List ℕ))) → length before + length after ≡ length (bytes_of before ++ bytes_of after)
+kept_length before after = rw (length-append, length-map before _, length-map after _) refl
+
+-- a word of the first part
+pub word_before : (before after : List (Bor (List ℕ))) (place : ℕ) → place < length before
+    → word_of (bytes_of before) place ≡ word_of (bytes_of before ++ bytes_of after) place
+word_before before after place within = sym (get_or_append_left (bytes_of before) (bytes_of after) [] place (rw length-map within))
+
+-- a word of the second part, or none
+pub word_behind : (before after : List (Bor (List ℕ))) (place : ℕ) → length before ≤ place
+    → word_of (bytes_of after) (place - length before) ≡ word_of (bytes_of before ++ bytes_of after) place
+word_behind before after place past = sym (get_or-append_right (bytes_of before) (bytes_of after) (length before) place [] (length-map before _) past)
+
+-- what follows a place of two lists is what follows it in each
+drop_both : {X : Type 0} (xs ys : List X) (n k : ℕ) → length xs ≡ k → drop n xs ++ drop (n - k) ys ≡ drop n (xs ++ ys)
+drop_both xs ys n k is = elim (leb_tells n k) [
+  | inl (_, most) ↦
+      let none : n - k ≡ 0 = omega (arith, most) in
+      rw (none, drop-append-le n xs ys (omega (arith, is, most))) refl
+  | inr (_, more) ↦
+      let sum : n ≡ length xs + (n - k) = omega (arith, is, more) in
+      rw (drop_all n xs (omega (arith, is, more))) (sym (ap (λ (m : ℕ). drop m (xs ++ ys)) sum ∙ drop-append-add xs ys (n - k)))
+]
+
+-- so are the words of two parts
+pub dropped : (before after : List (Bor (List ℕ))) (place : ℕ)
+    → drop place (bytes_of before) ++ drop (place - length before) (bytes_of after) ≡ drop place (bytes_of before ++ bytes_of after)
+dropped before after place = drop_both (bytes_of before) (bytes_of after) place (length before) (length-map before _)
+
+-- where each word of the first part passes a test, those of the second decide whether all do
+pub all_then : (test : List ℕ → Bool) (before after : List (Bor (List ℕ))) → list_all (λ (word : Bor (List ℕ)). test word.now) before ≡ true
+    → list_all (λ (word : Bor (List ℕ)). test word.now) after ≡ list_all test (bytes_of before ++ bytes_of after)
+all_then test before after all = rw (list_all-append, list_all-map, list_all-map, all) refl
+
+-- and else not all do
+pub all_else : (test : List ℕ → Bool) (before after : List (Bor (List ℕ))) → list_all (λ (word : Bor (List ℕ)). test word.now) before ≡ false
+    → false ≡ list_all test (bytes_of before ++ bytes_of after)
+all_else test before after not_all = rw (list_all-append, list_all-map, not_all) refl
+
+some_of_one : (test : List ℕ → Bool) (words : List (Bor (List ℕ))) → list_any test (bytes_of words) ≡ list_any (λ (word : Bor (List ℕ)). test word.now) words
+some_of_one test [] = refl
+some_of_one test (word ∷ words) = ap (λ (b : Bool). test word.now || b) (some_of_one test words)
+
+-- where a word of the first part passes a test, one of all does
+pub some_then : (test : List ℕ → Bool) (before after : List (Bor (List ℕ))) → list_any (λ (word : Bor (List ℕ)). test word.now) before ≡ true
+    → true ≡ list_any test (bytes_of before ++ bytes_of after)
+some_then test before after some = rw (list_any-append, some_of_one test before, some) refl
+
+-- and else those of the second part decide
+pub some_else : (test : List ℕ → Bool) (before after : List (Bor (List ℕ))) → list_any (λ (word : Bor (List ℕ)). test word.now) before ≡ false
+    → list_any (λ (word : Bor (List ℕ)). test word.now) after ≡ list_any test (bytes_of before ++ bytes_of after)
+some_else test before after none = rw (list_any-append, some_of_one test before, some_of_one test after, none) refl
+
+-- the words from a place to the end
+pub last_words : (words : List (Bor (List ℕ))) (place : ℕ) → bytes_of (take (length words - place) (drop place words)) ≡ drop place (bytes_of words)
+last_words words place =
+    rw (take_all (length words - place) (drop place words) (omega (arith, length-drop place words))) (sym (drop-map _ place words))
+
+-- the words around the first `--trace`
+pub around_trace : (words : List (Bor (List ℕ))) (place : ℕ) → Some place ≡ position (λ (word : Bor (List ℕ)). is_trace word.now) words
+    → bytes_of (take place words) ++ drop (place + 1) (bytes_of words) ≡ without_trace (bytes_of words)
+unfolding without_trace around
+around_trace words place e = rw (position-map is_trace (λ (word : Bor (List ℕ)). word.now) words, sym e, take-map) refl
+
+-- without one they are all
+pub no_trace : (words : List (Bor (List ℕ))) → None ≡ position (λ (word : Bor (List ℕ)). is_trace word.now) words
+    → bytes_of words ≡ without_trace (bytes_of words)
+unfolding without_trace around
+no_trace words e = rw (position-map is_trace (λ (word : Bor (List ℕ)). word.now) words, sym e) refl
+
+-- and nothing follows them
+pub no_more : (words : List (Bor (List ℕ))) → None ≡ position (λ (word : Bor (List ℕ)). is_trace word.now) words
+    → bytes_of words ++ [] ≡ without_trace (bytes_of words)
+no_more words e = append-nil (bytes_of words) ∙ no_trace words e

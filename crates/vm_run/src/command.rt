@@ -13,7 +13,7 @@ use crate::ending::{Ending, NO_MEMORY};
 use crate::journal::Journal;
 use crate::opening::{Opened, judge_devices, open_image, open_schedule};
 use crate::running::{Halt, Running};
-use crate::words::{Numbers, read_words};
+use crate::words::{Numbers, read_numbers};
 use io_edge::{Files, Moved, Sink, SwapDev};
 use run_text::write_text;
 use std::alloc::Global;
@@ -134,7 +134,7 @@ fn run_words<F: Files>(
         → EndsWords (numbers_of (map (λ word. word.now) words.now)) (map (λ word. word.now) words.now) list zero_blocks one_blocks (record { open_before = F.open_faults files.old; open_after = F.open_faults files.new; page_before = F.page_faults files.old; page_after = F.page_faults files.new }) result.ending result.journal }
     ensures caused { IsCaused (numbers_of (map (λ word. word.now) words.now)) (record { open_before = F.open_faults files.old; open_after = F.open_faults files.new; page_before = F.page_faults files.old; page_after = F.page_faults files.new }) result.ending }
 {
-    let Some(numbers) = read_words(words) else {
+    let Some(numbers) = read_numbers(words) else {
         return ended_early(alloc, Ending::BadWords);
     };
     let schedule = word_at(words, 4);

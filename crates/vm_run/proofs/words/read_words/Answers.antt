@@ -1,9 +1,15 @@
-use Rattle.std.proofs.Common.{sym, ◌∙◌}
-use Rattle.vm_run.proofs.WordLemmas.{plain_words, option_words}
+use Rattle.std.proofs.Common.{refl, sym}
+use Rattle.vm_run.specs.Words.{command_of}
 use Rattle.vm_run.proofs.words.read_words.Goals as goal
 
-pub returns-then-are_plain-clause-exact : goal.returns-then-are_plain-clause-exact
-returns-then-are_plain-clause-exact c = c.read_run.ensures.exact ∙ plain_words c.args.words.now (sym c.are_plain.ensures ∙ c.if-are_plain.true)
+pub returns-in-Some-clause-exact : goal.returns-in-Some-clause-exact
+unfolding command_of
+returns-in-Some-clause-exact c = rw (sym c.in-Some.ensures.exact) refl
 
-pub returns-else-are_plain-clause-exact : goal.returns-else-are_plain-clause-exact
-returns-else-are_plain-clause-exact c = option_words c.args.words.now (sym c.are_plain.ensures ∙ c.if-are_plain.false)
+pub returns-in-None-clause-exact : goal.returns-in-None-clause-exact
+unfolding command_of
+returns-in-None-clause-exact c = rw (sym c.in-None.ensures.exact, sym c.are_good.ensures, c.if-are_good.true) refl
+
+pub returns-in-None-2-clause-exact : goal.returns-in-None-2-clause-exact
+unfolding command_of
+returns-in-None-2-clause-exact c = rw (sym c.in-None.ensures.exact, sym c.are_good.ensures, c.if-are_good.false) refl
