@@ -7,9 +7,11 @@ use Rattle.aout_image.specs.declared.Image.{Image}
 use Rattle.aout_image.specs.Image.{Loaded, image_of}
 use Rattle.page_model.specs.Flat.{Inputs}
 use Rattle.vm_run.specs.declared.words.Numbers.{Numbers}
-use Rattle.vm_run.specs.Words.{numbers_of}
+use Rattle.vm_run.specs.Words.{command_of}
+use Rattle.vm_run.specs.declared.words.Command.{Command}
+use Rattle.vm_run.specs.declared.words.Command.TheVariants.{Run, Unbuilt}
 use Rattle.vm_run.specs.declared.ending.Ending.{Ending}
-use Rattle.vm_run.specs.declared.ending.Ending.TheVariants.{Finished, BadWords, Absent, NotImage, BadSchedule, FileFault, NoMemory, ShortDevice, OutOfFrames}
+use Rattle.vm_run.specs.declared.ending.Ending.TheVariants.{Finished, BadWords, NotBuilt, Absent, NotImage, BadSchedule, FileFault, NoMemory, ShortDevice, OutOfFrames}
 use Rattle.vm_run.specs.Opening.{IsLoaded, word_of, judged}
 use Rattle.vm_run.specs.Transcript.{Faults, IsRunOf, IsOpenedAs, LawfulFrom, LawfulBy, EndsOpened, EndsRun, EndsBy, EndsWords, IsRunEnding, IsCaused, WritesSome, Transcribes}
 
@@ -21,6 +23,7 @@ ends_as : (numbers : Numbers) (image : List ℕ) (files : List NamedFile) (f : F
 ends_as numbers image files f Finished journal A of e kind opens =
     (record { inputs = A; of = of; state = e.state; finished = e.finished }, record { open_same = opens; page_same = kind })
 ends_as numbers image files f BadWords journal A of e kind opens = absurd e
+ends_as numbers image files f NotBuilt journal A of e kind opens = absurd e
 ends_as numbers image files f (Absent named) journal A of e kind opens = absurd e
 ends_as numbers image files f (NotImage reason) journal A of e kind opens = absurd e
 ends_as numbers image files f (BadSchedule line) journal A of e kind opens = absurd e
@@ -48,6 +51,7 @@ run_ends numbers image files f ending journal file facts found is ends kind open
 pub kind_by : (f g : Faults) (ending : Ending) → f.page_before ≡ g.page_before → f.page_after ≡ g.page_after → IsRunEnding f ending → IsRunEnding g ending
 kind_by f g Finished b a k = sym a ∙ k ∙ b
 kind_by f g BadWords b a k = k
+kind_by f g NotBuilt b a k = k
 kind_by f g (Absent named) b a k = k
 kind_by f g (NotImage reason) b a k = k
 kind_by f g (BadSchedule line) b a k = k
@@ -60,6 +64,7 @@ forget_run : (numbers : Numbers) (image : List ℕ) (files : List NamedFile) (f 
     → EndsRun numbers image files f ending journal → EndsRun numbers image files f NoMemory journal
 forget_run numbers image files f Finished journal e = inl (record { inputs = e.0.inputs; of = e.0.of; state = e.0.state; lawful = e.0.finished.lawful })
 forget_run numbers image files f BadWords journal e = absurd e
+forget_run numbers image files f NotBuilt journal e = absurd e
 forget_run numbers image files f (Absent named) journal e = absurd e
 forget_run numbers image files f (NotImage reason) journal e = absurd e
 forget_run numbers image files f (BadSchedule line) journal e = absurd e
@@ -75,28 +80,29 @@ forget_by None numbers image files f ending journal e = forget_run numbers image
 forget_by (Some told) numbers image files f ending journal e = (e.0, tt)
 
 -- want of memory may come in place of any ending
-pub forget : (numbers : Option Numbers) (words : List (List ℕ)) (files : List NamedFile) (zero_blocks one_blocks : ℕ) (f : Faults) (ending : Ending) (journal : List Entry)
-    → EndsWords numbers words files zero_blocks one_blocks f ending journal → EndsWords numbers words files zero_blocks one_blocks f NoMemory journal
+pub forget : (command : Option Command) (words : List (List ℕ)) (files : List NamedFile) (zero_blocks one_blocks : ℕ) (f : Faults) (ending : Ending) (journal : List Entry)
+    → EndsWords command words files zero_blocks one_blocks f ending journal → EndsWords command words files zero_blocks one_blocks f NoMemory journal
 forget None words files zero_blocks one_blocks f ending journal e = (e.0, tt)
-forget (Some numbers) words files zero_blocks one_blocks f ending journal e =
+forget (Some Unbuilt) words files zero_blocks one_blocks f ending journal e = (e.0, tt)
+forget (Some (Run numbers)) words files zero_blocks one_blocks f ending journal e =
     forget_by (judged numbers (word_of words 4) (word_of words 5) files zero_blocks one_blocks) numbers (word_of words 5) files f ending journal e
 
 -- a run that was written is transcribed
 pub transcribed : (words : List (List ℕ)) (holds : Option (List NamedFile)) (had_zero had_one zero_blocks one_blocks : ℕ) (f : Faults) (before after : Option (List ℕ))
     (old_faults new_faults status : ℕ) (schedule image : List ℕ) (ending : Ending) (journal : List Entry) → had_zero ≡ zero_blocks → had_one ≡ one_blocks
-    → schedule ≡ word_of words 4 → image ≡ word_of words 5 → IsCaused (numbers_of words) f ending
-    → ((files : List NamedFile) → holds ≡ Some files → EndsWords (numbers_of words) words files had_zero had_one f ending journal)
+    → schedule ≡ word_of words 4 → image ≡ word_of words 5 → IsCaused (command_of words) f ending
+    → ((files : List NamedFile) → holds ≡ Some files → EndsWords (command_of words) words files had_zero had_one f ending journal)
     → WritesSome before after old_faults new_faults schedule image ending journal status
     → Transcribes words holds zero_blocks one_blocks f before after old_faults new_faults status
 transcribed words holds had_zero had_one zero_blocks one_blocks f before after old_faults new_faults status schedule image ending journal z o s i caused ends w =
     go (subst (λ (x : List ℕ). WritesSome before after old_faults new_faults x (word_of words 5) ending journal status) s
     (subst (λ (x : List ℕ). WritesSome before after old_faults new_faults schedule x ending journal status) i w))
   where
-    devices : (e : Ending) → ((files : List NamedFile) → holds ≡ Some files → EndsWords (numbers_of words) words files had_zero had_one f e journal)
-        → (files : List NamedFile) → holds ≡ Some files → EndsWords (numbers_of words) words files zero_blocks one_blocks f e journal
+    devices : (e : Ending) → ((files : List NamedFile) → holds ≡ Some files → EndsWords (command_of words) words files had_zero had_one f e journal)
+        → (files : List NamedFile) → holds ≡ Some files → EndsWords (command_of words) words files zero_blocks one_blocks f e journal
     devices e h files told =
-        subst (λ (n : ℕ). EndsWords (numbers_of words) words files n one_blocks f e journal) z
-        (subst (λ (n : ℕ). EndsWords (numbers_of words) words files had_zero n f e journal) o (h files told))
+        subst (λ (n : ℕ). EndsWords (command_of words) words files n one_blocks f e journal) z
+        (subst (λ (n : ℕ). EndsWords (command_of words) words files had_zero n f e journal) o (h files told))
 
     go : WritesSome before after old_faults new_faults (word_of words 4) (word_of words 5) ending journal status
         → Transcribes words holds zero_blocks one_blocks f before after old_faults new_faults status
@@ -105,6 +111,6 @@ transcribed words holds had_zero had_one zero_blocks one_blocks f before after o
       ending = NoMemory;
       journal = journal;
       caused = tt;
-      ends = devices NoMemory (λ files told. forget (numbers_of words) words files had_zero had_one f ending journal (ends files told));
+      ends = devices NoMemory (λ files told. forget (command_of words) words files had_zero had_one f ending journal (ends files told));
       writes = written;
     }

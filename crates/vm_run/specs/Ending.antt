@@ -2,11 +2,12 @@
 use Rattle.std.specs.Prelude.{ℕ, List, [], ◌++◌, codes, decimal}
 use Rattle.vm_run.specs.declared.ending.Named.TheVariants.{Schedule, Image}
 use Rattle.vm_run.specs.declared.ending.Ending.{Ending}
-use Rattle.vm_run.specs.declared.ending.Ending.TheVariants.{Finished, BadWords, Absent, NotImage, BadSchedule, FileFault, NoMemory, ShortDevice, OutOfFrames}
+use Rattle.vm_run.specs.declared.ending.Ending.TheVariants.{Finished, BadWords, NotBuilt, Absent, NotImage, BadSchedule, FileFault, NoMemory, ShortDevice, OutOfFrames}
 
 abbrev pub status_of : Ending → ℕ
 status_of Finished = 0
 status_of BadWords = 1
+status_of NotBuilt = 13
 status_of (Absent named) = 2
 status_of (NotImage reason) = 3
 status_of (BadSchedule line) = 4
@@ -36,6 +37,7 @@ short_device_line device blocks needed =
 abbrev pub fault_line : List ℕ → List ℕ → Ending → List ℕ
 fault_line schedule image Finished = []
 fault_line schedule image BadWords = codes "vmrun: bad words\n"
+fault_line schedule image NotBuilt = codes "vmrun: not built yet\n"
 fault_line schedule image (Absent Schedule) = absent_line schedule
 fault_line schedule image (Absent Image) = absent_line image
 fault_line schedule image (NotImage reason) = not_image_line image reason

@@ -1,5 +1,5 @@
 -- What a run writes and how it ends.
-use Rattle.std.specs.Prelude.{◌≡◌, ◌≢◌, ◌⊎◌, ℕ, false, List, [], ◌++◌, Option, Some, None, IsSome, Ok}
+use Rattle.std.specs.Prelude.{◌≡◌, ◌≢◌, ◌⊎◌, ℕ, false, List, [], ◌++◌, Option, Some, None, Ok}
 use Rattle.vm_facts.specs.declared.entry.Entry.{Entry}
 use Rattle.io_edge.specs.Count.{Rose}
 use Rattle.io_edge.specs.FileHolding.{NamedFile, place_of, bytes_at}
@@ -10,12 +10,14 @@ use Rattle.page_model.specs.Flat.{Inputs}
 use Rattle.run_text.specs.Text.{text_of}
 use Rattle.vm_run.specs.Next.{State}
 use Rattle.vm_run.specs.Lawful.{IsLawful, IsFinished}
-use Rattle.vm_run.specs.Words.{numbers_of}
+use Rattle.vm_run.specs.Words.{IsRun, command_of}
+use Rattle.vm_run.specs.declared.words.Command.{Command}
+use Rattle.vm_run.specs.declared.words.Command.TheVariants.{Run, Unbuilt}
 use Rattle.vm_run.specs.declared.words.Numbers.{Numbers}
 use Rattle.vm_run.specs.Ending.{status_of, sink_fault, fault_line}
 use Rattle.vm_run.specs.Opening.{word_of, judged}
 use Rattle.vm_run.specs.declared.ending.Ending.{Ending}
-use Rattle.vm_run.specs.declared.ending.Ending.TheVariants.{Finished, BadWords, FileFault, NoMemory, OutOfFrames}
+use Rattle.vm_run.specs.declared.ending.Ending.TheVariants.{Finished, BadWords, NotBuilt, FileFault, NoMemory, OutOfFrames}
 
 -- the two counts of the files' faults, before and after
 pub record Faults : Type 0 where
@@ -106,17 +108,19 @@ EndsBy (Some told) numbers image files f ending journal = (journal ≡ []) × En
 EndsBy None numbers image files f ending journal = EndsRun numbers image files f ending journal
 
 -- by the words: the first thing met decides
-abbrev pub EndsWords : Option Numbers → List (List ℕ) → List NamedFile → ℕ → ℕ → Faults → Ending → List Entry → Type 0
+abbrev pub EndsWords : Option Command → List (List ℕ) → List NamedFile → ℕ → ℕ → Faults → Ending → List Entry → Type 0
 EndsWords None words files zero_blocks one_blocks f ending journal = (journal ≡ []) × EndsEarly BadWords f ending
-EndsWords (Some numbers) words files zero_blocks one_blocks f ending journal =
+EndsWords (Some Unbuilt) words files zero_blocks one_blocks f ending journal = (journal ≡ []) × EndsEarly NotBuilt f ending
+EndsWords (Some (Run numbers)) words files zero_blocks one_blocks f ending journal =
     EndsBy (judged numbers (word_of words 4) (word_of words 5) files zero_blocks one_blocks) numbers (word_of words 5) files f ending journal
 
 -- the causes that hold whether or not the files are told
-abbrev pub IsCaused : Option Numbers → Faults → Ending → Type 0
-IsCaused numbers f BadWords = numbers ≡ None
-IsCaused numbers f FileFault = IsSome numbers × (Rose f.open_before f.open_after ⊎ Rose f.page_before f.page_after)
-IsCaused numbers f NoMemory = Unit {0}
-IsCaused numbers f _ = IsSome numbers
+abbrev pub IsCaused : Option Command → Faults → Ending → Type 0
+IsCaused command f BadWords = command ≡ None
+IsCaused command f NotBuilt = command ≡ Some Unbuilt
+IsCaused command f FileFault = IsRun command × (Rose f.open_before f.open_after ⊎ Rose f.page_before f.page_after)
+IsCaused command f NoMemory = Unit {0}
+IsCaused command f _ = IsRun command
 
 -- the whole text was written, and the status is the ending's; or the output failed, and a prefix was written
 pub data Writes (before after : Option (List ℕ)) (old_faults new_faults : ℕ) (text : List ℕ) (ending : Ending) (status : ℕ) : Type 0 where
@@ -134,6 +138,6 @@ pub record Transcribes (words : List (List ℕ)) (holds : Option (List NamedFile
     (before after : Option (List ℕ)) (old_faults new_faults status : ℕ) : Type 0 where
   pub ending : Ending
   pub journal : List Entry
-  pub caused : IsCaused (numbers_of words) f ending
-  pub ends : (files : List NamedFile) → holds ≡ Some files → EndsWords (numbers_of words) words files zero_blocks one_blocks f ending journal
+  pub caused : IsCaused (command_of words) f ending
+  pub ends : (files : List NamedFile) → holds ≡ Some files → EndsWords (command_of words) words files zero_blocks one_blocks f ending journal
   pub writes : Writes before after old_faults new_faults (text_of false journal ++ fault_line (word_of words 4) (word_of words 5) ending) ending status

@@ -139,6 +139,12 @@ command_by None false = None
 unfoldable pub command_of : List (List ℕ) → Option Command
 command_of words = command_by (numbers_of words) (are_good words)
 
+-- it can be run
+abbrev pub IsRun : Option Command → Type 0
+IsRun (Some (Run numbers)) = Unit {0}
+IsRun (Some Unbuilt) = ⊥
+IsRun None = ⊥
+
 -- a fact of the numbers, where it is a run
 abbrev pub IfRun : Option Command → (Numbers → Type 0) → Type 0
 IfRun (Some (Run numbers)) P = P numbers

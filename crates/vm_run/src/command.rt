@@ -3,7 +3,7 @@ ghost use Rattle.io_edge.specs.FileHolding.{NamedFile};
 ghost use Rattle.aout_image.specs.Image.{IsSound, file_length_of};
 ghost use Rattle.page_model.specs.Flat.{Inputs};
 ghost use Rattle.run_text.specs.Text.{text_of};
-ghost use Rattle.vm_run.specs.Words.{numbers_of};
+ghost use Rattle.vm_run.specs.Words.{command_of};
 ghost use Rattle.vm_run.specs.Halted.{halted};
 ghost use Rattle.vm_run.specs.Resident.{HasBytes};
 ghost use Rattle.vm_run.specs.Opening.{word_of, judged};
@@ -13,7 +13,7 @@ use crate::ending::{Ending, NO_MEMORY};
 use crate::journal::Journal;
 use crate::opening::{Opened, judge_devices, open_image, open_schedule};
 use crate::running::{Halt, Running};
-use crate::words::{Numbers, read_numbers};
+use crate::words::{Command, Numbers, read_words};
 use io_edge::{Files, Moved, Sink, SwapDev};
 use run_text::write_text;
 use std::alloc::Global;
@@ -107,7 +107,7 @@ fn run_named<F: Files>(
     requires limit { numbers.limit ≤ 1000000 }
     ensures ends { (list : List NamedFile) → F.holds files.old ≡ Some list
         → EndsBy (judged numbers schedule.now image.now list zero_blocks one_blocks) numbers image.now list (record { open_before = F.open_faults files.old; open_after = F.open_faults files.new; page_before = F.page_faults files.old; page_after = F.page_faults files.new }) result.ending result.journal }
-    ensures caused { IsCaused (Some numbers) (record { open_before = F.open_faults files.old; open_after = F.open_faults files.new; page_before = F.page_faults files.old; page_after = F.page_faults files.new }) result.ending }
+    ensures caused { IsCaused (Some (Command.Run numbers)) (record { open_before = F.open_faults files.old; open_after = F.open_faults files.new; page_before = F.page_faults files.old; page_after = F.page_faults files.new }) result.ending }
 {
     if let Err(ending) = open_schedule(alloc, files, schedule) {
         return ended_early(alloc, ending);
@@ -131,23 +131,26 @@ fn run_words<F: Files>(
     one_blocks: u32,
 ) -> Ran
     ensures ends { (list : List NamedFile) → F.holds files.old ≡ Some list
-        → EndsWords (numbers_of (map (λ word. word.now) words.now)) (map (λ word. word.now) words.now) list zero_blocks one_blocks (record { open_before = F.open_faults files.old; open_after = F.open_faults files.new; page_before = F.page_faults files.old; page_after = F.page_faults files.new }) result.ending result.journal }
-    ensures caused { IsCaused (numbers_of (map (λ word. word.now) words.now)) (record { open_before = F.open_faults files.old; open_after = F.open_faults files.new; page_before = F.page_faults files.old; page_after = F.page_faults files.new }) result.ending }
+        → EndsWords (command_of (map (λ word. word.now) words.now)) (map (λ word. word.now) words.now) list zero_blocks one_blocks (record { open_before = F.open_faults files.old; open_after = F.open_faults files.new; page_before = F.page_faults files.old; page_after = F.page_faults files.new }) result.ending result.journal }
+    ensures caused { IsCaused (command_of (map (λ word. word.now) words.now)) (record { open_before = F.open_faults files.old; open_after = F.open_faults files.new; page_before = F.page_faults files.old; page_after = F.page_faults files.new }) result.ending }
 {
-    let Some(numbers) = read_numbers(words) else {
-        return ended_early(alloc, Ending::BadWords);
-    };
-    let schedule = word_at(words, 4);
-    let image = word_at(words, 5);
-    run_named(
-        alloc,
-        files,
-        numbers,
-        schedule,
-        image,
-        zero_blocks,
-        one_blocks,
-    )
+    match read_words(words) {
+        None => ended_early(alloc, Ending::BadWords),
+        Some(Command::Unbuilt) => ended_early(alloc, Ending::NotBuilt),
+        Some(Command::Run { numbers }) => {
+            let schedule = word_at(words, 4);
+            let image = word_at(words, 5);
+            run_named(
+                alloc,
+                files,
+                numbers,
+                schedule,
+                image,
+                zero_blocks,
+                one_blocks,
+            )
+        }
+    }
 }
 
 // The word at a place, or none.
@@ -184,8 +187,8 @@ fn write_run<S: Sink>(alloc: Global, sink: &mut S, ran: Ran, schedule: &str, ima
 /// Runs the words of a command line, without the program's name, over files, two swap devices and an
 /// output, and answers the exit status: 0 where the run is finished; 1 bad words; 2 an absent file; 3
 /// no image; 4 a bad schedule; 5 a file fault; 8 a fault of the output; 9 want of memory; 12 a swap
-/// device that is too short; 13 out of frames, until the pager frees them. The first thing met
-/// decides, but an output that fails gives 8 whatever came before (this project's profile).
+/// device that is too short; 13 words whose command isn't built yet, or out of frames, until the pager
+/// frees them. The first thing met decides, but an output that fails gives 8 whatever came before (this project's profile).
 pub fn vmrun<F: Files, D: SwapDev, E: SwapDev, S: Sink>(
     alloc: Global,
     words: &[&str],

@@ -18,6 +18,8 @@ pub enum Ending {
     Finished,
     /// The words are none of the rule.
     BadWords,
+    /// The words are good, but what they ask for isn't built yet.
+    NotBuilt,
     /// There is no file of that name.
     Absent(Named),
     /// The file is no image, for this reason.
@@ -52,7 +54,7 @@ impl Ending {
             Ending::FileFault => 5,
             Ending::NoMemory => 9,
             Ending::ShortDevice { .. } => 12,
-            Ending::OutOfFrames => 13,
+            Ending::NotBuilt | Ending::OutOfFrames => 13,
         }
     }
 
@@ -68,6 +70,7 @@ impl Ending {
         match self {
             Ending::Finished => Ok(Vec::new(alloc)),
             Ending::BadWords => Vec::from_slice(alloc, b"vmrun: bad words\n"),
+            Ending::NotBuilt => Vec::from_slice(alloc, b"vmrun: not built yet\n"),
             Ending::Absent(Named::Schedule) => absent_line(alloc, schedule),
             Ending::Absent(Named::Image) => absent_line(alloc, image),
             Ending::NotImage(reason) => not_image_line(alloc, image, reason),

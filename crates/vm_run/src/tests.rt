@@ -171,6 +171,52 @@ fn names_what_cannot_be_run(rt: HostRuntime) -> Result<(), Fail> {
 }
 
 #[test]
+fn tells_good_words_from_bad_ones(rt: HostRuntime) -> Result<(), Fail> {
+    let good: [&[&str]; 9] = [
+        &["run", "64", "--trace", "256", "100", "s", "image"],
+        &["run", "64", "256", "100", "s", "image", "=image"],
+        &["load", "07"],
+        &["replay", "s", "=image", "image"],
+        &["as", "s"],
+        &["dis", "image"],
+        &["opt", "1", "64", "256", "100000", "s", "image"],
+        &["curve", "64", "256", "100", "s", "image", "=-x"],
+        &[
+            "curve", "64", "256", "1", "s", "i", "i", "i", "i", "i", "i", "i", "i", "i", "i", "i",
+            "i", "i", "i", "i", "i",
+        ],
+    ];
+    for words in good {
+        let image = writing(rt.alloc(), &TWO_BYTES)?;
+        check(&rt, rt.alloc(), words, image, "vmrun: not built yet\n", 13)?;
+    }
+    let bad: [&[&str]; 12] = [
+        &[],
+        &[
+            "run", "--trace", "64", "--trace", "256", "100", "s", "image",
+        ],
+        &["--trace", "run", "64", "256", "100", "s", "image"],
+        &["run", "--", "64", "256", "100", "s", "image"],
+        &["run", "64", "256", "100", "s", "=image"],
+        &["load", "10000"],
+        &["load"],
+        &["replay", "s", "image", "="],
+        &["dis", "=image"],
+        &["opt", "1", "64", "256", "100001", "s", "image"],
+        &["curve", "--trace", "64", "256", "100", "s", "image"],
+        &[
+            "curve", "64", "256", "1", "s", "i", "i", "i", "i", "i", "i", "i", "i", "i", "i", "i",
+            "i", "i", "i", "i", "i", "i",
+        ],
+    ];
+    for words in bad {
+        let image = writing(rt.alloc(), &TWO_BYTES)?;
+        check(&rt, rt.alloc(), words, image, "vmrun: bad words\n", 1)?;
+    }
+    Ok(())
+}
+
+#[test]
 fn names_the_reason_why_a_file_is_no_image(rt: HostRuntime) -> Result<(), Fail> {
     let table = [
         (

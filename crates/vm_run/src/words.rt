@@ -48,7 +48,7 @@ pub fn read_words(words: &[&str]) -> Option<Command>
 }
 
 // The numbers of `run FRAMES SWAP LIMIT SCHED IMAGE`, none of whose words is an option.
-pub fn read_numbers(words: &[&str]) -> Option<Numbers>
+fn read_numbers(words: &[&str]) -> Option<Numbers>
     ensures exact { result ≡ numbers_of (map (λ word. word.now) words.now) }
     ensures count { IsSome result → length words.now ≡ 6 }
     ensures names { IsSome result

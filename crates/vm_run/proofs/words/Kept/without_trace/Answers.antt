@@ -1,4 +1,3 @@
-use Rattle.std.proofs.Common.{refl, sym, ◌∙◌, ap}
 use Rattle.vm_run.proofs.WordLemmas.{around_trace, no_more}
 use Rattle.vm_run.proofs.words.Kept.without_trace.Goals as goal
 
