@@ -10,7 +10,7 @@ pub enum Life {
     Holds(u32),
     /// It has lent the space `sid` to the process `child` of its vfork, until that gives it back.
     Lends { sid: u32, child: u32 },
-    /// It has ended with this status, and its parent hasn't heard of it.
+    /// It has ended with this status, and its parent hasn't waited for it yet.
     Zombie(u32),
 }
 
@@ -18,11 +18,11 @@ pub enum Life {
 #[derive(Clone, Copy, Debug, PartialEq, Eq, Drop)]
 pub struct Proc {
     pub pid: u32,
-    /// The pid of the process that made it.
+    /// The pid of the process that made it; 0 where there is none, or it has ended.
     pub parent: u32,
     pub regs: Regs,
     pub state: Life,
-    /// It waits.
+    /// It sleeps in wait, until one of its children is a zombie.
     pub asleep: bool,
     /// It is swapped out.
     pub out: bool,
