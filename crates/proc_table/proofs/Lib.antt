@@ -1,0 +1,3 @@
+pub mod FindLemmas
+pub mod SlotLemmas
+pub mod KeyLemmas

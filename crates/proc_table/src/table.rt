@@ -1,0 +1,145 @@
+// The table itself, over a slab of records.
+
+ghost use Rattle.std.specs.Prelude.{◌≡◌, ◌≢◌, ℕ, ◌+◌, ◌<◌, [], length, Some, None, is_some, IsSome, IsTrue, false, IfOk, IfSome, IfNone, OnSome, option_copied};
+ghost use Rattle.slab.specs.Slab.{get as slot_at};
+ghost use Rattle.proc_table.specs.Records.{find, answer_of, Adds, Changes, Lowest, IsTable};
+ghost use Rattle.proc_table.specs.Fields.{HasPid, lower_of};
+ghost use Rattle.proc_table.specs.declared.process.Proc.{Proc as Record};
+
+use crate::process::Proc;
+use slab::Slab;
+use std::alloc::Global;
+use std::marker::Model;
+use vm_facts::NoMemory;
+
+/// How many records there is room for.
+const ROOM: usize = 64;
+
+/// What `add` answers.
+#[derive(Clone, Copy, Debug, PartialEq, Eq, Drop)]
+pub enum Added {
+    /// The record is in the table.
+    Ok,
+    /// There are 64 records already, and here is the one that found no place.
+    Full(Proc),
+}
+
+/// The records of all processes. Contracts see the list of the records, in no promised order, and by `find`
+/// a finite map from pids to records.
+#[derive(Drop)]
+pub struct ProcTable {
+    records: Slab<Proc>,
+}
+
+impl Model for ProcTable {
+    ghost use Rattle.std.specs.Prelude.{List};
+    ghost use Rattle.proc_table.specs.declared.process.Proc.{Proc as Record};
+
+    ghost Value = { List Record };
+
+    ghost use Rattle.proc_table.specs.Fields.{records_of, IsSound};
+
+    ghost view = { λ t. records_of t.records.slots };
+
+    ghost invariant = { λ t. IsSound t.records };
+}
+
+impl ProcTable {
+    /// A table with no record, and room for 64.
+    pub fn new(alloc: Global) -> Result<ProcTable, NoMemory>
+        ensures { IfOk result (λ t. t ≡ []) }
+    {
+        let Ok(records) = Slab::with_capacity(alloc, ROOM) else {
+            return Err(NoMemory);
+        };
+        Ok(ProcTable { records })
+    }
+
+    /// Puts in the record of a process that has none. `Full` comes exactly where there are 64 records, and
+    /// then nothing changes.
+    pub fn add(&mut self, p: Proc) -> Added
+        requires { find p.pid self.old ≡ None }
+        ensures answer { result ≡ answer_of self.old p }
+        ensures records { Adds result self.old p self.new }
+    {
+        if self.records.len() == ROOM {
+            return Added::Full(p);
+        }
+        self.records.insert_reserved(p);
+        Added::Ok
+    }
+
+    /// The record with this pid; None exactly where there is none.
+    pub fn get(&self, pid: u32) -> Option<&Proc>
+        ensures value { option_copied result ≡ find pid self.now }
+        ensures sound { IsTable self.now }
+    {
+        let key = key_of(&self.records, pid)?;
+        self.records.get(key)
+    }
+
+    /// Takes out the record with this pid; None exactly where there is none, and then nothing changes.
+    pub fn remove(&mut self, pid: u32) -> Option<Proc>
+        ensures value { result ≡ find pid self.old }
+        ensures records { Changes self.old self.new pid None }
+        ensures count { OnSome result (length self.new + 1 ≡ length self.old) }
+        ensures none { IfNone result (self.new ≡ self.old) }
+    {
+        let key = key_of(&self.records, pid)?;
+        Some(self.records.remove(key))
+    }
+
+    /// Puts a record in the place of the one with its pid. False comes exactly where there is none, and then
+    /// nothing changes.
+    pub fn set(&mut self, p: Proc) -> bool
+        ensures answer { result ≡ is_some (find p.pid self.old) }
+        ensures records { IsTrue result → Changes self.old self.new p.pid (Some p) }
+        ensures absent { result ≡ false → self.new ≡ self.old }
+        ensures count { length self.new ≡ length self.old }
+    {
+        let Some(key) = key_of(&self.records, p.pid) else {
+            return false;
+        };
+        self.records[key] = p;
+        true
+    }
+
+    /// The lowest pid of a record above this one; None exactly where there is none.
+    pub fn next_after(&self, pid: u32) -> Option<u32>
+        ensures { Lowest (λ q. (pid < q) × IsSome (find q self.now)) result }
+    {
+        let mut lowest = None;
+        for (_key, record) in self.records.iter() {
+            if record.pid > pid {
+                lowest = Some(lower(lowest, record.pid));
+            }
+        }
+        lowest
+    }
+}
+
+/// The key under which the record with this pid stands.
+fn key_of(records: &Slab<Proc>, pid: u32) -> Option<usize>
+    ensures found { IfSome result (λ key. HasPid records.now key pid) }
+    ensures absent { IfNone result ((key : ℕ) (p : Record) → slot_at records.now key ≡ Some p → p.pid ≢ pid) }
+{
+    for (key, record) in records.iter() {
+        if record.pid == pid {
+            return Some(key);
+        }
+    }
+    None
+}
+
+/// The lower of two pids, or the second alone where there is no first.
+fn lower(lowest: Option<u32>, pid: u32) -> u32
+    ensures { result ≡ lower_of lowest pid }
+{
+    match lowest {
+        Some(other) => other.min(pid),
+        None => pid,
+    }
+}
+
+#[cfg(test)]
+mod tests;
