@@ -1,0 +1,12 @@
+-- The table of a segment by its fields.
+use Rattle.std.specs.Prelude.{List, map}
+use Rattle.std.specs.List.{All}
+use Rattle.space_map.specs.Tables.{place_named, IsWord}
+use Rattle.space_map.specs.declared.page_table.PageTable.TheInside.{Inside}
+use Rattle.vax_pte.specs.declared.Place.{Place}
+
+abbrev pub places_of : Inside → List Place
+places_of a = map place_named a.words.items
+
+pub record IsTable (a : Inside) : Type 0 where
+  pub words : All (IsWord a.user_write) a.words.items

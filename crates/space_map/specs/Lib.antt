@@ -1,0 +1,4 @@
+pub mod Space
+pub mod Tables
+pub mod Fields
+pub mod SpaceFields

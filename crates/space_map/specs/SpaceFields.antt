@@ -1,0 +1,11 @@
+-- A space's map by its fields.
+use Rattle.std.specs.Prelude.{◌≤◌, length}
+use Rattle.space_map.specs.Space.{Places}
+use Rattle.space_map.specs.declared.space.SpaceMap.TheInside.{Inside}
+
+abbrev pub map_of : Inside → Places
+map_of a = record { sid = a.sid; image = a.image; facts = a.facts; text = a.text; «data» = a.data; stack = a.stack }
+
+pub record IsSpace (a : Inside) : Type 0 where
+  pub data_fits : length a.data ≤ 4096
+  pub stack_fits : length a.stack ≤ 512

@@ -1,0 +1,148 @@
+// The map itself, over the tables of its three segments.
+ghost use Rattle.std.specs.Prelude.{◌≡◌, ◌≤◌, true, false, length, replicate, IfOk, OnOk, OnErr, IsSome};
+ghost use Rattle.aout_image.specs.Image.{IsSound, text_pages_of};
+ghost use Rattle.vax_pte.specs.Words.{IsInRange};
+ghost use Rattle.vax_pte.specs.declared.Place.TheVariants.{Zero};
+ghost use Rattle.space_map.specs.Space.{first_places, resized, place_in, with_place};
+
+use crate::page_table::PageTable;
+use aout_image::Image;
+use std::alloc::Global;
+use std::marker::Model;
+use vax_pte::Place;
+use vm_facts::{NoMemory, Page};
+
+/// The places of a space's pages. Contracts see them in order, for each segment a list.
+#[derive(Drop)]
+pub struct SpaceMap {
+    sid: u32,
+    image: u32,
+    facts: Image,
+    text: PageTable,
+    data: PageTable,
+    stack: PageTable,
+}
+
+impl Model for SpaceMap {
+    ghost use Rattle.space_map.specs.Space.{Places};
+
+    ghost Value = { Places };
+
+    ghost use Rattle.space_map.specs.SpaceFields.{map_of, IsSpace};
+
+    ghost view = { map_of };
+
+    ghost invariant = { IsSpace };
+}
+
+impl SpaceMap {
+    /// The map of a new space of an image. Its pages are to be filled on demand: text and data from the file where that
+    /// gives a byte of the page, and the rest with zeros. A segment has at most 4,096 data and 512 stack pages.
+    pub fn new(
+        alloc: Global,
+        sid: u32,
+        image: u32,
+        facts: Image,
+        data_pages: u32,
+        stack_pages: u32,
+    ) -> Result<SpaceMap, NoMemory>
+        requires sound { IsSound facts }
+        requires data_fits { data_pages ≤ 4096 }
+        requires stack_fits { stack_pages ≤ 512 }
+        ensures { IfOk result (λ s. s ≡ record {
+          sid = sid;
+          image = image;
+          facts = facts;
+          text = first_places facts true (text_pages_of facts);
+          «data» = first_places facts false data_pages;
+          stack = replicate stack_pages Zero;
+        }) }
+    {
+        let text = PageTable::of_image(alloc, &facts, true, facts.text_pages())?;
+        let data = PageTable::of_image(alloc, &facts, false, data_pages)?;
+        let stack = PageTable::zeros(alloc, stack_pages)?;
+        Ok(SpaceMap {
+            sid,
+            image,
+            facts,
+            text,
+            data,
+            stack,
+        })
+    }
+
+    /// The number of the image that the space runs.
+    pub fn image(&self) -> u32
+        ensures { result ≡ self.now.image }
+    {
+        self.image
+    }
+
+    /// What the image's header says.
+    pub fn facts(&self) -> &Image
+        ensures { result.now ≡ self.now.facts }
+    {
+        &self.facts
+    }
+
+    /// How many data pages there are.
+    pub fn data_pages(&self) -> u32
+        ensures { result ≡ length self.now.data }
+    {
+        self.data.len()
+    }
+
+    /// How many stack pages there are.
+    pub fn stack_pages(&self) -> u32
+        ensures { result ≡ length self.now.stack }
+    {
+        self.stack.len()
+    }
+
+    /// Where a page is; `None` exactly where the page isn't of this space.
+    pub fn place(&self, page: Page) -> Option<Place>
+        ensures { result ≡ place_in self.now page }
+    {
+        match page {
+            Page::Data { sid, v } if sid == self.sid => self.data.get(v),
+            Page::Stack { sid, v } if sid == self.sid => self.stack.get(v),
+            Page::Text { image, v } if image == self.image => self.text.get(v),
+            _ => None,
+        }
+    }
+
+    /// Puts a page of this space in its place.
+    pub fn set_place(&mut self, page: Page, place: Place)
+        requires of_space { IsSome (place_in self.old page) }
+        requires in_range { IsInRange place }
+        ensures { self.new ≡ with_place self.old page place }
+    {
+        match page {
+            Page::Data { v, .. } => self.data.set(v, place),
+            Page::Stack { v, .. } => self.stack.set(v, place),
+            Page::Text { v, .. } => self.text.set(v, place),
+        }
+    }
+
+    /// Cuts or lengthens data and stack to so many pages. Those that are kept stay in place, and those that come to it
+    /// are to be filled with zeros. It takes memory only to lengthen; without it nothing changes.
+    pub fn resize(&mut self, data_pages: u32, stack_pages: u32) -> Result<(), NoMemory>
+        requires data_fits { data_pages ≤ 4096 }
+        requires stack_fits { stack_pages ≤ 512 }
+        ensures ok { OnOk result (self.new ≡ record self.old {
+          «data» = resized self.old.data data_pages;
+          stack = resized self.old.stack stack_pages;
+        }) }
+        ensures err { OnErr result (self.new ≡ self.old) }
+    {
+        let before = self.data.len();
+        self.data.grow(data_pages)?;
+        if self.stack.grow(stack_pages).is_err() {
+            self.data.cut(before);
+            return Err(NoMemory);
+        }
+        self.data.cut(data_pages);
+        self.stack.cut(stack_pages);
+        Ok(())
+    }
+}
