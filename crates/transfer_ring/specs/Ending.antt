@@ -1,0 +1,67 @@
+-- What the completion of the oldest transfer answers.
+use Rattle.std.specs.Prelude.{◌≡◌, ℕ, List, [], ◌∷◌, Option}
+use Rattle.vm_facts.specs.declared.page.Page.{Page}
+use Rattle.io_edge.specs.Count.{Rose}
+use Rattle.io_edge.specs.FileHolding.{NamedFile}
+use Rattle.transfer_ring.specs.declared.transfer.Transfer.{Transfer}
+use Rattle.transfer_ring.specs.declared.transfer.Transfer.TheVariants.{Read, Write}
+use Rattle.transfer_ring.specs.declared.transfer.Inbound.{Inbound}
+use Rattle.transfer_ring.specs.declared.transfer.Finished.{Finished}
+use Rattle.transfer_ring.specs.declared.transfer.Finished.TheVariants.{Done, FileFault, SwapReadFault, SwapWriteFault, Idle}
+use Rattle.transfer_ring.specs.Parts.{AreSameParts, AreRead, WritesParts, SpoilsParts}
+
+-- the same read: its pages, frames and sources
+abbrev pub IsSameRead : Page → List Inbound → Transfer → Type 0
+IsSameRead demanded parts (Read page news) = (page ≡ demanded) × AreSameParts parts news.items
+IsSameRead demanded parts (Write news) = ⊥
+
+-- each page of the read has the bytes of its source
+abbrev pub IsReadWhole : Option (List NamedFile) → Option (List ℕ) → Transfer → Type 0
+IsReadWhole holds image (Read page parts) = AreRead holds image parts.items
+IsReadWhole holds image (Write parts) = ⊥
+
+-- how a read of these parts ends; the swap image stays as it is
+abbrev pub EndsRead : Page → List Inbound → Option (List NamedFile) → Option (List ℕ) → Finished → Type 0
+EndsRead demanded parts holds image (Done transfer) = IsSameRead demanded parts transfer × IsReadWhole holds image transfer
+EndsRead demanded parts holds image (FileFault transfer) = IsSameRead demanded parts transfer
+EndsRead demanded parts holds image (SwapReadFault transfer) = IsSameRead demanded parts transfer
+EndsRead demanded parts holds image (SwapWriteFault transfer) = ⊥
+EndsRead demanded parts holds image Idle = ⊥
+
+-- how a transfer ends, by the swap image before and after
+abbrev pub Ends : Transfer → Option (List NamedFile) → Option (List ℕ) → Option (List ℕ) → Finished → Type 0
+Ends (Read demanded parts) holds old new finished = EndsRead demanded parts.items holds old finished × (new ≡ old)
+Ends (Write parts) holds old new (Done transfer) = (transfer ≡ Write parts) × WritesParts parts.items old new
+Ends (Write parts) holds old new (SwapWriteFault transfer) = (transfer ≡ Write parts) × SpoilsParts parts.items old new
+Ends (Write parts) holds old new (FileFault transfer) = ⊥
+Ends (Write parts) holds old new (SwapReadFault transfer) = ⊥
+Ends (Write parts) holds old new Idle = ⊥
+
+-- the oldest transfer ends so; where there is none, nothing changes
+abbrev pub EndsOldest : List Transfer → Option (List NamedFile) → Option (List ℕ) → Option (List ℕ) → Finished → Type 0
+EndsOldest [] holds old new finished = (finished ≡ Idle) × (new ≡ old)
+EndsOldest (oldest ∷ rest) holds old new finished = Ends oldest holds old new finished
+
+-- a count of faults that rises with a fault of the files, and stays in every other case
+abbrev pub CountsPages : Finished → ℕ → ℕ → Type 0
+CountsPages (Done transfer) old new = new ≡ old
+CountsPages (FileFault transfer) old new = Rose old new
+CountsPages (SwapReadFault transfer) old new = new ≡ old
+CountsPages (SwapWriteFault transfer) old new = new ≡ old
+CountsPages Idle old new = new ≡ old
+
+-- the same of failed reads from the swap device
+abbrev pub CountsReads : Finished → ℕ → ℕ → Type 0
+CountsReads (Done transfer) old new = new ≡ old
+CountsReads (FileFault transfer) old new = new ≡ old
+CountsReads (SwapReadFault transfer) old new = Rose old new
+CountsReads (SwapWriteFault transfer) old new = new ≡ old
+CountsReads Idle old new = new ≡ old
+
+-- the same of failed writes to the swap device
+abbrev pub CountsWrites : Finished → ℕ → ℕ → Type 0
+CountsWrites (Done transfer) old new = new ≡ old
+CountsWrites (FileFault transfer) old new = new ≡ old
+CountsWrites (SwapReadFault transfer) old new = new ≡ old
+CountsWrites (SwapWriteFault transfer) old new = Rose old new
+CountsWrites Idle old new = new ≡ old

@@ -1,0 +1,23 @@
+-- What a read's end says of the counts of faults.
+use Rattle.std.specs.Prelude.{◌≡◌, ℕ, ⊤}
+use Rattle.io_edge.specs.Count.{Rose}
+use Rattle.transfer_ring.specs.declared.moving.Filled.{Filled}
+use Rattle.transfer_ring.specs.declared.moving.Filled.TheVariants.{Done, FileFault, SwapFault}
+
+-- the fact holds where all was read
+abbrev pub OnFilled : Filled → Type 0 → Type 0
+OnFilled Done P = P
+OnFilled FileFault P = ⊤
+OnFilled SwapFault P = ⊤
+
+-- the files' count of faults rises where a file's read failed, and nowhere else
+abbrev pub CountsFile : Filled → ℕ → ℕ → Type 0
+CountsFile Done old new = new ≡ old
+CountsFile FileFault old new = Rose old new
+CountsFile SwapFault old new = new ≡ old
+
+-- the swap device's count of failed reads rises where its read failed, and nowhere else
+abbrev pub CountsSwap : Filled → ℕ → ℕ → Type 0
+CountsSwap Done old new = new ≡ old
+CountsSwap FileFault old new = new ≡ old
+CountsSwap SwapFault old new = Rose old new

@@ -1,0 +1,41 @@
+-- The parts of a transfer before and after its completion.
+use Rattle.std.specs.Prelude.{◌≡◌, ◌⊎◌, ◌-◌, ℕ, List, [], ◌∷◌, Option, take, drop, replicate, ⊤}
+use Rattle.io_edge.specs.FileHolding.{NamedFile, HoldsRange}
+use Rattle.io_edge.specs.SwapImage.{HoldsPage, WritesPage, SpoilsPage}
+use Rattle.transfer_ring.specs.declared.transfer.Inbound.{Inbound}
+use Rattle.transfer_ring.specs.declared.transfer.Outbound.{Outbound}
+use Rattle.transfer_ring.specs.declared.transfer.Source.{Source}
+use Rattle.transfer_ring.specs.declared.transfer.Source.TheVariants.{Swap, File}
+
+-- the bytes of a page that was read: those of the swap image, or those of the range of the file, and
+-- zeros after them; where the image or the files aren't told, any that such a source may have
+abbrev pub HasRead : Option (List NamedFile) → Option (List ℕ) → Source → List ℕ → Type 0
+HasRead holds image (Swap block) bytes = HoldsPage image block bytes
+HasRead holds image (File id offset count) bytes = HoldsRange holds id offset (take count bytes) × (drop count bytes ≡ replicate (1024 - count) 0)
+
+-- the same page, frame and source; the bytes may be others
+pub record IsSamePart (old new : Inbound) : Type 0 where
+  pub page : new.page ≡ old.page
+  pub frame : new.token.number ≡ old.token.number
+  pub source : new.source ≡ old.source
+
+abbrev pub AreSameParts : List Inbound → List Inbound → Type 0
+AreSameParts [] [] = ⊤
+AreSameParts (old ∷ olds) (new ∷ news) = IsSamePart old new × AreSameParts olds news
+AreSameParts olds news = ⊥
+
+-- every part was read
+abbrev pub AreRead : Option (List NamedFile) → Option (List ℕ) → List Inbound → Type 0
+AreRead holds image [] = ⊤
+AreRead holds image (part ∷ rest) = HasRead holds image part.source part.token.bytes × AreRead holds image rest
+
+-- the swap image after all parts were written, one after another
+abbrev pub WritesParts : List Outbound → Option (List ℕ) → Option (List ℕ) → Type 0
+WritesParts [] old new = new ≡ old
+WritesParts (part ∷ rest) old new = (next : Option (List ℕ)) × WritesPage old part.block part.token.bytes next × WritesParts rest next new
+
+-- the swap image after the write of one part failed; those before it were written, and those after it
+-- weren't tried
+abbrev pub SpoilsParts : List Outbound → Option (List ℕ) → Option (List ℕ) → Type 0
+SpoilsParts [] old new = ⊥
+SpoilsParts (part ∷ rest) old new = SpoilsPage old part.block new ⊎ ((next : Option (List ℕ)) × WritesPage old part.block part.token.bytes next × SpoilsParts rest next new)

@@ -1,0 +1,277 @@
+//! The ring of transfers in flight.
+ghost use Rattle.std.specs.Prelude.{◌≡◌, ◌+◌, ◌<◌, ◌≤◌, ◌∷◌, ◌++◌, [], List, length, drop, slice_get, slice_set, IfOk, IfSome, IsNone, IsSome, Some, None, ◌↔◌};
+ghost use Rattle.std.specs.List.{list_any};
+ghost use Rattle.transfer_ring.specs.Beginning.{Begins, IsRefused};
+ghost use Rattle.transfer_ring.specs.Ending.{EndsOldest, CountsPages, CountsReads, CountsWrites, Ends};
+ghost use Rattle.transfer_ring.specs.Naming.{names_page_of, names_space, names_text};
+ghost use Rattle.transfer_ring.specs.Slots.{in_flight, put_first, slot_at};
+ghost use Rattle.transfer_ring.specs.Sound.{AreReachable, HasSources, IsRead, IsReachable, IsWrite};
+
+use crate::moving::{self, Filled};
+use crate::transfer::Owner;
+use crate::{Begun, Finished, Transfer};
+use circular_buffer::HeapCircularBuffer;
+use io_edge::{Files, Moved, SwapDev};
+use std::alloc::Global;
+use std::marker::Model;
+use std::mem;
+use vm_facts::NoMemory;
+
+/// How many transfers may be in flight (this project's profile).
+const MOST: u32 = 16;
+
+/// The transfers in flight; contracts see them as a list, oldest first. At most 16 are.
+///
+/// Only `new` takes memory. Tokens can't be dropped, so a ring must be emptied and closed.
+pub struct TransferRing {
+    slots: Vec<Option<Transfer>>,
+
+    // The used slots, the one of the oldest transfer first.
+    order: HeapCircularBuffer<u32>,
+
+    // The slots that aren't used.
+    spare: Vec<u32>,
+}
+
+impl Model for TransferRing {
+    ghost use Rattle.std.specs.Prelude.{List};
+    ghost use Rattle.transfer_ring.specs.declared.transfer.Transfer.{Transfer};
+
+    ghost Value = { List Transfer };
+
+    ghost use Rattle.transfer_ring.specs.Fields.{transfers_of, IsRing};
+
+    ghost view = { transfers_of };
+
+    ghost invariant = { IsRing };
+}
+
+// Puts a transfer into an empty slot.
+fn put(slots: &mut Vec<Option<Transfer>>, slot: u32, transfer: Transfer)
+    requires below { slot < length slots.old.items }
+    requires empty { slot_at slots.old.items slot ≡ None }
+    ensures { slots.new.items ≡ slice_set slots.old.items slot (Some transfer) }
+{
+    match mem::replace(&mut slots[slot as usize], Some(transfer)) {
+        None => {}
+        _other => unreachable!(),
+    }
+}
+
+// Takes the transfer out of a used slot.
+fn take(slots: &mut Vec<Option<Transfer>>, slot: u32) -> Transfer
+    requires { IsSome (slot_at slots.old.items slot) }
+    ensures was { slot_at slots.old.items slot ≡ Some result }
+    ensures after { slots.new.items ≡ slice_set slots.old.items slot None }
+{
+    match mem::replace(&mut slots[slot as usize], None) {
+        Some(transfer) => transfer,
+        _other => unreachable!(),
+    }
+}
+
+// Ends slots that are all empty.
+fn end_slots(mut slots: Vec<Option<Transfer>>)
+    requires { (slot : _) → slot_at slots.items slot ≡ None }
+{
+    while let Some(slot) = slots.pop() {
+        match slot {
+            None => {}
+            _other => unreachable!(),
+        }
+    }
+    slots.destroy_empty();
+}
+
+impl TransferRing {
+    /// A ring with no transfer in flight.
+    pub fn new(alloc: Global) -> Result<TransferRing, NoMemory>
+        ensures { IfOk result (λ ring. ring ≡ []) }
+    {
+        let Ok(order) = HeapCircularBuffer::with_capacity(alloc, MOST as usize) else {
+            return Err(NoMemory);
+        };
+        let Ok(mut spare) = Vec::with_capacity(alloc, MOST as usize) else {
+            return Err(NoMemory);
+        };
+        let Ok(mut slots) = Vec::with_capacity(alloc, MOST as usize) else {
+            return Err(NoMemory);
+        };
+        for slot in 0..MOST {
+            slots.push_reserved(None);
+            spare.push_reserved(slot);
+        }
+        Ok(TransferRing {
+            slots,
+            order,
+            spare,
+        })
+    }
+
+    /// How many transfers are in flight.
+    pub fn len(&self) -> u32
+        ensures count { result ≡ length self.now }
+        ensures most { result ≤ 16 }
+    {
+        self.order.len() as u32
+    }
+
+    // Puts a transfer behind those in flight.
+    fn begin(&mut self, t: Transfer) -> Begun
+        requires { HasSources t }
+        ensures begun { Begins self.old t self.new result }
+        ensures full { IsRefused result ↔ (length self.old ≡ 16) }
+    {
+        let Some(slot) = self.spare.pop() else {
+            return Begun::RingFull(t);
+        };
+        put(&mut self.slots, slot, t);
+        self.order.push_back(slot);
+        Begun::Ok
+    }
+
+    /// Begins a read. RingFull comes exactly where 16 transfers are in flight.
+    pub fn begin_read(&mut self, t: Transfer) -> Begun
+        requires { IsRead t }
+        ensures begun { Begins self.old t self.new result }
+        ensures full { IsRefused result ↔ (length self.old ≡ 16) }
+    {
+        self.begin(t)
+    }
+
+    /// Begins a write. RingFull comes exactly where 16 transfers are in flight.
+    pub fn begin_write(&mut self, t: Transfer) -> Begun
+        requires { IsWrite t }
+        ensures begun { Begins self.old t self.new result }
+        ensures full { IsRefused result ↔ (length self.old ≡ 16) }
+    {
+        self.begin(t)
+    }
+
+    /// Takes the oldest transfer out, with no call of a device. None where none is in flight.
+    pub fn abandon(&mut self) -> Option<Transfer>
+        ensures oldest { result ≡ slice_get self.old 0 }
+        ensures rest { self.new ≡ drop 1 self.old }
+        ensures sources { IfSome result HasSources }
+    {
+        let slot = self.order.pop_front()?;
+        let transfer = take(&mut self.slots, slot);
+        self.spare.push_reserved(slot);
+        Some(transfer)
+    }
+
+    /// Completes the oldest transfer: one call of a device for each page, in rising order, up to the
+    /// first that fails. A fault hands the transfer back, with all its tokens; a read's may then have
+    /// any bytes. Idle comes exactly where no transfer is in flight.
+    pub fn complete_oldest<F: Files, D: SwapDev>(&mut self, files: &mut F, swap: &mut D) -> Finished
+        requires { AreReachable (F.holds files.old) (D.blocks swap.old) self.old }
+        ensures rest { self.new ≡ drop 1 self.old }
+        ensures ends { EndsOldest self.old (F.holds files.old) (D.image swap.old) (D.image swap.new) result }
+        ensures files_lead { F.leads files.old files.new }
+        ensures swap_leads { D.leads swap.old swap.new }
+        ensures holds { F.holds files.new ≡ F.holds files.old }
+        ensures blocks { D.blocks swap.new ≡ D.blocks swap.old }
+        ensures open_faults { F.open_faults files.new ≡ F.open_faults files.old }
+        ensures page_faults { CountsPages result (F.page_faults files.old) (F.page_faults files.new) }
+        ensures read_faults { CountsReads result (D.read_faults swap.old) (D.read_faults swap.new) }
+        ensures write_faults { CountsWrites result (D.write_faults swap.old) (D.write_faults swap.new) }
+    {
+        match self.abandon() {
+            Some(transfer) => complete(transfer, files, swap),
+            None => Finished::Idle,
+        }
+    }
+
+    // Whether a transfer in flight names a page of this owner.
+    fn has_page_of(&self, owner: Owner) -> bool
+        ensures { result ≡ list_any (names_page_of owner) self.now }
+    {
+        let (first, rest) = self.order.as_slices();
+        is_any_of(&self.slots, first, owner) || is_any_of(&self.slots, rest, owner)
+    }
+
+    /// Whether a transfer in flight names a page in the data or the stack of this space.
+    pub fn names(&self, sid: u32) -> bool
+        ensures { result ≡ list_any (names_space sid) self.now }
+    {
+        self.has_page_of(Owner::Space(sid))
+    }
+
+    /// Whether a transfer in flight names a page in the text of this image.
+    pub fn names_text(&self, image: u32) -> bool
+        ensures { result ≡ list_any (names_text image) self.now }
+    {
+        self.has_page_of(Owner::Image(image))
+    }
+
+    /// Ends a ring with no transfer in flight.
+    pub fn close(self)
+        requires { self ≡ [] }
+    {
+        let TransferRing {
+            slots,
+            order,
+            spare: _,
+        } = self;
+        order.destroy_empty();
+        end_slots(slots);
+    }
+}
+
+// Whether the transfer in this slot names a page of this owner.
+fn is_slot_of(slots: &[Option<Transfer>], slot: u32, owner: Owner) -> bool
+    ensures { result ≡ list_any (names_page_of owner) (put_first (slot_at slots.now slot) []) }
+{
+    match slots.get(slot as usize) {
+        Some(Some(transfer)) => transfer.names(owner),
+        _ => false,
+    }
+}
+
+// Whether a transfer in one of these slots names a page of this owner.
+fn is_any_of(slots: &[Option<Transfer>], order: &[u32], owner: Owner) -> bool
+    ensures { result ≡ list_any (names_page_of owner) (in_flight slots.now order.now) }
+{
+    match order {
+        [] => false,
+        [first, rest @ ..] => is_slot_of(slots, *first, owner) || is_any_of(slots, rest, owner),
+    }
+}
+
+// Completes a transfer that was taken out.
+fn complete<F: Files, D: SwapDev>(transfer: Transfer, files: &mut F, swap: &mut D) -> Finished
+    requires sources { HasSources transfer }
+    requires there { IsReachable (F.holds files.old) (D.blocks swap.old) transfer }
+    ensures ends { Ends transfer (F.holds files.old) (D.image swap.old) (D.image swap.new) result }
+    ensures files_lead { F.leads files.old files.new }
+    ensures swap_leads { D.leads swap.old swap.new }
+    ensures holds { F.holds files.new ≡ F.holds files.old }
+    ensures blocks { D.blocks swap.new ≡ D.blocks swap.old }
+    ensures open_faults { F.open_faults files.new ≡ F.open_faults files.old }
+    ensures page_faults { CountsPages result (F.page_faults files.old) (F.page_faults files.new) }
+    ensures read_faults { CountsReads result (D.read_faults swap.old) (D.read_faults swap.new) }
+    ensures write_faults { CountsWrites result (D.write_faults swap.old) (D.write_faults swap.new) }
+{
+    match transfer {
+        Transfer::Read {
+            demanded,
+            mut parts,
+        } => {
+            let filled = moving::fill_all(&mut parts, files, swap);
+            let transfer = Transfer::Read { demanded, parts };
+            match filled {
+                Filled::Done => Finished::Done(transfer),
+                Filled::FileFault => Finished::FileFault(transfer),
+                Filled::SwapFault => Finished::SwapReadFault(transfer),
+            }
+        }
+        Transfer::Write { parts } => {
+            let moved = moving::write_all(&parts, swap);
+            let transfer = Transfer::Write { parts };
+            match moved {
+                Moved::Done => Finished::Done(transfer),
+                Moved::Failed => Finished::SwapWriteFault(transfer),
+            }
+        }
+    }
+}
