@@ -1,0 +1,264 @@
+// That the calls that take memory succeed, and what a caller does with the transfers.
+ghost use Rattle.std.specs.Prelude.{◌≡◌, ℕ, ◌<◌, ◌∷◌, ◌++◌, [], length, drop};
+ghost use Rattle.transfer_ring.specs.Sound.{AreReachable, IsBlock, IsReachable, IsRead, IsSource, IsThere, IsWrite};
+
+use super::*;
+use frame_state::Free;
+use io_edge::{Files, Found, MemFiles, MemSwap, SwapDev};
+use std::alloc::Global;
+use std::process::Abort;
+use std::test::Fail;
+use vm_facts::Page;
+
+// A read of one page of space 1 from this source.
+fn read_from(rt: &impl Abort, alloc: Global, v: u32, source: Source) -> Transfer
+    requires { IsSource source }
+    ensures read { IsRead result }
+    ensures reachable { (holds : _) (blocks : ℕ) → IsThere holds blocks source → IsReachable holds blocks result }
+{
+    let page = Page::Data { sid: 1, v };
+    let token = Free::make(alloc, 7)
+        .expect(rt, "memory for a frame")
+        .begin_fill();
+    let mut parts = Vec::with_capacity(alloc, 1).expect(rt, "memory for a part");
+    parts.push_reserved(Inbound {
+        page,
+        token,
+        source,
+    });
+    Transfer::Read {
+        demanded: page,
+        parts,
+    }
+}
+
+// A read of one page of space 1 from swap.
+fn read_of(rt: &impl Abort, alloc: Global, v: u32, block: u32) -> Transfer
+    requires { IsBlock 8 block }
+    ensures read { IsRead result }
+    ensures reachable { (holds : _) → IsReachable holds 8 result }
+{
+    read_from(rt, alloc, v, Source::Swap(block))
+}
+
+// A write of one text page of image 2 that begins with this byte.
+fn write_of(rt: &impl Abort, alloc: Global, byte: u8, block: u32) -> Transfer
+    requires { IsBlock 8 block }
+    ensures write { IsWrite result }
+    ensures reachable { (holds : _) → IsReachable holds 8 result }
+{
+    let mut token = Free::make(alloc, 8)
+        .expect(rt, "memory for a frame")
+        .zeroed();
+    token.bytes_mut()[0] = byte;
+    let mut parts = Vec::with_capacity(alloc, 1).expect(rt, "memory for a part");
+    parts.push_reserved(Outbound {
+        page: Page::Text { image: 2, v: 0 },
+        token: token.begin_clean(),
+        block,
+    });
+    Transfer::Write { parts }
+}
+
+// The first and the last byte of the last page of a transfer, whose tokens end.
+fn end(transfer: Transfer) -> (u8, u8) {
+    let mut ends = (0, 0);
+    match transfer {
+        Transfer::Read {
+            demanded: _,
+            mut parts,
+        } => {
+            while let Some(
+                Inbound {
+                    page: _,
+                    token,
+                    source: _,
+                },
+            ) = parts.pop()
+            {
+                let token = token.filled();
+                ends = (token.bytes()[0], token.bytes()[1023]);
+                token.release().retire();
+            }
+            parts.destroy_empty();
+        }
+        Transfer::Write { mut parts } => {
+            while let Some(
+                Outbound {
+                    page: _,
+                    token,
+                    block: _,
+                },
+            ) = parts.pop()
+            {
+                ends = (token.bytes()[0], token.bytes()[1023]);
+                token.cleaned().retire();
+            }
+            parts.destroy_empty();
+        }
+    }
+    ends
+}
+
+// The bytes of a transfer that ended well.
+fn done(finished: Finished) -> Option<(u8, u8)> {
+    match finished {
+        Finished::Done(transfer) => Some(end(transfer)),
+        Finished::FileFault(transfer)
+        | Finished::SwapReadFault(transfer)
+        | Finished::SwapWriteFault(transfer) => {
+            end(transfer);
+            None
+        }
+        Finished::Idle => None,
+    }
+}
+
+// A device of 8 blocks whose calls of these numbers fail.
+fn device(rt: &impl Abort, alloc: Global, fail_reads: Vec<u64>, fail_writes: Vec<u64>) -> MemSwap
+    ensures { ⟦<MemSwap as SwapDev>⟧.blocks result ≡ 8 }
+{
+    MemSwap::new(alloc, 8, fail_reads, fail_writes).expect(rt, "memory for a device")
+}
+
+// Begins a read in a ring that has room.
+fn begin_read(ring: &mut TransferRing, t: Transfer)
+    requires room { length ring.old < 16 }
+    requires read { IsRead t }
+    requires were { (holds : _) → AreReachable holds 8 ring.old }
+    requires is { (holds : _) → IsReachable holds 8 t }
+    ensures behind { ring.new ≡ ring.old ++ t ∷ [] }
+    ensures are { (holds : _) → AreReachable holds 8 ring.new }
+{
+    match ring.begin_read(t) {
+        Begun::Ok => {}
+        _other => unreachable!(),
+    }
+}
+
+// Begins a write in a ring that has room.
+fn begin_write(ring: &mut TransferRing, t: Transfer)
+    requires room { length ring.old < 16 }
+    requires write { IsWrite t }
+    requires were { (holds : _) → AreReachable holds 8 ring.old }
+    requires is { (holds : _) → IsReachable holds 8 t }
+    ensures behind { ring.new ≡ ring.old ++ t ∷ [] }
+    ensures are { (holds : _) → AreReachable holds 8 ring.new }
+{
+    match ring.begin_write(t) {
+        Begun::Ok => {}
+        _other => unreachable!(),
+    }
+}
+
+// Completes the oldest transfer, with no files, and ends its tokens.
+fn complete(
+    rt: &impl Abort,
+    alloc: Global,
+    ring: &mut TransferRing,
+    swap: &mut MemSwap,
+) -> Option<(u8, u8)>
+    requires eight { ⟦<MemSwap as SwapDev>⟧.blocks swap.old ≡ 8 }
+    requires were { (holds : _) → AreReachable holds 8 ring.old }
+    ensures eight { ⟦<MemSwap as SwapDev>⟧.blocks swap.new ≡ 8 }
+    ensures rest { ring.new ≡ drop 1 ring.old }
+    ensures are { (holds : _) → AreReachable holds 8 ring.new }
+{
+    let mut files = MemFiles::new(Vec::new(alloc), Vec::new(alloc));
+    done(ring.complete_oldest(&mut files, swap))
+}
+
+#[test]
+fn a_page_that_was_written_is_read_back(rt: HostRuntime) {
+    let mut ring = TransferRing::new(rt.alloc()).expect(&rt, "memory for a ring");
+    let mut swap = device(&rt, rt.alloc(), Vec::new(rt.alloc()), Vec::new(rt.alloc()));
+    begin_write(&mut ring, write_of(&rt, rt.alloc(), 9, 4));
+    begin_read(&mut ring, read_of(&rt, rt.alloc(), 3, 4));
+    assert_eq!(rt;
+        (ring.len(), ring.names(1), ring.names_text(2)),
+        (2, true, true)
+    );
+    assert_eq!(rt;
+        complete(&rt, rt.alloc(), &mut ring, &mut swap),
+        Some((9, 0))
+    );
+    assert_eq!(rt;
+        (ring.len(), ring.names(1), ring.names_text(2)),
+        (1, true, false)
+    );
+    assert_eq!(rt;
+        complete(&rt, rt.alloc(), &mut ring, &mut swap),
+        Some((9, 0))
+    );
+    ring.close();
+}
+
+#[test]
+fn a_failed_call_hands_the_transfer_back(rt: HostRuntime) -> Result<(), Fail> {
+    let first = [1].to_vec(rt.alloc())?;
+    let second = [2].to_vec(rt.alloc())?;
+    let mut ring = TransferRing::new(rt.alloc()).expect(&rt, "memory for a ring");
+    let mut swap = device(&rt, rt.alloc(), first, second);
+    begin_write(&mut ring, write_of(&rt, rt.alloc(), 9, 4));
+    begin_write(&mut ring, write_of(&rt, rt.alloc(), 8, 2));
+    begin_read(&mut ring, read_of(&rt, rt.alloc(), 3, 4));
+    assert_eq!(rt;
+        complete(&rt, rt.alloc(), &mut ring, &mut swap),
+        Some((9, 0))
+    );
+    assert_eq!(rt; complete(&rt, rt.alloc(), &mut ring, &mut swap), None);
+    assert_eq!(rt; complete(&rt, rt.alloc(), &mut ring, &mut swap), None);
+    assert_eq!(rt; (swap.blocks(), ring.len()), (8, 0));
+    ring.close();
+    Ok(())
+}
+
+#[test]
+fn the_rest_of_a_page_from_a_file_is_zeros(rt: HostRuntime) -> Result<(), Fail> {
+    let mut list = Vec::new(rt.alloc());
+    list.push(("hi".to_string(rt.alloc())?, [7, 8, 9].to_vec(rt.alloc())?))?;
+    let mut files = MemFiles::new(list, Vec::new(rt.alloc()));
+    let Found::Is { id, len } = files.find("hi") else {
+        return Err(Fail::from("not found"));
+    };
+    assert_eq!(rt; len, 3);
+    let mut ring = TransferRing::new(rt.alloc()).expect(&rt, "memory for a ring");
+    let mut swap = device(&rt, rt.alloc(), Vec::new(rt.alloc()), Vec::new(rt.alloc()));
+    let source = Source::File {
+        id,
+        offset: 1,
+        count: 2,
+    };
+    match ring.begin_read(read_from(&rt, rt.alloc(), 3, source)) {
+        Begun::Ok => {}
+        _other => unreachable!(),
+    }
+    assert_eq!(rt;
+        done(ring.complete_oldest(&mut files, &mut swap)),
+        Some((8, 0))
+    );
+    ring.close();
+    Ok(())
+}
+
+#[test]
+fn the_seventeenth_transfer_is_handed_back(rt: HostRuntime) -> Result<(), Fail> {
+    let mut ring = TransferRing::new(rt.alloc()).expect(&rt, "memory for a ring");
+    for v in 0..16 {
+        begin_read(&mut ring, read_of(&rt, rt.alloc(), v, 4));
+    }
+    assert_eq!(rt; ring.len(), 16);
+    let refused = match ring.begin_read(read_of(&rt, rt.alloc(), 16, 4)) {
+        Begun::RingFull(transfer) => {
+            end(transfer);
+            true
+        }
+        Begun::Ok => false,
+    };
+    assert_eq!(rt; (refused, ring.len()), (true, 16));
+    while let Some(transfer) = ring.abandon() {
+        end(transfer);
+    }
+    ring.close();
+    Ok(())
+}
