@@ -1,0 +1,3 @@
+pub mod TreeLaws
+pub mod RecencyLaws
+pub mod LruLaws

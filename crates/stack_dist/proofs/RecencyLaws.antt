@@ -1,0 +1,427 @@
+-- The marked references of a history, in order, are the stack of pages.
+use Rattle.std.proofs.Common.{◌≡◌, ℕ, zero, suc, ◌+◌, ◌-◌, ◌<◌, ◌≤◌, Bool, true, false, cond, eqb, List, [], ◌∷◌, length, get_or, set, take, replicate, Option, Some, None, refl, sym, ap, ◌∙◌, subst, arith, inl, inr}
+use Rattle.std.specs.Option.{option_map}
+use Rattle.std.specs.Ordering.{is_eq, nat_cmp}
+use Rattle.std.specs.declared.cmp.Ordering.TheVariants.{Less, Equal, Greater}
+use Rattle.std.proofs.lemmas.Bool.{cases_Bool, cond-true, cond-false, eqb-false, cases_lt, lt-ltb, le-ltb, ne_eqb}
+use Rattle.std.proofs.lemmas.List.{get_or-set_other, get_or_default, length-set, take_all}
+use Rattle.stack_dist.specs.Lru.{without}
+use Rattle.stack_dist.specs.Tree.{total}
+use Rattle.stack_dist.specs.Recency.{stack, place_in, marks, unmarked, marks_before, padded, hits_within, counted}
+use Rattle.stack_dist.proofs.LruLaws.{place_here, place_later, place_below, page_at, suc_of, hit_counted, depths_counted, get-le-total, hits_within-le, after, after_more}
+
+-- ---- a page as often as its mark says
+
+copies : ℕ → ℕ → List ℕ → List ℕ
+copies zero page pages = pages
+copies (suc m) page pages = page ∷ copies m page pages
+
+kept : List ℕ → List ℕ → List ℕ
+kept [] ms = []
+kept (page ∷ history) [] = []
+kept (page ∷ history) (m ∷ ms) = copies m page (kept history ms)
+
+without_here : (page q : ℕ) (pages : List ℕ) → eqb q page ≡ true → without page (q ∷ pages) ≡ pages
+unfolding without
+without_here page q pages e = cond-true (eqb q page) pages (q ∷ without page pages) e
+
+without_later : (page q : ℕ) (pages : List ℕ) → eqb q page ≡ false → without page (q ∷ pages) ≡ q ∷ without page pages
+unfolding without
+without_later page q pages e = cond-false (eqb q page) pages (q ∷ without page pages) e
+
+without-copies : (m page q : ℕ) (pages : List ℕ) → eqb q page ≡ false → without page (copies m q pages) ≡ copies m q (without page pages)
+unfolding copies
+without-copies zero page q pages e = refl
+without-copies (suc m) page q pages e =
+    without_later page q (copies m q pages) e ∙ ap (λ (t : List ℕ). q ∷ t) (without-copies m page q pages e)
+
+later : (m : ℕ) (o : Option ℕ) → option_map suc (option_map (λ k. m + k) o) ≡ option_map (λ k. suc m + k) o
+later m None = refl
+later m (Some k) = let e : suc (m + k) ≡ suc m + k = omega arith in ap (λ (n : ℕ). Some n) e
+
+none_later : (o : Option ℕ) → o ≡ option_map (λ k. 0 + k) o
+none_later None = refl
+none_later (Some k) = let e : k ≡ 0 + k = omega arith in ap (λ (n : ℕ). Some n) e
+
+place-copies : (m page q : ℕ) (pages : List ℕ) → eqb q page ≡ false → place_in page (copies m q pages) ≡ option_map (λ k. m + k) (place_in page pages)
+unfolding copies
+place-copies zero page q pages e = none_later (place_in page pages)
+place-copies (suc m) page q pages e =
+    place_later page q (copies m q pages) e ∙
+    ap (λ (o : Option ℕ). option_map suc o) (place-copies m page q pages e) ∙
+    later m (place_in page pages)
+
+unmarked-cons : (o : Option ℕ) (m : ℕ) (ms : List ℕ) → unmarked (option_map suc o) (m ∷ ms) ≡ m ∷ unmarked o ms
+unmarked-cons None m ms = refl
+unmarked-cons (Some k) m ms = refl
+
+zero_is : (k : ℕ) → Some 0 ≡ Some k → 0 ≡ k
+zero_is k e = cc
+
+-- without its mark a page is off the stack
+kept-unmarked : (page : ℕ) (history ms : List ℕ) → ((k : ℕ) → place_in page history ≡ Some k → get_or ms k 0 ≡ 1)
+    → kept history (unmarked (place_in page history) ms) ≡ without page (kept history ms)
+unfolding kept without copies
+kept-unmarked page [] ms one = refl
+kept-unmarked page (q ∷ history) [] one = none (place_in page (q ∷ history))
+  where
+    none : (o : Option ℕ) → kept (q ∷ history) (unmarked o []) ≡ []
+    none None = refl
+    none (Some k) = refl
+kept-unmarked page (q ∷ history) (m ∷ ms) one = elim (cases_Bool (eqb q page)) [
+  | inl same ↦
+      let o = place_here page q history same in
+      let marked : m ≡ 1 = one 0 o in
+      ap (λ (p : Option ℕ). kept (q ∷ history) (unmarked p (m ∷ ms))) o ∙ taken same marked
+  | inr other ↦
+      let o = place_later page q history other in
+      ap (λ (p : Option ℕ). kept (q ∷ history) (unmarked p (m ∷ ms))) o ∙
+      ap (λ (t : List ℕ). kept (q ∷ history) t) (unmarked-cons (place_in page history) m ms) ∙
+      ap (λ (t : List ℕ). copies m q t) (kept-unmarked page history ms (λ k e. one (suc k) (o ∙ ap (λ (p : Option ℕ). option_map suc p) e))) ∙
+      sym (without-copies m page q (kept history ms) other)
+]
+  where
+    taken : eqb q page ≡ true → m ≡ 1 → copies 0 q (kept history ms) ≡ without page (copies m q (kept history ms))
+    taken same marked =
+        sym (without_here page q (kept history ms) same) ∙ ap (λ (n : ℕ). without page (copies n q (kept history ms))) (sym marked)
+
+-- the depth of a page is how many marks stand before its own
+place-kept : (page : ℕ) (history ms : List ℕ) (k : ℕ) → place_in page history ≡ Some k → get_or ms k 0 ≡ 1
+    → place_in page (kept history ms) ≡ Some (total (take k ms))
+unfolding kept total place_in copies
+place-kept page [] ms k e one = cc
+place-kept page (q ∷ history) [] k e one = absurd (omega arith)
+place-kept page (q ∷ history) (m ∷ ms) k e one = elim (cases_Bool (eqb q page)) [
+  | inl same ↦ first (zero_is k (sym (place_here page q history same) ∙ e)) same one
+  | inr other ↦
+      let j = suc_of (place_in page history) k (sym (place_later page q history other) ∙ e) in
+      further other j.0 j.2 (place-kept page history ms j.0 j.1 (subst (λ (i : ℕ). get_or (m ∷ ms) i 0 ≡ 1) j.2 one))
+]
+  where
+    first : 0 ≡ k → eqb q page ≡ true → get_or (m ∷ ms) k 0 ≡ 1 → place_in page (copies m q (kept history ms)) ≡ Some (total (take k (m ∷ ms)))
+    first z same one =
+        let marked : m ≡ 1 = subst (λ (i : ℕ). get_or (m ∷ ms) i 0 ≡ 1) (sym z) one in
+        subst (λ (i : ℕ). place_in page (copies m q (kept history ms)) ≡ Some (total (take i (m ∷ ms)))) z
+        (ap (λ (i : ℕ). place_in page (copies i q (kept history ms))) marked ∙ place_here page q (kept history ms) same)
+
+    further : eqb q page ≡ false → (j : ℕ) → k ≡ suc j → place_in page (kept history ms) ≡ Some (total (take j ms))
+        → place_in page (copies m q (kept history ms)) ≡ Some (total (take k (m ∷ ms)))
+    further other j s at =
+        place-copies m page q (kept history ms) other ∙
+        ap (λ (o : Option ℕ). option_map (λ i. m + i) o) at ∙
+        ap (λ (i : ℕ). Some (total (take i (m ∷ ms)))) (sym s)
+
+place_none-kept : (page : ℕ) (history ms : List ℕ) → place_in page history ≡ None → place_in page (kept history ms) ≡ None
+unfolding kept place_in
+place_none-kept page [] ms e = refl
+place_none-kept page (q ∷ history) [] e = refl
+place_none-kept page (q ∷ history) (m ∷ ms) e = elim (cases_Bool (eqb q page)) [
+  | inl same ↦ absurd (some_none (sym (place_here page q history same) ∙ e))
+  | inr other ↦
+      place-copies m page q (kept history ms) other ∙
+      ap (λ (o : Option ℕ). option_map (λ i. m + i) o)
+      (place_none-kept page history ms (none_of (place_in page history) (sym (place_later page q history other) ∙ e)))
+]
+  where
+    some_none : {n : ℕ} → Some n ≡ None → ⊥
+    some_none e = cc
+
+    none_of : (o : Option ℕ) → option_map suc o ≡ None → o ≡ None
+    none_of None e = refl
+    none_of (Some j) e = cc
+
+-- ---- the marks of a history
+
+two_pages : (page q : ℕ) (history : List ℕ) (k : ℕ) → place_in page history ≡ Some k → place_in q history ≡ Some k → page ≡ q
+two_pages page q history k e f =
+    let b = place_below page history k e in
+    sym (page_at page history k e) ∙ get_or_default history k page q b ∙ page_at q history k f
+
+-- the latest reference to each page is marked
+marked_at : (history : List ℕ) (q k : ℕ) → place_in q history ≡ Some k → get_or (marks history) k 0 ≡ 1
+unfolding marks place_in
+marked_at [] q k e = cc
+marked_at (page ∷ history) q k e = elim (cases_Bool (eqb page q)) [
+  | inl same ↦
+      subst (λ (i : ℕ). get_or (1 ∷ unmarked (place_in page history) (marks history)) i 0 ≡ 1) (zero_is k (sym (place_here q page history same) ∙ e)) refl
+  | inr other ↦
+      let j = suc_of (place_in q history) k (sym (place_later q page history other) ∙ e) in
+      subst (λ (i : ℕ). get_or (1 ∷ unmarked (place_in page history) (marks history)) i 0 ≡ 1) (sym j.2)
+      (stays (place_in page history) refl other j.0 j.1 (marked_at history q j.0 j.1))
+]
+  where
+    stays : (o : Option ℕ) → place_in page history ≡ o → eqb page q ≡ false → (j : ℕ) → place_in q history ≡ Some j → get_or (marks history) j 0 ≡ 1
+        → get_or (unmarked o (marks history)) j 0 ≡ 1
+    stays None e other j at one = one
+    stays (Some i) e other j at one =
+        get_or-set_other (marks history) i j 0 0
+        (λ same. eqb-false page q other (two_pages page q history i e (at ∙ ap (λ (n : ℕ). Some n) same))) ∙
+        one
+
+kept-marks : (history : List ℕ) → kept history (marks history) ≡ stack history
+unfolding kept marks stack copies
+kept-marks [] = refl
+kept-marks (page ∷ history) =
+    ap (λ (t : List ℕ). page ∷ t)
+    (kept-unmarked page history (marks history) (λ k e. marked_at history page k e) ∙
+    ap (λ (t : List ℕ). without page t) (kept-marks history))
+
+-- the depth of a page on the stack, by the marks
+pub depth_by_marks : (page : ℕ) (history : List ℕ) → marks_before (place_in page history) (marks history) ≡ place_in page (stack history)
+depth_by_marks page history = at (place_in page history) refl ∙ ap (λ (t : List ℕ). place_in page t) (kept-marks history)
+  where
+    at : (o : Option ℕ) → place_in page history ≡ o → marks_before o (marks history) ≡ place_in page (kept history (marks history))
+    at None e = sym (place_none-kept page history (marks history) e)
+    at (Some k) e = sym (place-kept page history (marks history) k e (marked_at history page k e))
+
+pub length-marks : (history : List ℕ) → length (marks history) ≡ length history
+unfolding marks
+length-marks [] = refl
+length-marks (page ∷ history) = ap suc (same (place_in page history) ∙ length-marks history)
+  where
+    same : (o : Option ℕ) → length (unmarked o (marks history)) ≡ length (marks history)
+    same None = refl
+    same (Some k) = length-set (marks history) k 0
+
+total-set-le : (xs : List ℕ) (at : ℕ) → total (set xs at 0) ≤ total xs
+unfolding total
+total-set-le [] at = omega arith
+total-set-le (x ∷ xs) zero = omega arith
+total-set-le (x ∷ xs) (suc at) = let h = total-set-le xs at in omega arith
+
+pub total-marks : (history : List ℕ) → total (marks history) ≤ length history
+unfolding marks total
+total-marks [] = omega arith
+total-marks (page ∷ history) = let h = total-marks history in let l = less (place_in page history) in omega arith
+  where
+    less : (o : Option ℕ) → total (unmarked o (marks history)) ≤ total (marks history)
+    less None = omega arith
+    less (Some k) = total-set-le (marks history) k
+
+-- ---- behind zeros
+
+pub total-padded : (n : ℕ) (xs : List ℕ) → total (padded n xs) ≡ total xs
+unfolding total padded
+total-padded zero xs = refl
+total-padded (suc n) xs = let h = total-padded n xs in omega arith
+
+pub length-padded : (n : ℕ) (xs : List ℕ) → length (padded n xs) ≡ n + length xs
+unfolding padded
+length-padded zero xs = omega arith
+length-padded (suc n) xs = let h = length-padded n xs in omega arith
+
+pub replicate-padded : (n : ℕ) → replicate n 0 ≡ padded n []
+unfolding padded
+replicate-padded zero = refl
+replicate-padded (suc n) = ap (λ (t : List ℕ). 0 ∷ t) (replicate-padded n)
+
+pub get_or-padded : (n : ℕ) (xs : List ℕ) (k m : ℕ) → m ≡ n + k → get_or (padded n xs) m 0 ≡ get_or xs k 0
+unfolding padded
+get_or-padded zero xs k m e = let same : m ≡ k = omega arith in ap (λ (i : ℕ). get_or xs i 0) same
+get_or-padded (suc n) xs k zero e = absurd (omega arith)
+get_or-padded (suc n) xs k (suc m) e = get_or-padded n xs k m (omega arith)
+
+total-take-padded : (n : ℕ) (xs : List ℕ) (k m : ℕ) → m ≡ n + k → total (take m (padded n xs)) ≡ total (take k xs)
+unfolding padded total
+total-take-padded zero xs k m e = let same : m ≡ k = omega arith in ap (λ (i : ℕ). total (take i xs)) same
+total-take-padded (suc n) xs k zero e = absurd (omega arith)
+total-take-padded (suc n) xs k (suc m) e = let h = total-take-padded n xs k m (omega arith) in omega arith
+
+set-padded : (n : ℕ) (xs : List ℕ) (k m v : ℕ) → m ≡ n + k → set (padded n xs) m v ≡ padded n (set xs k v)
+unfolding padded
+set-padded zero xs k m v e = let same : m ≡ k = omega arith in ap (λ (i : ℕ). set xs i v) same
+set-padded (suc n) xs k zero v e = absurd (omega arith)
+set-padded (suc n) xs k (suc m) v e = ap (λ (t : List ℕ). 0 ∷ t) (set-padded n xs k m v (omega arith))
+
+set_first-padded : (n : ℕ) (xs : List ℕ) → set (padded (suc n) xs) n 1 ≡ padded n (1 ∷ xs)
+unfolding padded
+set_first-padded zero xs = refl
+set_first-padded (suc n) xs = ap (λ (t : List ℕ). 0 ∷ t) (set_first-padded n xs)
+
+pub first_free : (n : ℕ) (xs : List ℕ) → get_or (padded (suc n) xs) n 0 ≡ 0
+unfolding padded
+first_free zero xs = refl
+first_free (suc n) xs = first_free n xs
+
+abbrev pub moved_by : ℕ → Option ℕ → Option ℕ
+moved_by n o = option_map (λ k. n + k) o
+
+marks_before-padded : (n : ℕ) (o : Option ℕ) (xs : List ℕ) → marks_before (moved_by n o) (padded n xs) ≡ marks_before o xs
+marks_before-padded n None xs = refl
+marks_before-padded n (Some k) xs = ap (λ (t : ℕ). Some t) (total-take-padded n xs k (n + k) refl)
+
+unmarked-padded : (n : ℕ) (o : Option ℕ) (xs : List ℕ) → unmarked (moved_by n o) (padded n xs) ≡ padded n (unmarked o xs)
+unmarked-padded n None xs = refl
+unmarked-padded n (Some k) xs = set-padded n xs k (n + k) 0 refl
+
+-- ---- one more reference
+
+-- what the pass over the references keeps: the places below `place` are free
+pub record Follows (history : List ℕ) (last : ℕ → Option ℕ) (place : ℕ) (tree hits : List ℕ) : Type 0 where
+  pub places : (q : ℕ) → last q ≡ moved_by place (place_in q history)
+  pub marked : tree ≡ padded place (marks history)
+  pub depths : length hits ≡ length (stack history)
+  pub counts : (n : ℕ) → total (take n hits) ≡ hits_within n history
+
+pub starts : (size : ℕ) (last : ℕ → Option ℕ) (tree hits : List ℕ) → ((q : ℕ) → last q ≡ None) → tree ≡ replicate size 0 → hits ≡ []
+    → Follows (after [] []) last size tree hits
+unfolding place_in marks stack hits_within total after
+starts size last tree hits none zeros empty = record {
+  places = none;
+  marked = zeros ∙ replicate-padded size;
+  depths = ap (λ (xs : List ℕ). length xs) empty;
+  counts = λ n. ap (λ (xs : List ℕ). total (take n xs)) empty ∙ nothing n;
+}
+  where
+    nothing : (n : ℕ) → total (take n []) ≡ 0
+    nothing zero = refl
+    nothing (suc n) = refl
+
+-- the depth of the page is on the stack
+pub depth_found : (history : List ℕ) (last : ℕ → Option ℕ) (place page : ℕ) (tree hits : List ℕ) → Follows history last place tree hits
+    → marks_before (last page) tree ≡ place_in page (stack history)
+depth_found history last place page tree hits f =
+    ap (λ (o : Option ℕ). marks_before o tree) (f.places page) ∙
+    ap (λ (t : List ℕ). marks_before (moved_by place (place_in page history)) t) f.marked ∙
+    marks_before-padded place (place_in page history) (marks history) ∙
+    depth_by_marks page history
+
+moved_on : (place : ℕ) (o : Option ℕ) → moved_by (suc place) o ≡ moved_by place (option_map suc o)
+moved_on place None = refl
+moved_on place (Some k) = let e : suc place + k ≡ place + suc k = omega arith in ap (λ (t : ℕ). Some t) e
+
+last_mark : (n : ℕ) (o : Option ℕ) (at : ℕ) → moved_by n o ≡ Some at → (k : ℕ) × (o ≡ Some k) × (at ≡ n + k)
+last_mark n None at e = cc
+last_mark n (Some k) at e = (k, refl, cc)
+
+-- the mark of the page's last reference is there
+pub mark_there : (history : List ℕ) (last : ℕ → Option ℕ) (place page at : ℕ) (tree hits : List ℕ) → Follows history last place tree hits → last page ≡ Some at
+    → (at < length tree) × (get_or tree at 0 ≡ 1)
+mark_there history last place page at tree hits f e =
+    let k = last_mark place (place_in page history) at (sym (f.places page) ∙ e) in
+    let below = place_below page history k.0 k.1 in
+    let len = ap (λ (t : List ℕ). length t) f.marked ∙ length-padded place (marks history) in
+    let marked = length-marks history in
+    let far = k.2 in (
+      omega arith,
+      ap (λ (t : List ℕ). get_or t at 0) f.marked ∙ get_or-padded place (marks history) k.0 at k.2 ∙ marked_at history page k.0 k.1,
+    )
+
+-- the tree without the page's mark
+without_mark : (history : List ℕ) (last : ℕ → Option ℕ) (place page : ℕ) (tree hits : List ℕ) → Follows history last place tree hits
+    → unmarked (last page) tree ≡ padded place (unmarked (place_in page history) (marks history))
+without_mark history last place page tree hits f =
+    ap (λ (o : Option ℕ). unmarked o tree) (f.places page) ∙
+    ap (λ (t : List ℕ). unmarked (moved_by place (place_in page history)) t) f.marked ∙
+    unmarked-padded place (place_in page history) (marks history)
+
+total-unmarked : (o : Option ℕ) (xs : List ℕ) → total (unmarked o xs) ≤ total xs
+total-unmarked None xs = omega arith
+total-unmarked (Some k) xs = total-set-le xs k
+
+length-unmarked : (o : Option ℕ) (xs : List ℕ) → length (unmarked o xs) ≡ length xs
+length-unmarked None xs = refl
+length-unmarked (Some k) xs = length-set xs k 0
+
+get_or-padded_low : (n : ℕ) (xs : List ℕ) (k : ℕ) → k < n → get_or (padded n xs) k 0 ≡ 0
+unfolding padded
+get_or-padded_low zero xs k lt = absurd (omega arith)
+get_or-padded_low (suc n) xs zero lt = refl
+get_or-padded_low (suc n) xs (suc k) lt = get_or-padded_low n xs k (omega arith)
+
+-- the place for the new mark is there and free, and the marks are few
+pub record Ready (place references : ℕ) (tree : List ℕ) : Type 0 where
+  pub within : place - 1 < length tree
+  pub few : total tree ≤ references
+  pub free : get_or tree (place - 1) 0 ≡ 0
+
+pub ready : (history : List ℕ) (last : ℕ → Option ℕ) (place page : ℕ) (tree hits left : List ℕ) (before : Option ℕ) → Follows history last place tree hits
+    → 0 < place → before ≡ last page → left ≡ unmarked before tree → Ready place (length history) left
+ready history last place page tree hits left before f some was is =
+    let off = is ∙ ap (λ (o : Option ℕ). unmarked o tree) was ∙ without_mark history last place page tree hits f in
+    let len = ap (λ (t : List ℕ). length t) off ∙ length-padded place (unmarked (place_in page history) (marks history)) in
+    let sums = ap (λ (t : List ℕ). total t) off ∙ total-padded place (unmarked (place_in page history) (marks history)) in
+    let fewer = total-unmarked (place_in page history) (marks history) in
+    let few = total-marks history in
+    record {
+      within = omega arith;
+      few = omega arith;
+      free = ap (λ (t : List ℕ). get_or t (place - 1) 0) off ∙
+          get_or-padded_low place (unmarked (place_in page history) (marks history)) (place - 1) (omega arith);
+    }
+
+-- the depth is one that is counted, and its count is small
+pub depth_counts : (history : List ℕ) (last : ℕ → Option ℕ) (place page depth : ℕ) (tree hits : List ℕ) (before : Option ℕ)
+    → Follows history last place tree hits → before ≡ last page → marks_before before tree ≡ Some depth
+    → (depth < length hits) × (get_or hits depth 0 ≤ length history)
+depth_counts history last place page depth tree hits before f was is =
+    let at =
+    sym (depth_found history last place page tree hits f) ∙ sym (ap (λ (o : Option ℕ). marks_before o tree) was) ∙ is
+    in
+    let below = place_below page (stack history) depth at in
+    let room = f.depths in
+    let le = get-le-total hits depth in
+    let so_far = f.counts (suc depth) in
+    let all = hits_within-le (suc depth) history in
+    (omega arith, omega arith)
+
+follows_more : (history : List ℕ) (last last' : ℕ → Option ℕ) (place n page : ℕ) (tree hits : List ℕ) → Follows history last place tree hits → place ≡ suc n
+    → ((q : ℕ) → last' q ≡ cond (eqb page q) (Some n) (last q))
+    → Follows (page ∷ history) last' n (set (unmarked (last page) tree) n 1) (counted hits (marks_before (last page) tree))
+unfolding place_in marks stack
+follows_more history last last' place n page tree hits f is put = record {
+  places = λ q.
+      put q ∙
+      ap (λ (o : Option ℕ). cond (eqb page q) (Some n) o) (f.places q ∙ ap (λ (m : ℕ). moved_by m (place_in q history)) is) ∙
+      found (eqb page q) (place_in q history);
+  marked =
+      ap (λ (t : List ℕ). set t n 1)
+      (without_mark history last place page tree hits f ∙ ap (λ (m : ℕ). padded m (unmarked (place_in page history) (marks history))) is) ∙
+      set_first-padded n (unmarked (place_in page history) (marks history));
+  depths =
+      ap (λ (o : Option ℕ). length (counted hits o)) (depth_found history last place page tree hits f) ∙
+      depths_counted page (stack history) hits f.depths;
+  counts = λ m.
+      ap (λ (o : Option ℕ). total (take m (counted hits o))) (depth_found history last place page tree hits f) ∙
+      hit_counted m page history hits f.depths (f.counts m);
+}
+  where
+    found : (b : Bool) (o : Option ℕ) → cond b (Some n) (moved_by (suc n) o) ≡ moved_by n (cond b (Some 0) (option_map suc o))
+    found true o = let e : n ≡ n + 0 = omega arith in ap (λ (t : ℕ). Some t) e
+    found false o = moved_on n o
+
+is_eq-cmp : (x y : ℕ) → is_eq (nat_cmp x y) ≡ eqb x y
+is_eq-cmp x y = elim (cases_lt x y) [
+  | inl below ↦
+      ap (λ (b : Bool). is_eq (cond b Less (cond (eqb x y) Equal Greater))) (lt-ltb x y below) ∙ sym (ne_eqb x y (λ e. omega arith))
+  | inr above ↦
+      ap (λ (b : Bool). is_eq (cond b Less (cond (eqb x y) Equal Greater))) (le-ltb x y above) ∙ same (eqb x y)
+]
+  where
+    same : (b : Bool) → is_eq (cond b Equal Greater) ≡ b
+    same true = refl
+    same false = refl
+
+-- a step of the pass, by what each call says
+pub follows_step : (refs : List ℕ) (i : ℕ) (last last' : ℕ → Option ℕ) (place : ℕ) (tree left tree' hits hits' : List ℕ) (before depth : Option ℕ)
+    → i < length refs → Follows (after (take i refs) []) last place tree hits → 0 < place → before ≡ last (get_or refs i 0)
+    → depth ≡ marks_before before tree → left ≡ unmarked before tree → tree' ≡ set left (place - 1) 1 → hits' ≡ counted hits depth
+    → ((q : ℕ) → last' q ≡ cond (is_eq (nat_cmp (get_or refs i 0) q)) (Some (place - 1)) (last q))
+    → Follows (after (take (i + 1) refs) []) last' (place - 1) tree' hits'
+follows_step refs i last last' place tree left tree' hits hits' before depth lt f some was d l t h put =
+    let page = get_or refs i 0 in
+    let stepped =
+    follows_more (after (take i refs) []) last last' place (place - 1) page tree hits f (omega arith)
+    (λ q. put q ∙ ap (λ (b : Bool). cond b (Some (place - 1)) (last q)) (is_eq-cmp page q))
+    in
+    let tree_is = t ∙ ap (λ (xs : List ℕ). set xs (place - 1) 1) (l ∙ ap (λ (o : Option ℕ). unmarked o tree) was) in
+    let hits_are = h ∙ ap (λ (o : Option ℕ). counted hits o) (d ∙ ap (λ (o : Option ℕ). marks_before o tree) was) in
+    subst (λ (past : List ℕ). Follows past last' (place - 1) tree' hits') (sym (after_more refs i 0 lt))
+    (subst (λ (xs : List ℕ). Follows (page ∷ after (take i refs) []) last' (place - 1) xs hits') (sym tree_is)
+    (subst (λ (xs : List ℕ). Follows (page ∷ after (take i refs) []) last' (place - 1) (set (unmarked (last page) tree) (place - 1) 1) xs) (sym hits_are)
+    stepped))
+
+pub all_followed : (refs : List ℕ) (i : ℕ) (last : ℕ → Option ℕ) (place : ℕ) (tree hits : List ℕ) → length refs ≤ i
+    → Follows (after (take i refs) []) last place tree hits → Follows (after refs []) last place tree hits
+all_followed refs i last place tree hits le f =
+    subst (λ (xs : List ℕ). Follows (after xs []) last place tree hits) (take_all i refs le) f

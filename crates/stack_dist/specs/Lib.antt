@@ -1,0 +1,3 @@
+pub mod Lru
+pub mod Tree
+pub mod Recency

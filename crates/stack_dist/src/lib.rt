@@ -1,0 +1,81 @@
+//! How many page faults LRU has at every size of memory, by Mattson's stack distances.
+//!
+//! Pages in the order of their last references, the latest first, are a stack. LRU with room for n pages
+//! holds the top n of it, so a reference is a fault at exactly those sizes that do not reach as deep as its
+//! page lies. One pass over the references counts the depths, in O(log n) for each; sums of these counts
+//! are the faults at each size.
+#![tactic(auto)]
+
+ghost use Rattle.std.specs.Prelude.{◌≡◌, ℕ, ◌+◌, ◌-◌, ◌<◌, ◌≤◌, length, take, slice_index_or, vec_len, IfOk};
+ghost use Rattle.stack_dist.specs.Lru.{lru_faults, distinct_pages};
+ghost use Rattle.stack_dist.specs.Tree.{total};
+
+mod recency;
+mod tree;
+
+use recency::hits_by_depth;
+use std::alloc::Global;
+
+/// Memory ran out.
+#[derive(Clone, Copy, Debug, PartialEq, Eq)]
+pub struct NoMemory;
+
+/// The page faults of LRU at each size of memory: entry n - 1 has the faults with room for n pages, from 1
+/// to as many as there are distinct pages. The references are page numbers, the first one first (LRU as in
+/// Belady; the method is Mattson's; the limit of 4,000,000 references is this project's profile).
+pub fn curve(alloc: Global, refs: &[u32]) -> Result<Vec<u32>, NoMemory>
+    requires { length refs.now ≤ 4_000_000 }
+    ensures sizes { IfOk result (λ faults. vec_len faults ≡ distinct_pages refs.now) }
+    ensures entries { IfOk result (λ faults. (n : ℕ) → 0 < n → n ≤ distinct_pages refs.now → slice_index_or faults.items (n - 1) 0 ≡ lru_faults refs.now n) }
+{
+    let mut counts = hits_by_depth(alloc, refs)?;
+    hits_to_faults(&mut counts, refs.len() as u32);
+    Ok(counts)
+}
+
+/// Turns the hits at each depth into the faults at each size: what the hits up to a depth leave of the
+/// references.
+fn hits_to_faults(counts: &mut [u32], references: u32)
+    requires { total counts.old ≤ references }
+    ensures { (k : ℕ) → k < length counts.old → slice_index_or counts.new k 0 + total (take (k + 1) counts.old) ≡ references }
+{
+    let mut faults = references;
+    for count in counts.iter_mut() {
+        faults -= *count;
+        *count = faults;
+    }
+}
+
+#[cfg(test)]
+mod tests {
+    use super::*;
+    use std::test::Fail;
+
+    #[test]
+    fn faults_at_each_size(rt: HostRuntime) -> Result<(), Fail> {
+        let faults = curve(rt.alloc(), &[1, 2, 3, 4, 1, 2, 5, 1, 2, 3, 4, 5])?;
+        assert_eq!(rt; faults.as_slice(), [12, 12, 10, 8, 5].as_slice());
+        Ok(())
+    }
+
+    #[test]
+    fn no_references_give_no_entry(rt: HostRuntime) -> Result<(), Fail> {
+        let faults = curve(rt.alloc(), &[])?;
+        assert_eq!(rt; faults.len(), 0);
+        Ok(())
+    }
+
+    #[test]
+    fn one_page_faults_once(rt: HostRuntime) -> Result<(), Fail> {
+        let faults = curve(rt.alloc(), &[7, 7, 7, 7])?;
+        assert_eq!(rt; faults.as_slice(), [1].as_slice());
+        Ok(())
+    }
+
+    #[test]
+    fn distinct_pages_fault_at_every_size(rt: HostRuntime) -> Result<(), Fail> {
+        let faults = curve(rt.alloc(), &[9, 4, 0, 4_294_967_295])?;
+        assert_eq!(rt; faults.as_slice(), [4, 4, 4, 4].as_slice());
+        Ok(())
+    }
+}
