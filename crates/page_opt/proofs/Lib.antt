@@ -1,0 +1,9 @@
+pub mod Counts
+pub mod Uses
+pub mod Served
+pub mod Chosen
+pub mod Least
+pub mod Places
+pub mod Holding
+pub mod Standing
+pub mod Replaying
