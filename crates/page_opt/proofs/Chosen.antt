@@ -1,13 +1,13 @@
 -- Belady's victims are a plan: what a reference does to a run of theirs.
-use Rattle.std.proofs.Common.{◌≡◌, ℕ, suc, ◌+◌, ◌<◌, ◌≤◌, Bool, true, false, not, cond, nat_lt, List, [], ◌∷◌, ◌++◌, length, drop, Option, Some, None, refl, sym, ap, ◌∙◌, subst, arith, inl, inr, ◌⊎◌}
+use Rattle.std.proofs.Common.{◌≡◌, ℕ, ◌+◌, ◌<◌, ◌≤◌, Bool, true, false, cond, nat_lt, List, [], ◌∷◌, ◌++◌, length, Option, Some, None, refl, sym, ap, ◌∙◌, subst, arith, inl, inr, ◌⊎◌}
 use Rattle.std.specs.Prelude.{◌==◌, ◌||◌}
-use Rattle.std.proofs.lemmas.Bool.{cases_eq, cases_Bool, lt-ltb, le-ltb, ltb-true, ltb-false, eq-eqb, ne_eqb, eqb-true, false≢true}
+use Rattle.std.proofs.lemmas.Bool.{cases_eq, cases_Bool, lt-ltb, ltb-true, ltb-false, eq-eqb, ne_eqb}
 use Rattle.page_opt.specs.declared.Victim.{Victim}
 use Rattle.page_opt.specs.Plans.{Run, has, without, due, entered, left, then, served, serve}
 use Rattle.page_opt.specs.Furthest.{furthest, choice, cached, listed, victims_from}
-use Rattle.page_opt.specs.Cache.{bit, tally, times, IsCache}
-use Rattle.page_opt.proofs.Counts.{count, tally_all, tally_le, has_times, hasnt_times, tally-without, length-without}
-use Rattle.page_opt.proofs.Uses.{IsFurthest, furthest_gives, furthest_none, furthest_last}
+use Rattle.page_opt.specs.Cache.{bit, times, IsCache}
+use Rattle.page_opt.proofs.Counts.{hasnt_times, tally-without, length-without}
+use Rattle.page_opt.proofs.Uses.{IsFurthest, furthest_gives}
 
 -- the three cases of Belady's rule
 pub record IsHit (n p : ℕ) (future cache : List ℕ) : Type 0 where

@@ -1,11 +1,11 @@
 -- The two sets that hold a cache: how they change with each step, and which page they give first.
-use Rattle.std.proofs.Common.{◌≡◌, ℕ, suc, ◌+◌, ◌<◌, ◌≤◌, Bool, true, false, not, List, [], ◌∷◌, length, refl, sym, ap, ◌∙◌, subst, arith, inl, inr, ◌⊎◌}
+use Rattle.std.proofs.Common.{◌≡◌, ℕ, ◌+◌, ◌<◌, ◌≤◌, Bool, true, false, not, List, ◌∷◌, length, refl, sym, ap, ◌∙◌, arith, inl, inr}
 use Rattle.std.specs.Prelude.{◌==◌, ◌||◌, ◌&&◌}
 use Rattle.std.proofs.lemmas.Bool.{cases_eq, cases_lt, cases_Bool, eq-eqb, ne_eqb, eqb-true, eqb-false, false≢true, true≢false, or_cases, or_left, or_right, and_parts, and_from, not-true, not_from_false, false_from_ne_true}
 use Rattle.page_opt.specs.Plans.{has}
 use Rattle.page_opt.specs.Furthest.{next_use}
 use Rattle.page_opt.specs.Cache.{Changed, Held}
-use Rattle.page_opt.proofs.Uses.{next_le, next_here, next_other, next_apart, IsFurthest, Before}
+use Rattle.page_opt.proofs.Uses.{next_le, next_here, next_other, next_apart, IsFurthest}
 
 -- the pages without p, and with it
 abbrev pub others : ℕ → (ℕ → Bool) → ℕ → Bool

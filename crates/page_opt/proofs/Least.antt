@@ -1,15 +1,15 @@
 -- No plan has fewer faults: at each point, for any front of the references to come, the other cache has at
 -- most as many more of its pages as it has had more faults.
-use Rattle.std.proofs.Common.{◌≡◌, ℕ, suc, ◌+◌, ◌<◌, ◌≤◌, Bool, true, false, not, cond, nat_lt, List, [], ◌∷◌, ◌++◌, length, Option, Some, None, refl, sym, ap, ◌∙◌, subst, arith, inl, inr, ◌⊎◌}
+use Rattle.std.proofs.Common.{◌≡◌, ℕ, ◌+◌, ◌≤◌, Bool, true, false, cond, List, [], ◌∷◌, ◌++◌, length, Option, Some, None, refl, sym, ap, ◌∙◌, subst, arith, inl, inr, ◌⊎◌}
 use Rattle.std.proofs.lemmas.Bool.{cases_Bool}
 use Rattle.page_opt.specs.declared.Victim.{Victim}
 use Rattle.page_opt.specs.Plans.{Run, has, without, then, serve, runs, all_left, faults_of, plan_faults}
-use Rattle.page_opt.specs.Furthest.{choice, victims_from, furthest_victims}
-use Rattle.page_opt.specs.Cache.{bit, tally, times, IsCache}
-use Rattle.page_opt.proofs.Counts.{count, count_more, tally_all, tally_le, has_times, hasnt_times, tally-without, length-without}
-use Rattle.page_opt.proofs.Uses.{IsFurthest, furthest_last}
-use Rattle.page_opt.proofs.Served.{Hit, Miss, Step, serve_gives, step_small, runs_none}
-use Rattle.page_opt.proofs.Chosen.{IsHit, IsRoom, IsFull, Chosen, chosen, after, after_hit, after_room, after_full, after_is_cache, run_from, next_run, chosen_serves, counted}
+use Rattle.page_opt.specs.Furthest.{furthest_victims}
+use Rattle.page_opt.specs.Cache.{bit, times, IsCache}
+use Rattle.page_opt.proofs.Counts.{count, count_more, tally_all, tally_le, hasnt_times, tally-without}
+use Rattle.page_opt.proofs.Uses.{furthest_last}
+use Rattle.page_opt.proofs.Served.{Step, serve_gives, step_small, runs_none}
+use Rattle.page_opt.proofs.Chosen.{IsFull, Chosen, chosen, after, after_hit, after_room, after_full, after_is_cache, run_from, next_run, chosen_serves, counted}
 
 -- the best cache against another, with their faults so far
 pub Ahead : List ℕ → List ℕ → ℕ → List ℕ → ℕ → Type 0

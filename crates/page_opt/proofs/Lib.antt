@@ -7,3 +7,4 @@ pub mod Places
 pub mod Holding
 pub mod Standing
 pub mod Replaying
+pub mod Rising

@@ -1,14 +1,13 @@
 -- One reference of a plan, played by the code, is the step that the plan's definition takes.
-use Rattle.std.proofs.Common.{◌≡◌, ℕ, suc, ◌+◌, ◌<◌, ◌≤◌, Bool, true, false, not, cond, nat_lt, List, [], ◌∷◌, length, drop, get_or, Option, Some, None, refl, sym, ap, ap₂, ◌∙◌, subst, arith, inl, inr, ◌⊎◌}
+use Rattle.std.proofs.Common.{◌≡◌, ℕ, ◌+◌, ◌<◌, ◌≤◌, Bool, true, false, not, cond, List, [], ◌∷◌, length, drop, get_or, Option, Some, None, refl, sym, ap, ap₂, ◌∙◌, subst, arith, inl, inr}
 use Rattle.std.specs.Prelude.{◌==◌, ◌||◌, ◌&&◌, slice_get, is_some, Result, Ok, Err, IfOk}
-use Rattle.std.proofs.lemmas.Bool.{cases_eq, cases_Bool, eq-eqb, ne_eqb, eqb-true, eqb-false, lt-ltb, le-ltb, false≢true, true≢false}
+use Rattle.std.proofs.lemmas.Bool.{cases_eq, eq-eqb, ne_eqb, lt-ltb, le-ltb, false≢true, true≢false}
 use Rattle.std.specs.BTreeSet.{BTreeSet, btree_set_len}
 use Rattle.page_opt.specs.declared.Victim.{Victim}
 use Rattle.page_opt.specs.declared.replay.Replay.{Replay}
 use Rattle.page_opt.specs.Plans.{Run, has, without, due, entered, left, then, served, serve, runs, all_left, faults_of, plan_faults}
-use Rattle.page_opt.specs.Cache.{bit, tally, times, Changed}
 use Rattle.page_opt.specs.Held.{in_set, Changes}
-use Rattle.page_opt.specs.Replayed.{Tracks, run_of, NoneLeft, OneLeft, Leaving, Enters, Entering, Serves, Serving, Replays}
+use Rattle.page_opt.specs.Replayed.{Tracks, run_of, Leaving, Entering, Serving, Replays}
 use Rattle.page_opt.proofs.Counts.{hasnt_times, tally-without, length-without}
 use Rattle.std.proofs.lemmas.List.{drop_more, drop_all}
 use Rattle.page_opt.proofs.Served.{runs_none}
@@ -84,13 +83,12 @@ enters_run : (n page : ℕ) (cache : List ℕ) (victims : List Victim) (faults :
     → Entering n page m s ok → EntersRun n page (record { cache = cache; victims = victims; faults = faults }) s ok
 unfolding entered
 enters_run n page cache victims faults m s true k same_victims same_faults away e =
-    let room = e.room in let z = k.size in
-    (
+    let room = e.room in let z = k.size in (
       page ∷ cache,
       tracks_entered page cache m.cache s.cache k away e.cache (e.size (k.same page ∙ away)),
       ap (λ (b : Bool). cond b (Some (record { cache = page ∷ cache; victims = victims; faults = faults + 1 })) None) (lt-ltb (length cache) n (omega arith)) ∙
-      ap (λ (vs : List Victim). Some (record { cache = page ∷ cache; victims = vs; faults = faults + 1 })) (sym (e.victims ∙ same_victims)) ∙
-      ap (λ (k : ℕ). Some (record { cache = page ∷ cache; victims = s.victims.now; faults = k })) (sym (e.faults ∙ ap (λ (k : ℕ). k + 1) same_faults)),
+          ap (λ (vs : List Victim). Some (record { cache = page ∷ cache; victims = vs; faults = faults + 1 })) (sym (e.victims ∙ same_victims)) ∙
+          ap (λ (k : ℕ). Some (record { cache = page ∷ cache; victims = s.victims.now; faults = k })) (sym (e.faults ∙ ap (λ (k : ℕ). k + 1) same_faults)),
       let f = e.faults in omega arith,
     )
 enters_run n page cache victims faults m s false k same_victims same_faults away e =

@@ -1,9 +1,9 @@
 -- What a reference does to a run of any plan.
-use Rattle.std.proofs.Common.{◌≡◌, ℕ, suc, ◌+◌, ◌<◌, ◌≤◌, Bool, true, false, cond, nat_lt, List, [], ◌∷◌, length, drop, Option, Some, None, refl, sym, ap, ◌∙◌, subst, arith, inl, inr, ◌⊎◌}
-use Rattle.std.proofs.lemmas.Bool.{ltb-true, lt-ltb, eq-eqb}
+use Rattle.std.proofs.Common.{◌≡◌, ℕ, ◌+◌, ◌<◌, ◌≤◌, Bool, true, false, nat_lt, List, [], ◌∷◌, length, drop, Option, Some, None, refl, sym, ap, subst, arith, inl, inr, ◌⊎◌}
+use Rattle.std.proofs.lemmas.Bool.{ltb-true}
 use Rattle.page_opt.specs.Plans.{Run, has, without, due, entered, left, then, served, serve, runs}
 use Rattle.page_opt.specs.Cache.{bit, times}
-use Rattle.page_opt.proofs.Counts.{count, cond_some, tally_le, has_times, hasnt_times, tally-without, length-without}
+use Rattle.page_opt.proofs.Counts.{count, cond_some, tally_le, has_times, hasnt_times, tally-without}
 
 -- a hit
 pub record Hit (p : ℕ) (c d : Run) : Type 0 where
@@ -22,7 +22,7 @@ pub record Miss (n p : ℕ) (c d : Run) : Type 0 where
 abbrev pub Step : ℕ → ℕ → Run → Run → Type 0
 Step n p c d = Hit p c d ⊎ Miss n p c d
 
-pub with_page : ℕ → Run → Run
+unfoldable pub with_page : ℕ → Run → Run
 with_page p c = record { cache = p ∷ c.cache; victims = c.victims; faults = c.faults + 1 }
 
 pub entered_gives : (n p : ℕ) (c d : Run) → entered n p c ≡ Some d → (length c.cache < n) × (with_page p c ≡ d)
@@ -44,7 +44,7 @@ enters n p c m d away faults fewer e =
       small = let r = parts.0 in omega arith;
     })
 
-left_gives : (v : ℕ) (c m : Run) → left v c ≡ Some m → (has v c.cache ≡ true) × (record { cache = without v c.cache; victims = drop 1 c.victims; faults = c.faults } ≡ m)
+pub left_gives : (v : ℕ) (c m : Run) → left v c ≡ Some m → (has v c.cache ≡ true) × (record { cache = without v c.cache; victims = drop 1 c.victims; faults = c.faults } ≡ m)
 unfolding left
 left_gives v c m e = cond_some (has v c.cache) (record { cache = without v c.cache; victims = drop 1 c.victims; faults = c.faults }) m e
 

@@ -1,17 +1,17 @@
 -- One reference, served by the code's two sets, is one step of Belady's rule.
-use Rattle.std.proofs.Common.{◌≡◌, ℕ, suc, ◌+◌, ◌<◌, ◌≤◌, Bool, true, false, not, cond, nat_lt, List, [], ◌∷◌, ◌++◌, length, drop, get_or, Option, Some, None, refl, sym, ap, ◌∙◌, subst, arith, inl, inr, ◌⊎◌, append_assoc}
+use Rattle.std.proofs.Common.{◌≡◌, ℕ, ◌+◌, ◌<◌, ◌≤◌, Bool, true, false, not, cond, nat_lt, List, [], ◌∷◌, ◌++◌, length, drop, get_or, Option, Some, None, refl, sym, ap, ◌∙◌, subst, arith, inl, inr, append_assoc}
 use Rattle.std.specs.Prelude.{◌==◌, ◌||◌, ◌&&◌, Result, Ok, Err, OnOk}
-use Rattle.std.proofs.lemmas.Bool.{cases_eq, cases_lt, cases_Bool, eq-eqb, ne_eqb, eqb-true, eqb-false, false≢true, true≢false, and_left, le-ltb}
+use Rattle.std.proofs.lemmas.Bool.{cases_eq, cases_lt, cases_Bool, eq-eqb, ne_eqb, false≢true, true≢false, and_left, le-ltb}
 use Rattle.std.proofs.lemmas.List.{append-nil, drop_all, drop_more, get_or-drop, length-drop}
 use Rattle.page_opt.specs.declared.Victim.{Victim}
 use Rattle.page_opt.specs.declared.resident.Resident.{Resident}
-use Rattle.page_opt.specs.Plans.{Run, has, without, then, serve, runs, all_left, faults_of, plan_faults}
+use Rattle.page_opt.specs.Plans.{Run, has, without, then, runs, all_left, faults_of, plan_faults}
 use Rattle.page_opt.specs.Furthest.{next_use, furthest, choice, cached, listed, victims_from, furthest_victims}
-use Rattle.page_opt.specs.Cache.{bit, tally, times, IsCache, next_at, Changed, Held}
-use Rattle.page_opt.specs.Held.{in_set, Changes, size, IsWithin, Arrives, LeavesSpent, LeavesAwaited, Leaves, HadRoom, MadeRoom, HasRoom, PutAwaited, PutSpent, Puts, Stands}
+use Rattle.page_opt.specs.Cache.{bit, times, next_at, Changed, Held}
+use Rattle.page_opt.specs.Held.{in_set, size, IsWithin, Arrives, Leaves, HasRoom, PutAwaited, PutSpent, Puts, Stands}
 use Rattle.page_opt.proofs.Counts.{has_times, hasnt_times, times_has, times_hasnt, tally-without, length-without}
 use Rattle.page_opt.proofs.Uses.{next_le, next_is, IsFurthest, furthest_is}
-use Rattle.page_opt.proofs.Chosen.{IsHit, IsRoom, IsFull, Chosen, chosen, after, after_hit, after_room, after_full, after_is_cache, run_from, next_run, chosen_serves, counted}
+use Rattle.page_opt.proofs.Chosen.{IsHit, IsRoom, Chosen, chosen, after, after_hit, after_room, after_is_cache, run_from, next_run, chosen_serves, counted}
 use Rattle.page_opt.proofs.Places.{next_at_some, next_at_none}
 use Rattle.page_opt.proofs.Holding.{others, plus, held_same, held_here, held_arrive, held_spent, held_awaited, new_awaited, new_spent, held_put_awaited, held_put_spent, spent_furthest, awaited_furthest}
 
@@ -24,17 +24,19 @@ puts_held : (p at : ℕ) (future : List ℕ) (inside : ℕ → Bool) (r s : Resi
     → Puts p (next_at at p future) r s → Holds future at (plus p inside) s × (size s ≡ size r + 1)
 puts_held p at future inside r s h away put = elim (cases_lt (next_use p future) (length future)) [
   | inl again ↦
-      let a : PutAwaited r s (at + next_use p future) = subst (λ (o : Option ℕ). Puts p o r s) (next_at_some at p future again) put in
-      (subst (λ t. Held future at (plus p inside) (in_set s.awaited) (in_set t)) (sym a.spent)
-      (held_put_awaited p at future inside (in_set r.awaited) (in_set s.awaited) (in_set r.spent) h again a.awaited),
-      a.size (new_awaited p at future inside (in_set r.awaited) (in_set r.spent) h away again))
+      let a : PutAwaited r s (at + next_use p future) = subst (λ (o : Option ℕ). Puts p o r s) (next_at_some at p future again) put in (
+        subst (λ t. Held future at (plus p inside) (in_set s.awaited) (in_set t)) (sym a.spent)
+            (held_put_awaited p at future inside (in_set r.awaited) (in_set s.awaited) (in_set r.spent) h again a.awaited),
+        a.size (new_awaited p at future inside (in_set r.awaited) (in_set r.spent) h away again),
+      )
   | inr never ↦
       let top = next_le p future in
       let last : next_use p future ≡ length future = omega arith in
-      let a : PutSpent r s p = subst (λ (o : Option ℕ). Puts p o r s) (next_at_none at p future last) put in
-      (subst (λ t. Held future at (plus p inside) (in_set t) (in_set s.spent)) (sym a.awaited)
-      (held_put_spent p at future inside (in_set r.awaited) (in_set r.spent) (in_set s.spent) h last a.spent),
-      a.size (new_spent p at future inside (in_set r.awaited) (in_set r.spent) h away))
+      let a : PutSpent r s p = subst (λ (o : Option ℕ). Puts p o r s) (next_at_none at p future last) put in (
+        subst (λ t. Held future at (plus p inside) (in_set t) (in_set s.spent)) (sym a.awaited)
+            (held_put_spent p at future inside (in_set r.awaited) (in_set r.spent) (in_set s.spent) h last a.spent),
+        a.size (new_spent p at future inside (in_set r.awaited) (in_set r.spent) h away),
+      )
 ]
 
 -- the page that is used at a place arrives
@@ -42,7 +44,7 @@ arrives_held : (p at : ℕ) (future : List ℕ) (cache : List ℕ) (r s : Reside
     → Arrives r s at hit → Holds future (at + 1) (others p (λ q. has q cache)) s × (hit ≡ has p cache)
 arrives_held p at future cache r s hit h a = (
   subst (λ t. Held future (at + 1) (others p (λ q. has q cache)) (in_set s.awaited) (in_set t)) (sym a.spent)
-  (held_arrive p at future (λ q. has q cache) (in_set r.awaited) (in_set s.awaited) (in_set r.spent) h a.awaited),
+      (held_arrive p at future (λ q. has q cache) (in_set r.awaited) (in_set s.awaited) (in_set r.spent) h a.awaited),
   a.test ∙ held_here p at future (λ q. has q cache) (in_set r.awaited) (in_set r.spent) h,
 )
 
@@ -120,10 +122,10 @@ stands_next refs n i r s victims later faults more some l st held sizes new_vict
     let start : Run = record { cache = []; victims = furthest_victims refs n; faults = 0 } in
     let split = drop_more refs i 0 l in
     let whole : runs n (i + 1) (p ∷ future) (Some (run_from n (i + 1) (p ∷ future) st.cache faults)) ≡ runs n 1 refs (Some start) =
-        subst (λ (ps : List ℕ). runs n (i + 1) ps (Some (run_from n (i + 1) ps st.cache faults)) ≡ runs n 1 refs (Some start)) split st.run
+    subst (λ (ps : List ℕ). runs n (i + 1) ps (Some (run_from n (i + 1) ps st.cache faults)) ≡ runs n 1 refs (Some start)) split st.run
     in
     let made : victims ++ (listed (i + 1) (choice n p future st.cache) ++ victims_from n (i + 1 + 1) future (after n p future st.cache)) ≡ furthest_victims refs n =
-        subst (λ (ps : List ℕ). victims ++ victims_from n (i + 1) ps st.cache ≡ furthest_victims refs n) split st.made
+    subst (λ (ps : List ℕ). victims ++ victims_from n (i + 1) ps st.cache ≡ furthest_victims refs n) split st.made
     in
     record {
       cache = after n p future st.cache;
@@ -166,9 +168,9 @@ full_case : (n p : ℕ) (future cache : List ℕ) (v : ℕ) → has p cache ≡ 
 unfolding choice cached
 full_case n p future cache v away full f =
     let some =
-        ap (λ (b : Bool). cond (b || nat_lt (length cache) n) None (furthest future cache)) away ∙
-        ap (λ (b : Bool). cond b None (furthest future cache)) (le-ltb (length cache) n full) ∙
-        furthest_is future cache v f
+    ap (λ (b : Bool). cond (b || nat_lt (length cache) n) None (furthest future cache)) away ∙
+    ap (λ (b : Bool). cond b None (furthest future cache)) (le-ltb (length cache) n full) ∙
+    furthest_is future cache v f
     in
     (some, ap (λ (b : Bool). cached p b (choice n p future cache) cache) away ∙ ap (λ (o : Option ℕ). cached p false o cache) some)
 
@@ -218,27 +220,26 @@ leaves_furthest : (refs : List ℕ) (at : ℕ) (cache : List ℕ) (r s : Residen
 leaves_furthest refs at cache r s v h (inl a) = (
   spent_furthest v at (drop at refs) cache (in_set r.awaited) (in_set r.spent) h a.there a.lowest,
   subst (λ t. Held (drop at refs) at (others v (λ q. has q cache)) (in_set t) (in_set s.spent)) (sym a.awaited)
-  (held_spent v at (drop at refs) (λ q. has q cache) (in_set r.awaited) (in_set r.spent) (in_set s.spent) h a.there a.spent),
+      (held_spent v at (drop at refs) (λ q. has q cache) (in_set r.awaited) (in_set r.spent) (in_set s.spent) h a.there a.spent),
   a.size,
 )
 leaves_furthest refs at cache r s v h (inr a) =
     let future = drop at refs in
     let d = h.due a.place a.there in
     let page : d.0 ≡ v =
-        sym (next_is d.0 future d.2) ∙ get_or-drop at refs (next_use d.0 future) 0 ∙
-        ap (λ (k : ℕ). get_or refs k 0) (sym d.3) ∙ sym a.used
+    sym (next_is d.0 future d.2) ∙ get_or-drop at refs (next_use d.0 future) 0 ∙
+    ap (λ (k : ℕ). get_or refs k 0) (sym d.3) ∙ sym a.used
     in
     let there : has v cache ≡ true = ap (λ (q : ℕ). has q cache) (sym page) ∙ d.1 in
     let uses = ap (λ (q : ℕ). next_use q future) page in
     let n = d.2 in
     let e = d.3 in
-    let place : a.place ≡ at + next_use v future = omega arith in
-    (
+    let place : a.place ≡ at + next_use v future = omega arith in (
       awaited_furthest v at future cache (in_set r.awaited) (in_set r.spent) h there (omega arith) a.none
-      (subst (λ (k : ℕ). (j : ℕ) → in_set r.awaited j ≡ true → j ≤ k) place a.last),
+          (subst (λ (k : ℕ). (j : ℕ) → in_set r.awaited j ≡ true → j ≤ k) place a.last),
       subst (λ t. Held future at (others v (λ q. has q cache)) (in_set s.awaited) (in_set t)) (sym a.spent)
-      (held_awaited v at future (λ q. has q cache) (in_set r.awaited) (in_set s.awaited) (in_set r.spent) h (omega arith)
-      (subst (λ (k : ℕ). Changed (in_set r.awaited) (in_set s.awaited) k false) place a.awaited)),
+          (held_awaited v at future (λ q. has q cache) (in_set r.awaited) (in_set s.awaited) (in_set r.spent) h (omega arith)
+          (subst (λ (k : ℕ). Changed (in_set r.awaited) (in_set s.awaited) k false) place a.awaited)),
       a.size,
     )
 
@@ -312,10 +313,10 @@ stands_end refs n i r victims faults last st =
     let start : Run = record { cache = []; victims = furthest_victims refs n; faults = 0 } in
     let none = drop_all i refs last in
     let run : Some (record { cache = st.cache; victims = []; faults = faults }) ≡ runs n 1 refs (Some start) =
-        subst (λ (ps : List ℕ). runs n (i + 1) ps (Some (record { cache = st.cache; victims = victims_from n (i + 1) ps st.cache; faults = faults })) ≡ runs n 1 refs (Some start)) none st.run
+    subst (λ (ps : List ℕ). runs n (i + 1) ps (Some (record { cache = st.cache; victims = victims_from n (i + 1) ps st.cache; faults = faults })) ≡ runs n 1 refs (Some start)) none st.run
     in
     let made : victims ++ [] ≡ furthest_victims refs n =
-        subst (λ (ps : List ℕ). victims ++ victims_from n (i + 1) ps st.cache ≡ furthest_victims refs n) none st.made
+    subst (λ (ps : List ℕ). victims ++ victims_from n (i + 1) ps st.cache ≡ furthest_victims refs n) none st.made
     in
     (sym (append-nil victims) ∙ made, ap (λ (o : Option Run). faults_of o) (sym run))
 

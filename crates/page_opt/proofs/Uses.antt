@@ -1,7 +1,7 @@
 -- When a page is used next, and which page of a cache is used again last.
-use Rattle.std.proofs.Common.{◌≡◌, ℕ, suc, ◌+◌, ◌<◌, ◌≤◌, Bool, true, false, cond, nat_lt, nat_le, List, [], ◌∷◌, ◌++◌, length, get_or, Option, Some, None, refl, sym, ap, ap₂, ◌∙◌, subst, arith, inl, inr, ◌⊎◌}
+use Rattle.std.proofs.Common.{◌≡◌, ℕ, suc, ◌<◌, ◌≤◌, Bool, true, false, cond, nat_lt, nat_le, List, [], ◌∷◌, ◌++◌, length, get_or, Option, Some, None, refl, sym, ap, ◌∙◌, subst, arith, inl, inr, ◌⊎◌}
 use Rattle.std.specs.Prelude.{◌==◌, ◌||◌, ◌&&◌}
-use Rattle.std.proofs.lemmas.Bool.{cases_eq, cases_lt, cases_Bool, eq-eqb, ne_eqb, eqb-true, ltb-true, ltb-false, lt-ltb, leb-true, leb-false, le-leb, false≢true, true≢false, or_cases, or_left, or_right, or_parts, or_from, and_parts, and_from, and_cases}
+use Rattle.std.proofs.lemmas.Bool.{cases_eq, cases_lt, eq-eqb, ne_eqb, eqb-true, ltb-true, ltb-false, leb-true, leb-false, false≢true, true≢false, or_cases, or_left, or_right, or_parts, and_parts, and_cases}
 use Rattle.page_opt.specs.Plans.{has}
 use Rattle.page_opt.specs.Furthest.{next_use, is_further, further, furthest}
 

@@ -1,10 +1,10 @@
 -- The two sets in which the code keeps a cache, and how each step changes them.
-use Rattle.std.specs.Prelude.{◌≡◌, ℕ, ◌+◌, ◌<◌, ◌≤◌, Bool, true, false, cond, List, [], ◌∷◌, ◌++◌, length, drop, slice_index, Option, Some, None, ◌⊎◌}
+use Rattle.std.specs.Prelude.{◌≡◌, ℕ, ◌+◌, ◌<◌, ◌≤◌, Bool, true, false, List, [], ◌∷◌, ◌++◌, length, drop, slice_index, Option, Some, None, ◌⊎◌}
 use Rattle.std.specs.Ordering.{nat_cmp}
 use Rattle.std.specs.BTreeSet.{BTreeSet, contains, btree_set_len}
 use Rattle.page_opt.specs.declared.Victim.{Victim}
 use Rattle.page_opt.specs.declared.resident.Resident.{Resident}
-use Rattle.page_opt.specs.Plans.{Run, has, runs}
+use Rattle.page_opt.specs.Plans.{has, runs}
 use Rattle.page_opt.specs.Furthest.{victims_from, furthest_victims}
 use Rattle.page_opt.specs.Cache.{bit, IsCache, Changed, Held}
 

@@ -1,5 +1,5 @@
 -- Plans of replacement: which page leaves the cache at which reference, and how many faults that costs.
-use Rattle.std.specs.Prelude.{ℕ, ◌+◌, Bool, true, false, ◌||◌, ◌==◌, cond, nat_lt, List, [], ◌∷◌, length, drop, Option, Some, None, IsSome}
+use Rattle.std.specs.Prelude.{ℕ, ◌+◌, ◌<◌, ◌≤◌, Bool, true, false, ◌||◌, ◌==◌, cond, nat_lt, List, [], ◌∷◌, length, drop, Option, Some, None, IsSome}
 use Rattle.page_opt.specs.declared.Victim.{Victim}
 
 -- the page is in the cache
@@ -70,3 +70,8 @@ plan_faults refs n victims = faults_of (runs n 1 refs (Some (record { cache = []
 
 abbrev pub IsPlan : List ℕ → ℕ → List Victim → Type 0
 IsPlan refs n victims = IsSome (plan_faults refs n victims)
+
+-- the victims' numbers rise, from a number on and below an end
+abbrev pub Rises : ℕ → List Victim → ℕ → Type 0
+Rises from [] end = Unit {0}
+Rises from (v ∷ vs) end = (from ≤ v.at) × (v.at < end) × Rises (v.at + 1) vs end

@@ -6,9 +6,9 @@
 //! plan, so that an answer can be checked without trust in the rule. Each reference is counted by itself.
 #![tactic(auto)]
 
-ghost use Rattle.std.specs.Prelude.{◌≡◌, ℕ, ◌+◌, ◌<◌, ◌≤◌, List, length, drop, slice_index, Some, IfOk, OnOk};
+ghost use Rattle.std.specs.Prelude.{◌≡◌, ℕ, ◌+◌, ◌<◌, ◌≤◌, List, length, drop, slice_index, Some, IsSome, IfOk, OnOk};
 ghost use Rattle.page_opt.specs.declared.Victim.{Victim as VictimOf};
-ghost use Rattle.page_opt.specs.Plans.{IsPlan, plan_faults};
+ghost use Rattle.page_opt.specs.Plans.{IsPlan, Rises, plan_faults};
 ghost use Rattle.page_opt.specs.Furthest.{furthest_victims};
 ghost use Rattle.page_opt.specs.Cache.{next_at};
 ghost use Rattle.page_opt.specs.Held.{IsWithin, HasRoom, Stands};
@@ -125,7 +125,8 @@ pub fn check_plan(
 ) -> Result<Option<u32>, NoMemory>
     requires frames { 1 ≤ frames }
     requires small { length refs.now ≤ 4000000 }
-    ensures { IfOk result (λ faults. faults ≡ plan_faults refs.now frames victims.now) }
+    ensures faults { IfOk result (λ faults. faults ≡ plan_faults refs.now frames victims.now) }
+    ensures rising { IfOk result (λ faults. IsSome faults → Rises 1 victims.now (length refs.now + 1)) }
 {
     let mut replay = Replay::new(alloc, victims);
     for i in 0..refs.len() {
@@ -138,25 +139,4 @@ pub fn check_plan(
 }
 
 #[cfg(test)]
-mod tests {
-    use super::*;
-    use std::test::Fail;
-
-    const REFERENCES: [u32; 12] = [1, 2, 3, 4, 1, 2, 5, 1, 2, 3, 4, 5];
-
-    fn pair(plan: &Plan, i: usize) -> Option<(u32, u32)> {
-        plan.victims.get(i).map(|v| (v.at, v.page))
-    }
-
-    #[test]
-    fn evicts_the_page_used_again_last(rt: HostRuntime) -> Result<(), Fail> {
-        let plan = least_faults(rt.alloc(), &REFERENCES, 3)?;
-        assert_eq!(rt; plan.faults, 7);
-        assert_eq!(rt; pair(&plan, 0), Some((4, 3)));
-        assert_eq!(rt; pair(&plan, 1), Some((7, 4)));
-        assert_eq!(rt; pair(&plan, 2), Some((10, 1)));
-        assert_eq!(rt; pair(&plan, 3), Some((11, 2)));
-        assert_eq!(rt; pair(&plan, 4), None);
-        Ok(())
-    }
-}
+mod tests;

@@ -1,4 +1,6 @@
-use Rattle.std.proofs.Common.{arith, ◌∙◌}
+use Rattle.std.proofs.Common.{ℕ, Option, sym, ap, arith, ◌∙◌}
+use Rattle.std.specs.Prelude.{is_some}
+use Rattle.page_opt.proofs.Rising.{plan_rises}
 use Rattle.page_opt.proofs.Replaying.{replays_start, replays_next, replays_fail, replays_end}
 use Rattle.page_opt.proofs.check_plan.Goals as goal
 
@@ -10,8 +12,8 @@ loop-i-init c = record {
 pub serve-requires : goal.serve-requires
 serve-requires c = let f = c.loop-i.invariant.replays.few in let s = c.requires.small in omega arith
 
-pub returns-then-not-served : goal.returns-then-not-served
-returns-then-not-served c =
+pub returns-then-not-served-clause-faults : goal.returns-then-not-served-clause-faults
+returns-then-not-served-clause-faults c =
     replays_fail c.args.refs.now c.args.frames c.loop-i.i c.args.victims.now c.loop-i.replay c.serve.new.self c.in_ok-served.served c.loop-i-test.true
     c.loop-i.invariant.replays c.in_ok-served.ensures c.if-not-served.true
 
@@ -22,7 +24,11 @@ loop-i-preserved c = record {
       c.loop-i.invariant.replays c.in_ok-served.ensures c.if-not-served.false;
 }
 
-pub returns : goal.returns
-returns c =
+pub returns-clause-faults : goal.returns-clause-faults
+returns-clause-faults c =
     c.faults.ensures ∙
     replays_end c.args.refs.now c.args.frames c.loop-i.i c.args.victims.now c.loop-i.replay c.loop-i-test.false c.loop-i.invariant.replays
+
+pub returns-clause-rising : goal.returns-clause-rising
+returns-clause-rising c = λ some.
+    plan_rises c.args.refs.now c.args.frames c.args.victims.now (ap (λ (o : Option ℕ). is_some o) (sym (returns-clause-faults c)) ∙ some)

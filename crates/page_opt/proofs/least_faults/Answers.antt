@@ -1,4 +1,4 @@
-use Rattle.std.proofs.Common.{◌≡◌, ℕ, List, Option, Some, ap, ◌∙◌, sym, subst, arith}
+use Rattle.std.proofs.Common.{◌≡◌, ℕ, List, Option, Some, ap, ◌∙◌, sym, subst}
 use Rattle.std.specs.Prelude.{is_some}
 use Rattle.page_opt.specs.declared.Victim.{Victim}
 use Rattle.page_opt.specs.Plans.{plan_faults}

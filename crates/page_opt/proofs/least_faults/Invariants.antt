@@ -1,6 +1,4 @@
-use Rattle.std.proofs.Common.{◌≡◌, ℕ, ◌≤◌, length, vec_len}
 use Rattle.page_opt.specs.Held.{Stands}
-use Rattle.page_opt.proofs.Places.{AreNext}
 use Rattle.page_opt.proofs.least_faults.Given as goal
 
 abbrev pub invariant-loop-i : goal.invariant-loop-i

@@ -1,5 +1,5 @@
 use Rattle.std.proofs.Common.{ℕ, ◌+◌, Option, get_or, subst}
-use Rattle.page_opt.specs.Held.{Puts, HasRoom, Stands}
+use Rattle.page_opt.specs.Held.{Puts, Stands}
 use Rattle.page_opt.proofs.Standing.{stands_within, stands_hit, stands_miss, on_ok}
 use Rattle.page_opt.proofs.serve.Goals as goal
 

@@ -1,4 +1,4 @@
-use Rattle.std.proofs.Common.{Bool, Option, ℕ, cond, Some, None, sym, ap, ◌∙◌}
+use Rattle.std.proofs.Common.{Bool, cond, Some, None, sym, ap, ◌∙◌}
 use Rattle.std.proofs.lemmas.Bool.{eq-eqb, ne_eqb}
 use Rattle.page_opt.proofs.Replaying.{due_first, due_none}
 use Rattle.page_opt.proofs.replay.due.Goals as goal
