@@ -1,12 +1,13 @@
 -- Belady's victims are a plan: what a reference does to a run of theirs.
 use Rattle.std.proofs.Common.{◌≡◌, ℕ, ◌+◌, ◌<◌, ◌≤◌, Bool, true, false, cond, nat_lt, List, [], ◌∷◌, ◌++◌, length, Option, Some, None, refl, sym, ap, ◌∙◌, subst, arith, inl, inr, ◌⊎◌}
 use Rattle.std.specs.Prelude.{◌==◌, ◌||◌}
-use Rattle.std.proofs.lemmas.Bool.{cases_eq, cases_Bool, lt-ltb, ltb-true, ltb-false, eq-eqb, ne_eqb}
+use Rattle.std.proofs.lemmas.Bool.{cases_Bool, lt-ltb, ltb-true, ltb-false, eq-eqb, ne_eqb}
 use Rattle.page_opt.specs.declared.Victim.{Victim}
 use Rattle.page_opt.specs.Plans.{Run, has, without, due, entered, left, then, served, serve}
 use Rattle.page_opt.specs.Furthest.{furthest, choice, cached, listed, victims_from}
-use Rattle.page_opt.specs.Cache.{bit, times, IsCache}
+use Rattle.page_opt.specs.Cache.{IsCache}
 use Rattle.page_opt.proofs.Counts.{hasnt_times, tally-without, length-without}
+use Rattle.page_opt.proofs.Members.{times_enter}
 use Rattle.page_opt.proofs.Uses.{IsFurthest, furthest_gives}
 
 -- the three cases of Belady's rule
@@ -147,18 +148,6 @@ chosen_serves n at p future cache faults some c =
     chosen_served n at p future cache later faults c (chosen n p future cache some)
 
 -- ---- what the reference does to the cache
-
-pub times_enter : (p q : ℕ) (cache : List ℕ) → times p cache ≡ 0 → ((r : ℕ) → times r cache ≤ 1) → times q (p ∷ cache) ≤ 1
-times_enter p q cache away once = elim (cases_eq p q) [
-  | inl same ↦
-      let none = ap (λ (r : ℕ). times r cache) same in
-      let one = ap bit (eq-eqb p q same) in
-      omega arith
-  | inr other ↦
-      let none = ap bit (ne_eqb p q other) in
-      let rest = once q in
-      omega arith
-]
 
 pub after_is_cache : (n p : ℕ) (future cache : List ℕ) → 1 ≤ n → IsCache n cache → IsCache n (after n p future cache)
 after_is_cache n p future cache some c = go (chosen n p future cache some)

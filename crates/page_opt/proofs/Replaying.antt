@@ -1,6 +1,6 @@
 -- One reference of a plan, played by the code, is the step that the plan's definition takes.
 use Rattle.std.proofs.Common.{◌≡◌, ℕ, ◌+◌, ◌<◌, ◌≤◌, Bool, true, false, not, cond, List, [], ◌∷◌, length, drop, get_or, Option, Some, None, refl, sym, ap, ap₂, ◌∙◌, subst, arith, inl, inr}
-use Rattle.std.specs.Prelude.{◌==◌, ◌||◌, ◌&&◌, slice_get, is_some, Result, Ok, Err, IfOk}
+use Rattle.std.specs.Prelude.{◌==◌, ◌||◌, ◌&&◌, slice_get, is_some}
 use Rattle.std.proofs.lemmas.Bool.{cases_eq, eq-eqb, ne_eqb, lt-ltb, le-ltb, false≢true, true≢false}
 use Rattle.std.specs.BTreeSet.{BTreeSet, btree_set_len}
 use Rattle.page_opt.specs.declared.Victim.{Victim}
@@ -11,8 +11,8 @@ use Rattle.page_opt.specs.Replayed.{Tracks, run_of, Leaving, Entering, Serving, 
 use Rattle.page_opt.proofs.Counts.{hasnt_times, tally-without, length-without}
 use Rattle.std.proofs.lemmas.List.{drop_more, drop_all}
 use Rattle.page_opt.proofs.Served.{runs_none}
-use Rattle.page_opt.proofs.Chosen.{times_enter}
-use Rattle.page_opt.proofs.Standing.{has_first, has-without}
+use Rattle.page_opt.proofs.Members.{times_enter, has_first, has-without}
+use Rattle.std.proofs.Math.Bool.{and-true, and-false}
 
 pub all_used : (victims : List Victim) (faults : ℕ) → length victims ≡ 0 → Some faults ≡ all_left victims faults
 unfolding all_left
@@ -57,22 +57,14 @@ tracks_left v cache s t k there c e = record {
   same = λ q. elim (cases_eq q v) [
     | inl same ↦
         ap (in_set t) same ∙ c.here ∙
-        sym (has-without v q cache k.once there ∙ ap (λ (b : Bool). has q cache && not b) (eq-eqb q v same) ∙ and_false (has q cache))
+        sym (has-without v q cache k.once there ∙ ap (λ (b : Bool). has q cache && not b) (eq-eqb q v same) ∙ and-false (has q cache))
     | inr other ↦
         c.other q other ∙ k.same q ∙
-        sym (has-without v q cache k.once there ∙ ap (λ (b : Bool). has q cache && not b) (ne_eqb q v other) ∙ and_true (has q cache))
+        sym (has-without v q cache k.once there ∙ ap (λ (b : Bool). has q cache && not b) (ne_eqb q v other) ∙ and-true (has q cache))
   ];
   size = let z = k.size in let l = length-without v cache there in omega arith;
   once = λ q. let o = k.once q in let f = tally-without (λ r. r == q) v cache there in omega arith;
 }
-  where
-    and_true : (b : Bool) → (b && true) ≡ b
-    and_true true = refl
-    and_true false = refl
-
-    and_false : (b : Bool) → (b && false) ≡ false
-    and_false true = refl
-    and_false false = refl
 
 -- the page enters the run where the code lets it enter
 abbrev EntersRun : ℕ → ℕ → Run → Replay → Bool → Type 0
@@ -152,10 +144,6 @@ replay_fault n at page cache r m s o ok k away d l e = go o d l
         (enters_run n page (without v cache) (drop 1 r.victims.now) r.faults m s ok
         (tracks_left v cache r.cache m.cache k there l.cache l.size) (l.victims refl) l.faults
         (has-without v page cache k.once there ∙ ap (λ (b : Bool). b && not (page == v)) page_away) e)
-
-pub if_ok : {X : Type 0} {E : Type 0} (r : Result X E) (P Q : X → Type 0) → ((x : X) → P x → Q x) → IfOk r P → IfOk r Q
-if_ok (Ok x) P Q f p = f x p
-if_ok (Err e) P Q f p = p
 
 pub due_there : (at : ℕ) (victims : List Victim) (o : Option ℕ) → o ≡ due at victims → is_some o ≡ true → 0 < length victims
 unfolding due

@@ -1,15 +1,17 @@
 -- One reference, served by the code's two sets, is one step of Belady's rule.
 use Rattle.std.proofs.Common.{◌≡◌, ℕ, ◌+◌, ◌<◌, ◌≤◌, Bool, true, false, not, cond, nat_lt, List, [], ◌∷◌, ◌++◌, length, drop, get_or, Option, Some, None, refl, sym, ap, ◌∙◌, subst, arith, inl, inr, append_assoc}
 use Rattle.std.specs.Prelude.{◌==◌, ◌||◌, ◌&&◌, Result, Ok, Err, OnOk}
-use Rattle.std.proofs.lemmas.Bool.{cases_eq, cases_lt, cases_Bool, eq-eqb, ne_eqb, false≢true, true≢false, and_left, le-ltb}
+use Rattle.std.proofs.lemmas.Bool.{cases_lt, eq-eqb, false≢true, true≢false, and_left, le-ltb}
 use Rattle.std.proofs.lemmas.List.{append-nil, drop_all, drop_more, get_or-drop, length-drop}
 use Rattle.page_opt.specs.declared.Victim.{Victim}
 use Rattle.page_opt.specs.declared.resident.Resident.{Resident}
 use Rattle.page_opt.specs.Plans.{Run, has, without, then, runs, all_left, faults_of, plan_faults}
 use Rattle.page_opt.specs.Furthest.{next_use, furthest, choice, cached, listed, victims_from, furthest_victims}
-use Rattle.page_opt.specs.Cache.{bit, times, next_at, Changed, Held}
+use Rattle.page_opt.specs.Cache.{next_at, Changed, Held}
 use Rattle.page_opt.specs.Held.{in_set, size, IsWithin, Arrives, Leaves, HasRoom, PutAwaited, PutSpent, Puts, Stands}
-use Rattle.page_opt.proofs.Counts.{has_times, hasnt_times, times_has, times_hasnt, tally-without, length-without}
+use Rattle.page_opt.proofs.Counts.{length-without}
+use Rattle.page_opt.proofs.Members.{none_less, same_again, has_first, has-without}
+use Rattle.std.proofs.Math.Bool.{and-false}
 use Rattle.page_opt.proofs.Uses.{next_le, next_is, IsFurthest, furthest_is}
 use Rattle.page_opt.proofs.Chosen.{IsHit, IsRoom, Chosen, chosen, after, after_hit, after_room, after_is_cache, run_from, next_run, chosen_serves, counted}
 use Rattle.page_opt.proofs.Places.{next_at_some, next_at_none}
@@ -47,63 +49,6 @@ arrives_held p at future cache r s hit h a = (
       (held_arrive p at future (λ q. has q cache) (in_set r.awaited) (in_set s.awaited) (in_set r.spent) h a.awaited),
   a.test ∙ held_here p at future (λ q. has q cache) (in_set r.awaited) (in_set r.spent) h,
 )
-
--- without the page p that isn't there, and with one that is
-none_less : (p : ℕ) (cache : List ℕ) → has p cache ≡ false → (q : ℕ) → others p (λ r. has r cache) q ≡ has q cache
-none_less p cache away q = elim (cases_eq q p) [
-  | inl same ↦ let gone = ap (λ (r : ℕ). has r cache) same ∙ away in and_left (has q cache) (not (q == p)) gone ∙ sym gone
-  | inr other ↦ ap (λ (b : Bool). has q cache && not b) (ne_eqb q p other) ∙ and_true (has q cache)
-]
-  where
-    and_true : (b : Bool) → (b && true) ≡ b
-    and_true true = refl
-    and_true false = refl
-
-same_again : (p : ℕ) (cache : List ℕ) → has p cache ≡ true → (q : ℕ) → plus p (others p (λ r. has r cache)) q ≡ has q cache
-same_again p cache there q = elim (cases_eq q p) [
-  | inl same ↦
-      ap (λ (b : Bool). b || (has q cache && not (q == p))) (eq-eqb q p same) ∙
-      sym (ap (λ (r : ℕ). has r cache) same ∙ there)
-  | inr other ↦ ap (λ (b : Bool). b || (has q cache && not b)) (ne_eqb q p other) ∙ and_true (has q cache)
-]
-  where
-    and_true : (b : Bool) → (b && true) ≡ b
-    and_true true = refl
-    and_true false = refl
-
-pub has_first : (p q : ℕ) (cache : List ℕ) → has q (p ∷ cache) ≡ ((q == p) || has q cache)
-unfolding has
-has_first p q cache = elim (cases_eq q p) [
-  | inl same ↦ ap (λ (b : Bool). b || has q cache) (eq-eqb p q (sym same)) ∙ ap (λ (b : Bool). b || has q cache) (sym (eq-eqb q p same))
-  | inr other ↦ ap (λ (b : Bool). b || has q cache) (ne_eqb p q (λ e. other (sym e))) ∙ ap (λ (b : Bool). b || has q cache) (sym (ne_eqb q p other))
-]
-
-pub has-without : (v q : ℕ) (cache : List ℕ) → ((r : ℕ) → times r cache ≤ 1) → has v cache ≡ true → has q (without v cache) ≡ (has q cache && not (q == v))
-has-without v q cache once there = elim (cases_eq q v) [
-  | inl same ↦
-      let one = ap bit (eq-eqb v q (sym same)) in
-      let most = once q in
-      let t = tally-without (λ r. r == q) v cache there in
-      times_hasnt q (without v cache) (omega arith) ∙ sym (ap (λ (b : Bool). has q cache && not b) (eq-eqb q v same) ∙ and_false (has q cache))
-  | inr other ↦
-      let none = ap bit (ne_eqb v q (λ e. other (sym e))) in
-      let t = tally-without (λ r. r == q) v cache there in
-      by_times (omega arith) ∙ sym (ap (λ (b : Bool). has q cache && not b) (ne_eqb q v other) ∙ and_true (has q cache))
-]
-  where
-    and_true : (b : Bool) → (b && true) ≡ b
-    and_true true = refl
-    and_true false = refl
-
-    and_false : (b : Bool) → (b && false) ≡ false
-    and_false true = refl
-    and_false false = refl
-
-    by_times : times q (without v cache) ≡ times q cache → has q (without v cache) ≡ has q cache
-    by_times e = elim (cases_Bool (has q cache)) [
-      | inl in_it ↦ times_has q (without v cache) (let s = has_times q cache in_it in omega arith) ∙ sym in_it
-      | inr out ↦ times_hasnt q (without v cache) (let z = hasnt_times q cache out in omega arith) ∙ sym out
-    ]
 
 -- ---- a whole step
 
@@ -156,11 +101,7 @@ unfolding listed
 one_listed at v victims = refl
 
 gone : (p : ℕ) (inside : ℕ → Bool) → others p inside p ≡ false
-gone p inside = ap (λ (b : Bool). inside p && not b) (eq-eqb p p refl) ∙ none (inside p)
-  where
-    none : (b : Bool) → (b && false) ≡ false
-    none true = refl
-    none false = refl
+gone p inside = ap (λ (b : Bool). inside p && not b) (eq-eqb p p refl) ∙ and-false (inside p)
 
 -- where there is no room, the furthest page leaves
 full_case : (n p : ℕ) (future cache : List ℕ) (v : ℕ) → has p cache ≡ false → n ≤ length cache → IsFurthest future cache v

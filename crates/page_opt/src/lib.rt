@@ -46,7 +46,7 @@ pub struct Plan {
 
 /// The fewest faults that any plan has, and a plan that has them: the victim of a fault, where there is no
 /// room, is the page that is used again last or never, and of those that are never used again the lowest
-/// (Belady).
+/// (Belady). Takes memory in proportion to the references; the one error is that there is none left.
 pub fn least_faults(alloc: Global, refs: &[u32], frames: u32) -> Result<Plan, NoMemory>
     requires frames { 1 ≤ frames }
     requires small { length refs.now ≤ 4000000 }
@@ -61,8 +61,8 @@ pub fn least_faults(alloc: Global, refs: &[u32], frames: u32) -> Result<Plan, No
         faults: 0,
         victims: Vec::new(alloc),
     };
-    for i in 0..refs.len() {
-        serve(&mut resident, &mut plan, refs, i, next[i], frames)?;
+    for (i, next) in next.iter().enumerate() {
+        serve(&mut resident, &mut plan, refs, i, *next, frames)?;
     }
     Ok(plan)
 }
@@ -116,7 +116,9 @@ fn make_room(
     }
 }
 
-/// The faults of a plan; none exactly where the victims are no plan.
+/// The faults of a plan, and none exactly where the victims are no plan. In a plan a reference to a page in
+/// the cache has no victim. At any other, the victim, if there is one, is in the cache and leaves; there is
+/// then a free frame, and the page enters. A page may leave though a frame is free.
 pub fn check_plan(
     alloc: Global,
     refs: &[u32],
@@ -129,8 +131,8 @@ pub fn check_plan(
     ensures rising { IfOk result (λ faults. IsSome faults → Rises 1 victims.now (length refs.now + 1)) }
 {
     let mut replay = Replay::new(alloc, victims);
-    for i in 0..refs.len() {
-        let served = replay.serve(frames, i as u32 + 1, refs[i])?;
+    for (i, page) in refs.iter().enumerate() {
+        let served = replay.serve(frames, i as u32 + 1, *page)?;
         if !served {
             return Ok(None);
         }

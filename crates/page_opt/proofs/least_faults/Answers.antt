@@ -1,4 +1,4 @@
-use Rattle.std.proofs.Common.{◌≡◌, ℕ, List, Option, Some, ap, ◌∙◌, sym, subst}
+use Rattle.std.proofs.Common.{arith, ◌≡◌, ℕ, List, Option, Some, ap, ◌∙◌, sym, subst}
 use Rattle.std.specs.Prelude.{is_some}
 use Rattle.page_opt.specs.declared.Victim.{Victim}
 use Rattle.page_opt.specs.Plans.{plan_faults}
@@ -19,7 +19,8 @@ loop-i-init c = record {
 at_end : (c : goal.After-drop-next-2) → (c.loop-i.plan.victims.items ≡ furthest_victims c.args.refs.now c.args.frames)
     × (plan_faults c.args.refs.now c.args.frames (furthest_victims c.args.refs.now c.args.frames) ≡ Some c.loop-i.plan.faults)
 at_end c =
-    stands_end c.args.refs.now c.args.frames c.loop-i.i c.loop-i.resident c.loop-i.plan.victims.items c.loop-i.plan.faults c.loop-i-test.false c.loop-i.invariant.stands
+    stands_end c.args.refs.now c.args.frames c.loop-i.i c.loop-i.resident c.loop-i.plan.victims.items c.loop-i.plan.faults
+    (omega (arith, c.deref-next-items.ensures.len, c.in_ok-next.ensures.len)) c.loop-i.invariant.stands
 
 pub returns-clause-furthest : goal.returns-clause-furthest
 returns-clause-furthest c = (at_end c).0
