@@ -1,0 +1,11 @@
+pub mod Counts
+pub mod Uses
+pub mod Holding
+pub mod Members
+pub mod Served
+pub mod Chosen
+pub mod Least
+pub mod Places
+pub mod Standing
+pub mod Replaying
+pub mod Rising

@@ -1,0 +1,5 @@
+pub mod Plans
+pub mod Furthest
+pub mod Cache
+pub mod Held
+pub mod Replayed
