@@ -1,2 +1,4 @@
 pub mod Space
 pub mod Flat
+pub mod Journal
+pub mod Change
