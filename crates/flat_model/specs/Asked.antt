@@ -10,6 +10,7 @@ use Rattle.swap_book.specs.Owners.{pieces_of}
 use Rattle.swap_book.specs.Holdings.{Holdings, kept}
 use Rattle.swap_book.specs.Placing.{Wanted, wanted, place_all}
 use Rattle.page_model.specs.Flat.{NamedImage, Inputs, image_numbered, process_of, can_step}
+use Rattle.page_model.specs.Change.{lends_to}
 use Rattle.page_model.specs.Journal.{units_of}
 use Rattle.page_model.specs.declared.change.Change.{Change}
 use Rattle.page_model.specs.declared.change.Change.TheVariants.{Keep, Resize, Fork, Lend, Exec, Reap, Sleep, End}
@@ -112,11 +113,6 @@ without_space after s hs =
 abbrev pub without_own : Bool → FlatState → Space → Holdings → Holdings
 without_own true after s hs = hs
 without_own false after s hs = without_space after s hs
-
-abbrev pub lends_to : ℕ → Holding → Bool
-lends_to pid (Holds s) = false
-lends_to pid (Lends sid child) = child == pid
-lends_to pid (Zombie status) = false
 
 -- the process borrowed its space
 abbrev pub is_borrower : FlatState → ℕ → Bool

@@ -5,8 +5,14 @@
 #![tactic(auto)]
 
 pub mod calls;
+mod reading;
+mod starting;
 
 pub use calls::{
     ARGUMENT_LIMIT, DATA_LIMIT, E2BIG, EAGAIN, EBADF, ECHILD, EFAULT, ENOENT, ENOMEM,
     PROCESS_LIMIT, Reply, STRING_LIMIT, SystemCall, WRITE_LIMIT,
 };
+pub use reading::{
+    Asked, argument, arguments_at, exit_reply, string_from, three_arguments, write_reply,
+};
+pub use starting::{start_page, start_regs};
