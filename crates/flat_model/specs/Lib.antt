@@ -4,3 +4,4 @@ pub mod Step
 pub mod Run
 pub mod Touched
 pub mod Asked
+pub mod Arguments

@@ -4,10 +4,12 @@
 //! 4.3BSD book gives them; their numbers, limits and orders of errors are this project's profile.
 #![tactic(auto)]
 
+mod arguments;
 pub mod calls;
 mod reading;
 mod starting;
 
+pub use arguments::Arguments;
 pub use calls::{
     ARGUMENT_LIMIT, DATA_LIMIT, E2BIG, EAGAIN, EBADF, ECHILD, EFAULT, ENOENT, ENOMEM,
     PROCESS_LIMIT, Reply, STRING_LIMIT, SystemCall, WRITE_LIMIT,

@@ -2,8 +2,10 @@
 
 ghost use Rattle.std.specs.Prelude.{◌≡◌, ℕ, ◌+◌, ◌*◌, ◌^◌, ◌<◌, ◌≤◌, ◌==◌, ◌||◌, Bool, true, IfOk, Ok, min, length, All};
 ghost use Rattle.user_vax.specs.Program.{run};
-ghost use Rattle.flat_model.specs.Calls.{argument, three_arguments, bytes_from, string_from, arguments_from, arguments_at, exit_reply, write_reply, written_to};
+ghost use Rattle.flat_model.specs.Arguments.{IsShort};
+ghost use Rattle.flat_model.specs.Calls.{string_limit, argument_limit, argument, three_arguments, bytes_from, string_from, arguments_from, arguments_at, exit_reply, write_reply, written_to};
 
+use crate::arguments::Arguments;
 use crate::calls::{ARGUMENT_LIMIT, EBADF, Reply, STRING_LIMIT, WRITE_LIMIT};
 use std::alloc::Global;
 use user_vax::{Refused, read_byte, read_long};
@@ -104,8 +106,8 @@ pub fn string_from<M: Memory>(
     memory: &M,
     address: u32,
 ) -> Result<Asked<Option<Bytes>>, NoMemory>
-    ensures value { IfOk result (λ asked. asked ≡ run (M.answers memory.now) (string_from STRING_LIMIT address)) }
-    ensures short { IfOk result (λ asked. IsShort asked) }
+    ensures value { IfOk result (λ asked. asked ≡ run (M.answers memory.now) (string_from string_limit address)) }
+    ensures short { IfOk result IsShort }
 {
     let mut bytes = Vec::new(alloc);
     for index in 0..STRING_LIMIT {
@@ -128,12 +130,11 @@ pub fn arguments_at<M: Memory>(
     alloc: Global,
     memory: &M,
     address: u32,
-) -> Result<Asked<Option<Vec<Bytes>>>, NoMemory>
-    ensures value { IfOk result (λ asked. asked ≡ run (M.answers memory.now) (arguments_at address)) }
-    ensures few { IfOk result (λ asked. AreFew asked) }
+) -> Result<Asked<Option<Arguments>>, NoMemory>
+    ensures { IfOk result (λ asked. asked ≡ run (M.answers memory.now) (arguments_at address)) }
 {
     if address == 0 {
-        return Ok(Ok(Some(Vec::new(alloc))));
+        return Ok(Ok(Some(Arguments::new(alloc))));
     }
     arguments_from(alloc, memory, address)
 }
@@ -142,25 +143,19 @@ fn arguments_from<M: Memory>(
     alloc: Global,
     memory: &M,
     address: u32,
-) -> Result<Asked<Option<Vec<Bytes>>>, NoMemory>
-    ensures value { IfOk result (λ asked. asked ≡ run (M.answers memory.now) (arguments_from ARGUMENT_LIMIT address)) }
-    ensures few { IfOk result (λ asked. AreFew asked) }
+) -> Result<Asked<Option<Arguments>>, NoMemory>
+    ensures { IfOk result (λ asked. asked ≡ run (M.answers memory.now) (arguments_from argument_limit address)) }
 {
-    let mut arguments = Vec::new(alloc);
+    let mut arguments = Arguments::new(alloc);
     for index in 0..ARGUMENT_LIMIT {
-        let pointer = match read_long(memory, address.wrapping_add(4 * index)) {
+        match read_long(memory, address.wrapping_add(4 * index)) {
             Err(refused) => return Ok(Err(refused)),
-            Ok(pointer) => pointer,
-        };
-        if pointer == 0 {
-            return Ok(Ok(Some(arguments)));
-        }
-        match string_from(alloc, memory, pointer)? {
-            Err(refused) => return Ok(Err(refused)),
-            Ok(None) => return Ok(Ok(None)),
-            Ok(Some(argument)) => {
-                if arguments.push(argument).is_err() {
-                    return Err(NoMemory);
+            Ok(0) => return Ok(Ok(Some(arguments))),
+            Ok(pointer) => {
+                match string_from(alloc, memory, pointer)? {
+                    Err(refused) => return Ok(Err(refused)),
+                    Ok(None) => return Ok(Ok(None)),
+                    Ok(Some(argument)) => arguments.push(argument)?,
                 }
             }
         }

@@ -1,9 +1,11 @@
 // The stack page and the registers with which an image starts.
 
-ghost use Rattle.std.specs.Prelude.{◌≡◌, ℕ, ◌+◌, ◌-◌, ◌*◌, ◌/◌, ◌%◌, ◌^◌, ◌<◌, ◌≤◌, [], ◌∷◌, ◌++◌, All, length, IfOk, OnOk};
+ghost use Rattle.std.specs.Prelude.{◌≡◌, ℕ, ◌+◌, ◌-◌, ◌*◌, ◌/◌, ◌%◌, ◌^◌, ◌<◌, ◌≤◌, [], ◌∷◌, ◌++◌, length, replicate, IfOk, OnOk};
 ghost use Rattle.aout_image.specs.Image.{word_bytes};
-ghost use Rattle.page_model.specs.Flat.{strings_of, in_longwords, argument_area, start_page, start_sp, start_regs};
+ghost use Rattle.flat_model.specs.Arguments.{AreArguments};
+ghost use Rattle.page_model.specs.Flat.{strings_of, pointers_from, in_longwords, argument_area, start_page, start_regs};
 
+use crate::arguments::Arguments;
 use page_model::{PAGE, STACK_TOP};
 use std::alloc::Global;
 use vm_facts::{Bytes, NoMemory, Regs};
@@ -38,8 +40,11 @@ fn put_word(page: &mut Vec<u8>, word: u32) -> Result<(), NoMemory>
     put_bytes(page, &bytes)
 }
 
-// How many bytes the strings have, each with its final 0.
+// The bytes of the strings, each with its final 0.
 fn strings_len(arguments: &[Bytes]) -> u32
+    requires { AreArguments arguments.now }
+    ensures value { result ≡ length (strings_of arguments.now) }
+    ensures few { result ≤ 512 }
 {
     let mut len = 0u32;
     for argument in arguments {
@@ -50,6 +55,9 @@ fn strings_len(arguments: &[Bytes]) -> u32
 
 // The addresses of the strings, the first of which stands at this one.
 fn put_pointers(page: &mut Vec<u8>, arguments: &[Bytes], first: u32) -> Result<(), NoMemory>
+    requires few { AreArguments arguments.now }
+    requires low { first + 512 < 2 ^ 32 }
+    ensures { OnOk result (page.new.items ≡ page.old.items ++ pointers_from first arguments.now) }
 {
     let mut address = first;
     for argument in arguments {
@@ -60,6 +68,7 @@ fn put_pointers(page: &mut Vec<u8>, arguments: &[Bytes], first: u32) -> Result<(
 }
 
 fn put_strings(page: &mut Vec<u8>, arguments: &[Bytes]) -> Result<(), NoMemory>
+    ensures { OnOk result (page.new.items ≡ page.old.items ++ strings_of arguments.now) }
 {
     for argument in arguments {
         put_bytes(page, argument.as_slice())?;
@@ -69,6 +78,7 @@ fn put_strings(page: &mut Vec<u8>, arguments: &[Bytes]) -> Result<(), NoMemory>
 }
 
 fn put_zeros(page: &mut Vec<u8>, count: u32) -> Result<(), NoMemory>
+    ensures { OnOk result (page.new.items ≡ page.old.items ++ replicate count 0) }
 {
     let len = page.len() + count as usize;
     if page.resize(len, 0).is_err() {
@@ -77,32 +87,60 @@ fn put_zeros(page: &mut Vec<u8>, count: u32) -> Result<(), NoMemory>
     Ok(())
 }
 
-// The bytes from SP on up to the stack's top.
-fn area_len(arguments: &[Bytes]) -> u32
+// The whole longwords that hold so many bytes.
+fn in_longwords(len: u32) -> u32
+    requires { len ≤ 512 }
+    ensures { result ≡ in_longwords len }
 {
-    16 + 4 * arguments.len() as u32 + strings_len(arguments).div_ceil(4) * 4
+    (len + 3) / 4 * 4
+}
+
+// The bytes from SP on up to the stack's top.
+#[tactic(auto, using(crate::proofs::Strings::area_count))]
+fn area_len(arguments: &[Bytes]) -> u32
+    requires { AreArguments arguments.now }
+    ensures value { result ≡ length (argument_area arguments.now) }
+    ensures few { result ≤ 560 }
+{
+    16 + 4 * arguments.len() as u32 + in_longwords(strings_len(arguments))
+}
+
+// The bytes from SP on up to the stack's top, behind those of a page.
+#[tactic(auto, using(crate::proofs::Strings::area_parts))]
+fn put_area(page: &mut Vec<u8>, arguments: &[Bytes]) -> Result<(), NoMemory>
+    requires few { AreArguments arguments.now }
+    requires short { length page.old.items ≤ 1024 }
+    ensures { OnOk result (page.new.items ≡ page.old.items ++ argument_area arguments.now) }
+{
+    let strings = strings_len(arguments);
+    let room = in_longwords(strings);
+    put_word(page, arguments.len() as u32)?;
+    put_pointers(page, arguments, STACK_TOP - 4 - room)?;
+    put_word(page, 0)?;
+    put_word(page, 0)?;
+    put_strings(page, arguments)?;
+    put_zeros(page, room - strings)?;
+    put_word(page, 0)
 }
 
 /// Stack page 0 of an image that starts with these arguments.
-pub fn start_page(alloc: Global, arguments: &[Bytes]) -> Result<Bytes, NoMemory>
+pub fn start_page(alloc: Global, arguments: &Arguments) -> Result<Bytes, NoMemory>
+    ensures page { IfOk result (λ page. page ≡ start_page arguments.now) }
+    ensures whole { IfOk result (λ page. length page ≡ 1024) }
 {
-    let strings = strings_len(arguments);
-    let room = strings.div_ceil(4) * 4;
+    let arguments = arguments.as_slice();
     let mut page = Vec::new(alloc);
     put_zeros(&mut page, PAGE - area_len(arguments))?;
-    put_word(&mut page, arguments.len() as u32)?;
-    put_pointers(&mut page, arguments, STACK_TOP - 4 - room)?;
-    put_word(&mut page, 0)?;
-    put_word(&mut page, 0)?;
-    put_strings(&mut page, arguments)?;
-    put_zeros(&mut page, room - strings)?;
-    put_word(&mut page, 0)?;
+    put_area(&mut page, arguments)?;
     Ok(Bytes::from_vec(page))
 }
 
 /// The registers of an image that starts with these arguments: PC is behind the entry mask, and SP at the
 /// number of arguments.
-pub fn start_regs(entry: u32, arguments: &[Bytes]) -> Regs
+#[tactic(auto, unfolding(page_model::specs::Flat::start_regs))]
+pub fn start_regs(entry: u32, arguments: &Arguments) -> Regs
+    requires { entry + 2 < 2 ^ 32 }
+    ensures { result ≡ start_regs entry arguments.now }
 {
     let mut regs = Regs {
         r: [0; 16],
@@ -111,7 +149,7 @@ pub fn start_regs(entry: u32, arguments: &[Bytes]) -> Regs
         v: false,
         c: false,
     };
-    regs.r[14] = STACK_TOP - area_len(arguments);
+    regs.r[14] = STACK_TOP - area_len(arguments.as_slice());
     regs.r[15] = entry + 2;
     regs
 }
