@@ -1,2 +1,3 @@
-pub mod Joins
-pub mod Own
+pub mod Strings
+pub mod Gathering
+pub mod Listing

@@ -1,5 +1,7 @@
 pub mod Instruction
 pub mod Calls
 pub mod Step
-pub mod Journal
 pub mod Run
+pub mod Touched
+pub mod Asked
+pub mod Arguments

@@ -1,12 +1,13 @@
 -- A run of the flat machine: the fold of its steps over the flat entries of a journal, which is none where an
 -- entry isn't the one that the step of its process gives.
-use Rattle.std.specs.Prelude.{ℕ, ◌==◌, Bool, true, false, ◌&&◌, List, [], ◌∷◌, Option, Some, None}
+use Rattle.std.specs.Prelude.{ℕ, ◌==◌, Bool, true, false, ◌&&◌, List, [], ◌∷◌, Option, Some, None, if◌then◌else◌}
 use Rattle.vm_facts.specs.Flat.{FlatState}
 use Rattle.vm_facts.specs.declared.entry.Entry.{Entry}
 use Rattle.vm_facts.specs.declared.entry.Entry.TheVariants.{Ran, Out, Grew, Call, Refused, Sleeps, Ended}
 use Rattle.page_model.specs.Flat.{Inputs, start_state, can_step}
+use Rattle.page_model.specs.Journal.{units_of}
+use Rattle.flat_model.specs.Calls.{same_bytes}
 use Rattle.flat_model.specs.Step.{Step, flat_step}
-use Rattle.flat_model.specs.Journal.{units_of}
 
 -- a flat state, and the last flat entry
 pub record Point : Type 0 where
@@ -18,17 +19,21 @@ abbrev pub is_refused : Option Entry → ℕ → Bool
 is_refused (Some (Refused p)) pid = p == pid
 is_refused _ pid = false
 
-abbrev pub step_at : Point → ℕ → Step
-step_at point pid = flat_step point.flat pid (is_refused point.last pid)
+abbrev pub step_at : Inputs → Point → ℕ → Step
+step_at A point pid = flat_step A point.flat pid (is_refused point.last pid)
 
--- the entries of a step that aren't there yet: behind an `Out` the others
-abbrev pub due : Option Entry → List Entry → List Entry
-due (Some (Out p bytes)) (e ∷ es) = es
-due _ es = es
+-- all but the first
+abbrev pub behind_first : List Entry → List Entry
+behind_first [] = []
+behind_first (e ∷ es) = es
 
--- the entries of a process's step that aren't there yet
-abbrev pub due_of : Point → ℕ → List Entry
-due_of point pid = due point.last (step_at point pid).entries
+-- the entries of a process's step that aren't there yet: behind an `Out` of it the others
+abbrev pub due : Option Entry → ℕ → List Entry → List Entry
+due (Some (Out p bytes)) pid es = if p == pid then behind_first es else es
+due _ pid es = es
+
+abbrev pub due_at : Inputs → Point → ℕ → List Entry
+due_at A point pid = due point.last pid (step_at A point pid).entries
 
 -- the first of these, where the process can step
 abbrev pub first_if : Bool → List Entry → Option Entry
@@ -36,8 +41,9 @@ first_if true (e ∷ es) = Some e
 first_if true [] = None
 first_if false es = None
 
-abbrev pub act : Point → ℕ → Option Entry
-act point pid = first_if (can_step point.flat pid) (due_of point pid)
+-- the next entry of a process's step
+abbrev pub act : Inputs → Point → ℕ → Option Entry
+act A point pid = first_if (can_step point.flat pid) (due_at A point pid)
 
 -- the point behind the next of these entries: the step is complete with the last of them
 abbrev pub behind : Point → FlatState → List Entry → Point
@@ -45,15 +51,8 @@ behind point after [] = point
 behind point after (e ∷ []) = record { flat = after; last = Some e }
 behind point after (e ∷ f ∷ es) = record point { last = Some e }
 
-abbrev pub point_after : Point → ℕ → Point
-point_after point pid = behind point (step_at point pid).after (due_of point pid)
-
--- the same bytes
-abbrev pub same_bytes : List ℕ → List ℕ → Bool
-same_bytes [] [] = true
-same_bytes [] (b ∷ others) = false
-same_bytes (a ∷ more) [] = false
-same_bytes (a ∷ more) (b ∷ others) = a == b && same_bytes more others
+abbrev pub point_after : Inputs → Point → ℕ → Point
+point_after A point pid = behind point (step_at A point pid).after (due_at A point pid)
 
 abbrev pub same_carry : Bool → Bool → Bool
 same_carry true true = true
@@ -80,27 +79,57 @@ process_of_entry (Ran p n) = Some p
 process_of_entry (Out p bytes) = Some p
 process_of_entry (Grew p n) = Some p
 process_of_entry (Call p n c r0 r1) = Some p
+process_of_entry (Refused p) = Some p
 process_of_entry (Sleeps p) = Some p
 process_of_entry (Ended p n) = Some p
 process_of_entry _ = None
 
-abbrev pub where_same : Bool → Point → Option Point
-where_same true point = Some point
-where_same false point = None
+-- the reply or the end of this process
+abbrev pub is_outcome_of : ℕ → Entry → Bool
+is_outcome_of pid (Call p n c r0 r1) = p == pid
+is_outcome_of pid (Ended p n) = p == pid
+is_outcome_of pid _ = false
 
--- the point behind an entry of a process, where it is the one that the process's step gives
-abbrev pub flat_entry : Point → Option ℕ → Entry → Option Point
-flat_entry point None e = Some point
-flat_entry point (Some pid) e = where_same (same_as (act point pid) e) (point_after point pid)
+abbrev pub is_call_of : ℕ → Entry → Bool
+is_call_of pid (Call p n c r0 r1) = p == pid
+is_call_of pid _ = false
 
-abbrev pub flat_units : Option Point → List Entry → Option Point
-flat_units None units = None
-flat_units (Some point) [] = Some point
-flat_units (Some point) (u ∷ us) = flat_units (flat_entry point (process_of_entry u) u) us
+-- behind `Refused` only the reply or the end of its process may follow, and behind `Out` only the reply
+abbrev pub may_follow : Option Entry → Entry → Bool
+may_follow (Some (Refused p)) e = is_outcome_of p e
+may_follow (Some (Out p bytes)) e = is_call_of p e
+may_follow _ e = true
+
+abbrev pub where_so : Bool → Point → Option Point
+where_so true point = Some point
+where_so false point = None
+
+-- the point behind an entry of a process: the process can step, and the entry is the next one of its step, or says
+-- that its pieces found no place
+abbrev pub flat_entry_of : Inputs → Point → ℕ → Entry → Option Point
+flat_entry_of A point pid (Refused p) = where_so (can_step point.flat pid) record point { last = Some (Refused p) }
+flat_entry_of A point pid e = where_so (same_as (act A point pid) e) (point_after A point pid)
+
+abbrev pub flat_entry_if : Bool → Inputs → Point → ℕ → Entry → Option Point
+flat_entry_if true A point pid e = flat_entry_of A point pid e
+flat_entry_if false A point pid e = None
+
+-- the point behind a unit: the same where it isn't a flat entry
+abbrev pub flat_entry_by : Inputs → Point → Option ℕ → Entry → Option Point
+flat_entry_by A point None e = Some point
+flat_entry_by A point (Some pid) e = flat_entry_if (may_follow point.last e) A point pid e
+
+unfoldable pub flat_entry : Inputs → Point → Entry → Option Point
+flat_entry A point e = flat_entry_by A point (process_of_entry e) e
+
+unfoldable pub flat_units : Inputs → Option Point → List Entry → Option Point
+flat_units A None units = None
+flat_units A (Some point) [] = Some point
+flat_units A (Some point) (u ∷ us) = flat_units A (flat_entry A point u) us
 
 abbrev pub start_point : Inputs → Point
 start_point A = record { flat = start_state A; last = None }
 
 -- the point at which a journal leaves the flat machine; none where the journal is no run of it
 abbrev pub flat_run : Inputs → List Entry → Option Point
-flat_run A journal = flat_units (Some (start_point A)) (units_of journal)
+flat_run A journal = flat_units A (Some (start_point A)) (units_of journal)

@@ -1,68 +1,63 @@
--- One step of one process of the flat machine: its entries, and the state after it.
-use Rattle.std.specs.Prelude.{ℕ, ◌+◌, ◌-◌, ◌*◌, ◌/◌, ◌==◌, Bool, true, false, not, List, [], ◌∷◌, ◌++◌, length, map, filter, replicate, Option, Some, None, Result, Ok, Err, ℤ, if◌then◌else◌}
+-- One step of one process of the flat machine.
+use Rattle.std.specs.Prelude.{ℕ, ◌+◌, ◌-◌, ◌/◌, Bool, true, false, List, [], ◌∷◌, ◌++◌, length, Option, Some, None, Result, Ok, Err, ℤ}
+use Rattle.vm_facts.specs.Answers.{ByteWrite}
 use Rattle.vm_facts.specs.Flat.{Space, Holding, Holds, Lends, Zombie, Process, FlatState}
 use Rattle.vm_facts.specs.declared.regs.Regs.{Regs}
 use Rattle.vm_facts.specs.declared.entry.Entry.{Entry}
-use Rattle.vm_facts.specs.declared.entry.Entry.TheVariants.{Ran, Out, Grew, Call, Ended}
+use Rattle.vm_facts.specs.declared.entry.Entry.TheVariants.{Ran, Out, Grew, Call, Sleeps, Ended}
 use Rattle.user_vax.specs.Program.{run}
 use Rattle.user_vax.specs.Effects.{Effect}
-use Rattle.user_vax.specs.Operands.{register, with_register}
+use Rattle.user_vax.specs.Operands.{register}
 use Rattle.user_vax.specs.declared.refused.Refused.{Refused}
 use Rattle.user_vax.specs.declared.refused.Refused.TheVariants.{Miss, Below, Signal}
-use Rattle.page_model.specs.Flat.{process_of}
+use Rattle.page_model.specs.Flat.{NamedImage, Inputs, process_of, cleared}
 use Rattle.page_model.specs.Space.{stack_top, answers_of, puts}
+use Rattle.page_model.specs.Change.{apply_change, apply_writes}
+use Rattle.page_model.specs.declared.change.Change.{Change}
+use Rattle.page_model.specs.declared.change.Change.TheVariants.{Keep, Resize, Sleep, End}
 use Rattle.flat_model.specs.Instruction.{instruction_in}
 use Rattle.flat_model.specs.declared.calls.Reply.{Reply}
-use Rattle.flat_model.specs.declared.calls.Reply.TheVariants.{Exits, Fails, Writes}
-use Rattle.flat_model.specs.Calls.{number_of, reply_of, or_fault, call_of}
+use Rattle.flat_model.specs.declared.calls.Reply.TheVariants.{Fails, Does, Writes, Waits, Exits}
 use Rattle.flat_model.specs.declared.calls.SystemCall.{SystemCall}
+use Rattle.flat_model.specs.Calls.{number_of, call_of, replied, reply_of, or_fault, refused_reply}
 
+-- the entries of a step, the bytes that it writes, the registers that it leaves, the change by which it ends, and the
+-- flat state after it
 pub record Step : Type 0 where
   pub entries : List Entry
+  pub writes : List ByteWrite
+  pub regs : Regs
+  pub change : Change
   pub after : FlatState
 
--- this process in place of the one with its number
-abbrev pub with_process : FlatState → Process → FlatState
-with_process F p = record F { processes = map (λ q. if q.pid == p.pid then p else q) F.processes }
-
-abbrev pub without_process : FlatState → ℕ → FlatState
-without_process F pid = record F { processes = filter (λ q. not (q.pid == pid)) F.processes }
-
--- a process that ended is a zombie until its parent waits; with no parent it is gone
-abbrev pub after_end : Bool → FlatState → Process → ℕ → FlatState
-after_end true F p status = without_process F p.pid
-after_end false F p status = with_process F record p { holding = Zombie status }
-
-abbrev pub ended : FlatState → Process → ℕ → Step
-ended F p status = record {
-  entries = Ended p.pid status ∷ [];
-  after = after_end (p.parent == 0) F p status;
+abbrev pub step_with : List NamedImage → FlatState → Process → List Entry → List ByteWrite → Regs → Change → Step
+step_with images F p entries writes regs change = record {
+  entries = entries;
+  writes = writes;
+  regs = regs;
+  change = change;
+  after = apply_change images (apply_writes F p.pid writes) p.pid regs change;
 }
 
--- the process goes on with these registers in this space
-abbrev pub going_on : FlatState → Process → Regs → Space → FlatState
-going_on F p regs s = with_process F record p { regs = regs; holding = Holds s }
+-- no step at all
+abbrev pub no_step : FlatState → Step
+no_step F = record { entries = []; writes = []; regs = cleared; change = Keep; after = F }
+
+-- the end of a process, whose registers stay as they were
+abbrev pub ended_step : List NamedImage → FlatState → Process → List ByteWrite → ℕ → Step
+ended_step images F p writes status = step_with images F p (Ended p.pid status ∷ []) writes p.regs (End status)
 
 -- the pages that the stack must have for a byte at this address
 abbrev pub pages_down_to : ℕ → ℕ
 pages_down_to address = (stack_top - 1 - address) / 1024 + 1
 
--- the stack lengthened by zeros to so many pages
-abbrev pub lengthened : Space → ℕ → Space
-lengthened s pages = record s { stack_bytes = s.stack_bytes ++ replicate (1024 * pages - length s.stack_bytes) 0 }
+abbrev pub data_pages_of : Space → ℕ
+data_pages_of s = length s.data_bytes / 1024
 
-abbrev pub grown : FlatState → Process → Space → ℕ → Step
-grown F p s address = record {
-  entries = Grew p.pid (pages_down_to address) ∷ [];
-  after = going_on F p p.regs (lengthened s (pages_down_to address));
-}
-
-abbrev pub ran : FlatState → Process → Regs → Space → Step
-ran F p regs s = record { entries = Ran p.pid 1 ∷ []; after = going_on F p regs s }
-
--- R0 and the carry of a reply
-abbrev pub replied : Regs → Bool → ℕ → Regs
-replied regs carry r0 = record (with_register regs 0 r0) { c = carry }
+-- the stack grows by zeros to the page of an address; the instruction is still to come
+abbrev pub grown_step : List NamedImage → FlatState → Process → Space → ℕ → Step
+grown_step images F p s address =
+    step_with images F p (Grew p.pid (pages_down_to address) ∷ []) [] p.regs (Resize (data_pages_of s) (pages_down_to address))
 
 abbrev pub call_entry : ℕ → SystemCall → Regs → Entry
 call_entry pid call regs = Call pid (number_of call) regs.c (register regs 0) (register regs 1)
@@ -72,44 +67,52 @@ abbrev pub out_entries : ℕ → List ℕ → List Entry
 out_entries pid [] = []
 out_entries pid (byte ∷ bytes) = Out pid (byte ∷ bytes) ∷ []
 
--- a call and its reply, from the registers and the space that the instruction left
-abbrev pub answered : FlatState → Process → SystemCall → Regs → Space → Reply → Step
-answered F p call regs s (Exits status) = ended F p status
-answered F p call regs s (Fails error) = record {
-  entries = call_entry p.pid call (replied regs true error) ∷ [];
-  after = going_on F p (replied regs true error) s;
-}
-answered F p call regs s (Writes bytes) = record {
-  entries = out_entries p.pid bytes ++ call_entry p.pid call (replied regs false (length bytes)) ∷ [];
-  after = going_on F p (replied regs false (length bytes)) s;
-}
+-- a call that answers with these registers
+abbrev pub answered_step : List NamedImage → FlatState → Process → SystemCall → List ByteWrite → Regs → Change → Step
+answered_step images F p call writes regs change = step_with images F p (call_entry p.pid call regs ∷ []) writes regs change
 
--- a call that isn't built ends the process by signal 12
-abbrev pub called : FlatState → Process → Option SystemCall → Regs → Space → Step
-called F p None regs s = ended F p 12
-called F p (Some call) regs s = answered F p call regs s (or_fault (run (answers_of s) (reply_of call regs)))
+-- a call and its reply, from what the instruction left
+abbrev pub replied_step : List NamedImage → FlatState → Process → SystemCall → Effect → Reply → Step
+replied_step images F p call effect (Fails error) = answered_step images F p call effect.writes (replied effect.regs true error) Keep
+replied_step images F p call effect (Does regs change) = answered_step images F p call effect.writes regs change
+replied_step images F p call effect (Writes bytes) =
+    step_with images F p (out_entries p.pid bytes ++ call_entry p.pid call (replied effect.regs false (length bytes)) ∷ [])
+    effect.writes (replied effect.regs false (length bytes)) Keep
+replied_step images F p call effect Waits = step_with images F p (Sleeps p.pid ∷ []) effect.writes p.regs Sleep
+replied_step images F p call effect (Exits status) = ended_step images F p effect.writes status
 
-abbrev pub went_on : FlatState → Process → Option ℤ → Regs → Space → Step
-went_on F p None regs s = ran F p regs s
-went_on F p (Some number) regs s = called F p (call_of number) regs s
+-- the reply of a call, made behind the instruction
+abbrev pub reply_behind : List NamedImage → FlatState → Process → Space → Bool → SystemCall → Effect → Reply
+reply_behind images F p s refused call effect =
+    refused_reply refused (or_fault (run (answers_of (puts s effect.writes)) (reply_of images F p (puts s effect.writes) call effect.regs)))
 
--- what an instruction leads to; `refused` says that the pieces that it asked for found no place
-abbrev pub stepped : FlatState → Process → Space → Bool → Result Effect Refused → Step
-stepped F p s refused (Ok effect) = went_on F p effect.call effect.regs (puts s effect.writes)
-stepped F p s refused (Err (Miss address write)) = record { entries = []; after = F }
-stepped F p s true (Err (Below address)) = ended F p 11
-stepped F p s false (Err (Below address)) = grown F p s address
-stepped F p s refused (Err (Signal number)) = ended F p number
+-- a call that isn't one of the eight ends the process by signal 12
+abbrev pub called_step : List NamedImage → FlatState → Process → Space → Bool → Effect → Option SystemCall → Step
+called_step images F p s refused effect None = ended_step images F p effect.writes 12
+called_step images F p s refused effect (Some call) =
+    replied_step images F p call effect (reply_behind images F p s refused call effect)
 
-abbrev pub step_holding : FlatState → Process → Bool → Holding → Step
-step_holding F p refused (Holds s) = stepped F p s refused (instruction_in s p.regs)
-step_holding F p refused (Lends s child) = record { entries = []; after = F }
-step_holding F p refused (Zombie status) = record { entries = []; after = F }
+abbrev pub step_behind : List NamedImage → FlatState → Process → Space → Bool → Effect → Option ℤ → Step
+step_behind images F p s refused effect None = step_with images F p (Ran p.pid 1 ∷ []) effect.writes effect.regs Keep
+step_behind images F p s refused effect (Some number) = called_step images F p s refused effect (call_of number)
 
-abbrev pub step_process : FlatState → Bool → Option Process → Step
-step_process F refused None = record { entries = []; after = F }
-step_process F refused (Some p) = step_holding F p refused p.holding
+-- what an instruction leads to; `refused` says that the pieces of swap space that it asked for found no place
+abbrev pub step_of : List NamedImage → FlatState → Process → Space → Bool → Result Effect Refused → Step
+step_of images F p s refused (Ok effect) = step_behind images F p s refused effect effect.call
+step_of images F p s refused (Err (Miss address write)) = no_step F
+step_of images F p s true (Err (Below address)) = ended_step images F p [] 11
+step_of images F p s false (Err (Below address)) = grown_step images F p s address
+step_of images F p s refused (Err (Signal number)) = ended_step images F p [] number
 
--- the step of a process that can step
-unfoldable pub flat_step : FlatState → ℕ → Bool → Step
-flat_step F pid refused = step_process F refused (process_of F pid)
+abbrev pub step_holding : List NamedImage → FlatState → Process → Bool → Holding → Step
+step_holding images F p refused (Holds s) = step_of images F p s refused (instruction_in s p.regs)
+step_holding images F p refused (Lends sid child) = no_step F
+step_holding images F p refused (Zombie status) = no_step F
+
+abbrev pub step_if : List NamedImage → FlatState → Bool → Option Process → Step
+step_if images F refused None = no_step F
+step_if images F refused (Some p) = step_holding images F p refused p.holding
+
+-- the next step of a process that can step
+unfoldable pub flat_step : Inputs → FlatState → ℕ → Bool → Step
+flat_step A F pid refused = step_if A.images F refused (process_of F pid)

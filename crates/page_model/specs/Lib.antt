@@ -1,2 +1,5 @@
 pub mod Space
 pub mod Flat
+pub mod Journal
+pub mod Change
+pub mod Writes

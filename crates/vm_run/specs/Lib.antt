@@ -1,3 +1,8 @@
+pub mod InterimInstruction
+pub mod InterimInputs
+pub mod InterimCalls
+pub mod InterimStep
+pub mod InterimRun
 pub mod Resident
 pub mod ResidentLaws
 pub mod Next
