@@ -1,2 +1,13 @@
 pub mod Space
 pub mod Flat
+pub mod Pages
+pub mod Frames
+pub mod Placement
+pub mod Moves
+pub mod Runs
+pub mod Hands
+pub mod Serve
+pub mod Place
+pub mod Ownership
+pub mod Coupled
+pub mod Swapper

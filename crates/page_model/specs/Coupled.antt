@@ -1,0 +1,68 @@
+-- Where the bytes of each page of a flat memory are: in its frame, on swap, in the file of its image, or nowhere,
+-- where they are zeros.
+use Rattle.std.specs.Prelude.{◌≡◌, ℕ, ◌*◌, ◌+◌, Bool, true, false, List, [], ◌∷◌, ◌++◌, length, take, drop, replicate, Option, Some, None}
+use Rattle.vm_facts.specs.declared.page.Page.{Page}
+use Rattle.vm_facts.specs.declared.page.Page.TheVariants.{Data, Stack, Text}
+use Rattle.vm_facts.specs.declared.page.PageState.{PageState}
+use Rattle.vm_facts.specs.declared.page.PageState.TheVariants.{Unfilled, Valid, Invalid, Coming, Going, OnSwap}
+use Rattle.page_model.specs.Pages.{Filling, Zeros, OfImage, frame_of}
+use Rattle.page_model.specs.Frames.{at_frame}
+use Rattle.page_model.specs.Placement.{Placement, Errand, Writes, Reads, Source, FromSwap, FromFile, Due, Start, CopyOf, state_of, is_dirty, filling_of, errand_at, due_at, parts_of, IsThere}
+
+unfoldable pub zeros : List ℕ
+zeros = replicate 1024 0
+
+-- What stands beside a placement: the bytes of each frame, and for each page those of its two blocks of swap, of its
+-- place in the image's file, those that are kept for a new stack page 0, and those of the flat memory.
+pub record Bytes : Type 0 where
+  pub frames : List (List ℕ)
+  pub swap : Page → List ℕ
+  pub file : Page → List ℕ
+  pub start : Page → List ℕ
+  pub memory : Page → List ℕ
+
+abbrev pub bytes_in : Bytes → ℕ → List ℕ
+bytes_in b f = at_frame b.frames f []
+
+-- the page's bytes are in its frame, and on swap too where it is clean
+pub record IsInFrame (b : Bytes) (dirty : Bool) (f : ℕ) (q : Page) : Type 0 where
+  pub here : bytes_in b f ≡ b.memory q
+  pub there : dirty ≡ false → b.swap q ≡ b.memory q
+
+-- of a page that was never filled, by what is due of it and its filling
+abbrev pub KeepsUnfilled : Bytes → Page → Option Due → Filling → Type 0
+KeepsUnfilled b q None Zeros = zeros ≡ b.memory q
+KeepsUnfilled b q None OfImage = b.file q ≡ b.memory q
+KeepsUnfilled b q (Some (Start r)) filling = b.start q ≡ b.memory q
+KeepsUnfilled b q (Some (CopyOf r parent)) filling = b.memory parent ≡ b.memory q
+
+-- of a page that is being read, by what its transfer is for
+abbrev pub KeepsComing : Bytes → Page → Option Errand → Type 0
+KeepsComing b q None = ⊥
+KeepsComing b q (Some Writes) = ⊥
+KeepsComing b q (Some (Reads FromSwap demanded)) = b.swap q ≡ b.memory q
+KeepsComing b q (Some (Reads FromFile demanded)) = b.file q ≡ b.memory q
+
+abbrev pub KeepsBy : Placement → Bytes → Page → PageState → Type 0
+KeepsBy p b q Unfilled = KeepsUnfilled b q (due_at p.due q) (filling_of p q)
+KeepsBy p b q (Valid f) = IsInFrame b (is_dirty p q) f q
+KeepsBy p b q (Invalid f) = IsInFrame b (is_dirty p q) f q
+KeepsBy p b q (Coming f) = KeepsComing b q (errand_at (parts_of p.transfers) f)
+KeepsBy p b q (Going f) = bytes_in b f ≡ b.memory q
+KeepsBy p b q OnSwap = b.swap q ≡ b.memory q
+
+-- the page's flat bytes are where its state says
+abbrev pub Keeps : Placement → Bytes → Page → Type 0
+Keeps p b q = KeepsBy p b q (state_of p q)
+
+pub record CouplesPages (p : Placement) (b : Bytes) : Type 0 where
+  pub each : (q : Page) → IsThere p q → Keeps p b q
+  -- text is never written
+  pub text : (image v : ℕ) → b.file (Text image v) ≡ b.memory (Text image v)
+
+-- One page in two machines: where it has a frame in both, the frames have the same bytes, and so have its two blocks,
+-- and what is kept for it.
+pub record SamePage (p q : Placement) (b c : Bytes) (v : Page) : Type 0 where
+  pub frames : (f g : ℕ) → frame_of (state_of p v) ≡ Some f → frame_of (state_of q v) ≡ Some g → bytes_in c g ≡ bytes_in b f
+  pub swap : c.swap v ≡ b.swap v
+  pub start : c.start v ≡ b.start v
