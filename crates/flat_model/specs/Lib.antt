@@ -1,5 +1,1 @@
 pub mod Instruction
-pub mod Calls
-pub mod Step
-pub mod Journal
-pub mod Run

@@ -5,3 +5,5 @@ pub mod Local
 pub mod Couples
 pub mod PartLaws
 pub mod Steps
+pub mod Joins
+pub mod Owns

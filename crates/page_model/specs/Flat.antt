@@ -1,6 +1,7 @@
 -- The flat machine's states: which process can step, and the state in which a run starts.
-use Rattle.std.specs.Prelude.{ℕ, ◌+◌, ◌-◌, ◌*◌, ◌/◌, ◌==◌, Bool, true, false, List, [], ◌∷◌, ◌++◌, length, replicate, flat_map, find, slice_set, Option, Some, None, if◌then◌else◌}
+use Rattle.std.specs.Prelude.{ℕ, zero, suc, ◌+◌, ◌-◌, ◌*◌, ◌/◌, ◌==◌, Bool, true, false, List, [], ◌∷◌, ◌++◌, length, replicate, flat_map, find, slice_set, slice_get, Option, Some, None, if◌then◌else◌}
 use Rattle.vm_facts.specs.Flat.{Space, Holding, Holds, Lends, Zombie, Process, FlatState}
+use Rattle.vm_facts.specs.declared.event.Event.{Event}
 use Rattle.vm_facts.specs.declared.regs.Regs.{Regs}
 use Rattle.aout_image.specs.Image.{Loaded, word_bytes}
 use Rattle.page_model.specs.Space.{stack_top}
@@ -12,7 +13,7 @@ process_of F pid = find (λ q. q.pid == pid) F.processes
 -- a process that isn't there, is out of a space or waits can't step
 abbrev pub holds_space : Holding → Bool
 holds_space (Holds s) = true
-holds_space (Lends s child) = false
+holds_space (Lends sid child) = false
 holds_space (Zombie status) = false
 
 abbrev pub is_ready : Process → Bool
@@ -72,33 +73,63 @@ unfoldable pub start_regs : ℕ → List (List ℕ) → Regs
 start_regs entry arguments =
     record cleared { r = slice_set (slice_set (replicate 16 0) 14 (start_sp arguments)) 15 (entry + 2) }
 
--- the space with this number in which an image starts with these arguments
-abbrev pub new_space : ℕ → ℕ → Loaded → List (List ℕ) → Space
-new_space sid image loaded arguments = record {
+-- the space with this number in which an image starts with this stack page 0
+abbrev pub space_with : ℕ → ℕ → Loaded → List ℕ → Space
+space_with sid image loaded top = record {
   sid = sid;
   image = image;
   text_bytes = loaded.text;
   data_bytes = loaded.data;
-  stack_bytes = start_page arguments;
+  stack_bytes = top;
 }
 
+-- the space with this number in which an image starts with these arguments
+abbrev pub new_space : ℕ → ℕ → Loaded → List (List ℕ) → Space
+new_space sid image loaded arguments = space_with sid image loaded (start_page arguments)
+
 -- What a run is of.
-pub record Inputs : Type 0 where
-  -- the name of the image, which is its process's one argument
+
+pub record NamedImage : Type 0 where
   pub name : List ℕ
   pub image : Loaded
-  -- how many instructions may run in all
+
+-- the images by number, from 1 on; the numbers of the first processes' images, by pid; the schedule; the frames and
+-- swap blocks; and how many instructions may run in all
+pub record Inputs : Type 0 where
+  pub images : List NamedImage
+  pub first : List ℕ
+  pub lines : List Event
+  pub frames : ℕ
+  pub swap_blocks : ℕ
   pub limit : ℕ
 
-abbrev pub start_process : Inputs → Process
-start_process A = record {
-  pid = 1;
+abbrev pub image_numbered : List NamedImage → ℕ → Option NamedImage
+image_numbered images zero = None
+image_numbered images (suc place) = slice_get images place
+
+-- a first process, whose space has its own number and whose one argument is its image's name
+abbrev pub start_process : ℕ → ℕ → NamedImage → Process
+start_process pid number named = record {
+  pid = pid;
   parent = 0;
-  regs = start_regs A.image.facts.entry (A.name ∷ []);
-  holding = Holds (new_space 1 1 A.image (A.name ∷ []));
+  regs = start_regs named.image.facts.entry (named.name ∷ []);
+  holding = Holds (new_space pid number named.image (named.name ∷ []));
   asleep = false;
 }
 
--- the flat machine at the start: one process, from the image
+abbrev pub start_if : ℕ → ℕ → Option NamedImage → List Process
+start_if pid number None = []
+start_if pid number (Some named) = start_process pid number named ∷ []
+
+-- the first processes, from a pid on
+abbrev pub start_processes : List NamedImage → ℕ → List ℕ → List Process
+start_processes images pid [] = []
+start_processes images pid (number ∷ more) = start_if pid number (image_numbered images number) ++ start_processes images (pid + 1) more
+
+-- the flat machine at the start
 abbrev pub start_state : Inputs → FlatState
-start_state A = record { processes = start_process A ∷ []; next_pid = 2; next_sid = 2 }
+start_state A = record {
+  processes = start_processes A.images 1 A.first;
+  next_pid = length A.first + 1;
+  next_sid = length A.first + 1;
+}

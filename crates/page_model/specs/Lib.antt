@@ -11,3 +11,5 @@ pub mod Place
 pub mod Ownership
 pub mod Coupled
 pub mod Swapper
+pub mod Journal
+pub mod Change

@@ -11,10 +11,11 @@ pub record Space : Type 0 where
   pub data_bytes : List ℕ
   pub stack_bytes : List ℕ
 
--- what a process has: a space, a space that it lent to a child, or an exit status
+-- what a process has: a space; the number of the space that it lent, and the child that it lent it to; or an exit
+-- status. A space belongs to one process: a lender has none.
 pub data Holding : Type 0 where
   Holds : Space → Holding
-  Lends : Space → ℕ → Holding
+  Lends : (sid child : ℕ) → Holding
   Zombie : ℕ → Holding
 
 pub record Process : Type 0 where

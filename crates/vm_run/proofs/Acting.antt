@@ -10,11 +10,11 @@ use Rattle.vm_facts.specs.declared.entry.Entry.TheVariants.{Event, Turn, Ran, Ou
 use Rattle.io_edge.specs.FileHolding.{NamedFile}
 use Rattle.page_model.specs.declared.spot.Spot.{Spot}
 use Rattle.page_model.specs.declared.spot.Spot.TheVariants.{Text, Data, Stack, Below, Outside}
-use Rattle.page_model.specs.Flat.{Inputs}
+use Rattle.vm_run.specs.InterimInputs.{Inputs}
 use Rattle.flat_model.specs.Instruction.{instruction_in}
-use Rattle.flat_model.specs.Journal.{append, counted, instructions_of}
-use Rattle.flat_model.specs.Run.{Point, point_after}
-use Rattle.flat_model.proofs.Joins.{append_counted}
+use Rattle.page_model.specs.Journal.{append, counted, instructions_of}
+use Rattle.vm_run.specs.InterimRun.{Point, point_after}
+use Rattle.page_model.proofs.Joins.{append_counted}
 use Rattle.vm_run.specs.declared.running.Mark.{Mark}
 use Rattle.vm_run.specs.declared.running.Mark.TheVariants.{Unmarked, Turned}
 use Rattle.vm_run.specs.declared.running.Running.{Running}

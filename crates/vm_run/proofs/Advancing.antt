@@ -12,14 +12,14 @@ use Rattle.user_vax.specs.declared.stepping.Stepped.TheVariants as answers
 use Rattle.user_vax.specs.Program.{run}
 use Rattle.user_vax.specs.Effects.{Effect}
 use Rattle.user_vax.specs.Instruction.{instruction, answer_of_call, answer_of, registers_after, writes_of}
-use Rattle.page_model.specs.Flat.{Inputs}
+use Rattle.vm_run.specs.InterimInputs.{Inputs}
 use Rattle.page_model.specs.Space.{answers_of, puts, stack_top}
-use Rattle.flat_model.specs.declared.calls.Reply.{Reply}
-use Rattle.flat_model.specs.declared.calls.Reply.TheVariants.{Exits, Fails, Writes}
-use Rattle.flat_model.specs.declared.calls.SystemCall.{SystemCall}
-use Rattle.flat_model.specs.Calls.{reply_of, or_fault, call_of}
+use Rattle.vm_run.specs.declared.interim_calls.Reply.{Reply}
+use Rattle.vm_run.specs.declared.interim_calls.Reply.TheVariants.{Exits, Fails, Writes}
+use Rattle.vm_run.specs.declared.interim_calls.SystemCall.{SystemCall}
+use Rattle.vm_run.specs.InterimCalls.{reply_of, or_fault, call_of}
 use Rattle.flat_model.specs.Instruction.{instruction_in}
-use Rattle.flat_model.specs.Step.{replied, call_entry, answered, pages_down_to, lengthened}
+use Rattle.vm_run.specs.InterimStep.{replied, call_entry, answered, pages_down_to, lengthened}
 use Rattle.vm_run.specs.declared.running.Running.{Running}
 use Rattle.vm_run.specs.Resident.{Resident, AllWhole, resident_answers, resident_spot, IsWaiting, Wrote, Stands, longer}
 use Rattle.vm_run.specs.ResidentLaws.{IsPaged}

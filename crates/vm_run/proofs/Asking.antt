@@ -6,12 +6,12 @@ use Rattle.io_edge.specs.FileHolding.{NamedFile}
 use Rattle.user_vax.specs.declared.refused.Refused.{Refused}
 use Rattle.user_vax.specs.Program.{Gives, run}
 use Rattle.user_vax.proofs.Runs.{then, run_bind}
-use Rattle.page_model.specs.Flat.{Inputs}
-use Rattle.flat_model.specs.declared.calls.Reply.{Reply}
-use Rattle.flat_model.specs.declared.calls.Reply.TheVariants.{Exits, Fails, Writes}
-use Rattle.flat_model.specs.declared.calls.SystemCall.{SystemCall}
-use Rattle.flat_model.specs.declared.calls.SystemCall.TheVariants.{Exit, Write}
-use Rattle.flat_model.specs.Calls.{argument, bytes_from, exit_reply, write_arguments, written_to, write_reply, reply_of, or_fault, write_limit}
+use Rattle.vm_run.specs.InterimInputs.{Inputs}
+use Rattle.vm_run.specs.declared.interim_calls.Reply.{Reply}
+use Rattle.vm_run.specs.declared.interim_calls.Reply.TheVariants.{Exits, Fails, Writes}
+use Rattle.vm_run.specs.declared.interim_calls.SystemCall.{SystemCall}
+use Rattle.vm_run.specs.declared.interim_calls.SystemCall.TheVariants.{Exit, Write}
+use Rattle.vm_run.specs.InterimCalls.{argument, bytes_from, exit_reply, write_arguments, written_to, write_reply, reply_of, or_fault, write_limit}
 use Rattle.vm_run.specs.declared.running.Running.{Running}
 use Rattle.vm_run.specs.Resident.{resident_answers}
 use Rattle.vm_run.specs.ResidentLaws.{IsPaged}

@@ -6,7 +6,7 @@ use Rattle.io_edge.specs.FileHolding.{NamedFile}
 use Rattle.aout_image.specs.declared.Image.{Image}
 use Rattle.page_model.specs.declared.spot.Spot.{Spot}
 use Rattle.page_model.specs.declared.spot.Spot.TheVariants.{Text, Data, Stack, Below, Outside}
-use Rattle.page_model.specs.Flat.{Inputs}
+use Rattle.vm_run.specs.InterimInputs.{Inputs}
 use Rattle.vm_run.specs.declared.running.Running.{Running}
 use Rattle.vm_run.specs.Resident.{Segment, Resident, AllWhole, IsInside, IsWaiting, FillsFrom, Filled, Stands}
 use Rattle.vm_run.specs.Running.{IsOf, KeepsSizes, BroughtIn}

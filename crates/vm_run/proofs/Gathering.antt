@@ -6,7 +6,7 @@ use Rattle.user_vax.specs.declared.refused.Refused.{Refused}
 use Rattle.user_vax.specs.Program.{Program, Gives, Reads, ◌>>=◌, run}
 use Rattle.user_vax.specs.Operands.{past}
 use Rattle.user_vax.proofs.Runs.{then, run_bind}
-use Rattle.flat_model.specs.Calls.{bytes_from}
+use Rattle.vm_run.specs.InterimCalls.{bytes_from}
 
 -- bytes that were read, and what the rest comes to
 abbrev pub after_bytes : List ℕ → Result (List ℕ) Refused → Result (List ℕ) Refused

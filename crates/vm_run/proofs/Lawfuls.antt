@@ -2,11 +2,11 @@
 use Rattle.std.proofs.Common.{◌≡◌, ℕ, ◌+◌, ltb, Bool, true, false, List, [], ◌∷◌, ◌++◌, Option, Some, None, refl, sym, ap, ◌∙◌, subst, arith}
 use Rattle.vm_facts.specs.declared.entry.Entry.{Entry}
 use Rattle.vm_facts.specs.declared.entry.Entry.TheVariants.{Event, Turn, Ran, Out, Grew, Call, Refused, Sleeps, Ended, Zero, Get, Copy, Reclaim, Hands, Put, Done, SwapOut, SwapIn, Owners}
-use Rattle.page_model.specs.Flat.{Inputs}
-use Rattle.flat_model.specs.Journal.{append, appended, units_of, counted, instructions_of, IsUnit, AllUnits}
-use Rattle.flat_model.specs.Run.{Point, act, point_after, same_as, where_same, process_of_entry, flat_entry, flat_units}
-use Rattle.flat_model.proofs.Joins.{appended_units, append_counted}
-use Rattle.flat_model.proofs.Own.{IsOwn, OfSome, of_some, act_own}
+use Rattle.vm_run.specs.InterimInputs.{Inputs}
+use Rattle.page_model.specs.Journal.{append, appended, units_of, counted, instructions_of, IsUnit, AllUnits}
+use Rattle.vm_run.specs.InterimRun.{Point, act, point_after, same_as, where_same, process_of_entry, flat_entry, flat_units}
+use Rattle.page_model.proofs.Joins.{appended_units, append_counted}
+use Rattle.vm_run.proofs.InterimOwn.{IsOwn, OfSome, of_some, act_own}
 use Rattle.vm_run.specs.declared.running.Mark.{Mark}
 use Rattle.vm_run.specs.declared.running.Mark.TheVariants.{Unmarked, Turned}
 use Rattle.vm_run.specs.Next.{State, start, when, or_else, goes_on, under, last_turned, next_turned, turn_of, next_mark, next_unit, after}

@@ -1,3 +1,4 @@
+pub mod InterimOwn
 pub mod Ranges
 pub mod Standing
 pub mod Lawfuls

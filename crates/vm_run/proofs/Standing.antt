@@ -11,7 +11,7 @@ use Rattle.page_model.specs.Space.{spot_at, address_in, put_at, put, puts}
 use Rattle.aout_image.specs.declared.Image.{Image}
 use Rattle.aout_image.specs.Image.{Loaded, image_of, segment_of, page_at, page_from}
 use Rattle.io_edge.specs.FileHolding.{NamedFile, bytes_at, file_range}
-use Rattle.flat_model.specs.Step.{lengthened}
+use Rattle.vm_run.specs.InterimStep.{lengthened}
 use Rattle.vm_run.specs.Resident.{Segment, Resident, is_filled, write_filled, resident_spot, resident_may_write, put_byte, resident_put_at, resident_put, IsWithin, MayPut, Wrote, SameByte, StandsFor, Stands, put_range, with_page, IsWhole, IsInside, IsWaiting, FillsFrom, Filled, longer, AllWhole}
 use Rattle.vm_run.proofs.Ranges.{put_range-below, put_range-inside, put_range-above, length-put_range}
 

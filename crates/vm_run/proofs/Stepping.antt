@@ -8,15 +8,16 @@ use Rattle.user_vax.specs.Program.{run}
 use Rattle.user_vax.specs.Effects.{Effect}
 use Rattle.user_vax.specs.declared.refused.Refused.{Refused as Refusal}
 use Rattle.user_vax.specs.declared.refused.Refused.TheVariants.{Below, Signal}
-use Rattle.page_model.specs.Flat.{Inputs, can_step}
+use Rattle.page_model.specs.Flat.{can_step}
+use Rattle.vm_run.specs.InterimInputs.{Inputs}
 use Rattle.page_model.specs.Space.{answers_of, puts}
-use Rattle.flat_model.specs.declared.calls.Reply.{Reply}
-use Rattle.flat_model.specs.declared.calls.Reply.TheVariants.{Exits, Fails, Writes}
-use Rattle.flat_model.specs.declared.calls.SystemCall.{SystemCall}
-use Rattle.flat_model.specs.Calls.{reply_of, or_fault, call_of}
+use Rattle.vm_run.specs.declared.interim_calls.Reply.{Reply}
+use Rattle.vm_run.specs.declared.interim_calls.Reply.TheVariants.{Exits, Fails, Writes}
+use Rattle.vm_run.specs.declared.interim_calls.SystemCall.{SystemCall}
+use Rattle.vm_run.specs.InterimCalls.{reply_of, or_fault, call_of}
 use Rattle.flat_model.specs.Instruction.{instruction_in}
-use Rattle.flat_model.specs.Step.{Step, ended, replied, call_entry, out_entries, answered, called, went_on, stepped, flat_step, pages_down_to, lengthened}
-use Rattle.flat_model.specs.Run.{Point, is_refused, step_at, due, due_of, first_if, act, behind, point_after}
+use Rattle.vm_run.specs.InterimStep.{Step, ended, replied, call_entry, out_entries, answered, called, went_on, stepped, flat_step, pages_down_to, lengthened}
+use Rattle.vm_run.specs.InterimRun.{Point, is_refused, step_at, due, due_of, first_if, act, behind, point_after}
 use Rattle.vm_run.specs.declared.running.Mark.{Mark}
 use Rattle.vm_run.specs.declared.running.Mark.TheVariants.{Turned}
 use Rattle.vm_run.specs.Next.{State, when, or_else, under, next_mark, next_unit}

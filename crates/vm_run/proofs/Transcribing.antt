@@ -5,7 +5,7 @@ use Rattle.io_edge.specs.Count.{Rose}
 use Rattle.io_edge.specs.FileHolding.{NamedFile, place_of, bytes_at}
 use Rattle.aout_image.specs.declared.Image.{Image}
 use Rattle.aout_image.specs.Image.{Loaded, image_of}
-use Rattle.page_model.specs.Flat.{Inputs}
+use Rattle.vm_run.specs.InterimInputs.{Inputs}
 use Rattle.vm_run.specs.declared.words.Numbers.{Numbers}
 use Rattle.vm_run.specs.Words.{command_of}
 use Rattle.vm_run.specs.declared.words.Command.{Command}

@@ -9,10 +9,11 @@ use Rattle.vm_facts.specs.declared.entry.Entry.TheVariants.{Turn}
 use Rattle.io_edge.specs.FileHolding.{NamedFile, bytes_at}
 use Rattle.io_edge.specs.Count.{Rose}
 use Rattle.aout_image.specs.Image.{image_of, file_length_of}
-use Rattle.page_model.specs.Flat.{Inputs, can_step}
-use Rattle.flat_model.specs.Journal.{append, appended}
-use Rattle.flat_model.specs.Run.{act}
-use Rattle.flat_model.proofs.Joins.{appended_append, append_counted}
+use Rattle.page_model.specs.Flat.{can_step}
+use Rattle.vm_run.specs.InterimInputs.{Inputs}
+use Rattle.page_model.specs.Journal.{append, appended}
+use Rattle.vm_run.specs.InterimRun.{act}
+use Rattle.page_model.proofs.Joins.{appended_append, append_counted}
 use Rattle.vm_run.specs.declared.running.Mark.{Mark}
 use Rattle.vm_run.specs.declared.running.Mark.TheVariants.{Unmarked, Turned}
 use Rattle.vm_run.specs.declared.running.Running.{Running}

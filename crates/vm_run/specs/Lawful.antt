@@ -1,9 +1,9 @@
 -- Lawful and finished journals.
 use Rattle.std.specs.Prelude.{◌≡◌, List, [], ◌∷◌, Some, None}
 use Rattle.vm_facts.specs.declared.entry.Entry.{Entry}
-use Rattle.page_model.specs.Flat.{Inputs}
-use Rattle.flat_model.specs.Journal.{appended, instructions_of}
-use Rattle.flat_model.specs.Run.{flat_run}
+use Rattle.vm_run.specs.InterimInputs.{Inputs}
+use Rattle.page_model.specs.Journal.{appended, instructions_of}
+use Rattle.vm_run.specs.InterimRun.{flat_run}
 use Rattle.vm_run.specs.Next.{State, start, next_unit, after}
 
 -- each of these units is the next one, and they lead from the first state to the second

@@ -1,3 +1,7 @@
+pub mod InterimInputs
+pub mod InterimCalls
+pub mod InterimStep
+pub mod InterimRun
 pub mod Resident
 pub mod ResidentLaws
 pub mod Next

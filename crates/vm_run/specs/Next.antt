@@ -4,8 +4,9 @@ use Rattle.std.specs.Prelude.{ℕ, ◌+◌, nat_lt, Bool, true, false, ◌&&◌,
 use Rattle.vm_facts.specs.Flat.{FlatState, Process}
 use Rattle.vm_facts.specs.declared.entry.Entry.{Entry}
 use Rattle.vm_facts.specs.declared.entry.Entry.TheVariants.{Turn, Ran, Out, Grew, Call, Sleeps, Ended}
-use Rattle.page_model.specs.Flat.{Inputs, can_step, is_ready}
-use Rattle.flat_model.specs.Run.{Point, start_point, act, point_after}
+use Rattle.page_model.specs.Flat.{can_step, is_ready}
+use Rattle.vm_run.specs.InterimInputs.{Inputs}
+use Rattle.vm_run.specs.InterimRun.{Point, start_point, act, point_after}
 use Rattle.vm_run.specs.declared.running.Mark.{Mark}
 use Rattle.vm_run.specs.declared.running.Mark.TheVariants.{Unmarked, Turned}
 

@@ -7,15 +7,16 @@ use Rattle.vm_facts.specs.declared.entry.Entry.TheVariants.{Ran, Out, Grew, Ende
 use Rattle.io_edge.specs.FileHolding.{NamedFile, bytes_at}
 use Rattle.aout_image.specs.Image.{IsSound, image_of, file_length_of}
 use Rattle.aout_image.specs.declared.Image.{Image}
-use Rattle.page_model.specs.Flat.{Inputs, start_page, start_regs}
-use Rattle.flat_model.specs.Journal.{append, appended, instructions_of}
+use Rattle.page_model.specs.Flat.{start_page, start_regs}
+use Rattle.vm_run.specs.InterimInputs.{Inputs}
+use Rattle.page_model.specs.Journal.{append, appended, instructions_of}
 use Rattle.page_model.specs.Space.{answers_of}
 use Rattle.user_vax.specs.Program.{run}
-use Rattle.flat_model.specs.declared.calls.Reply.{Reply}
-use Rattle.flat_model.specs.declared.calls.Reply.TheVariants.{Exits, Fails, Writes}
-use Rattle.flat_model.specs.Calls.{reply_of, or_fault, write_limit}
-use Rattle.flat_model.specs.declared.calls.SystemCall.{SystemCall}
-use Rattle.flat_model.specs.Step.{replied, call_entry}
+use Rattle.vm_run.specs.declared.interim_calls.Reply.{Reply}
+use Rattle.vm_run.specs.declared.interim_calls.Reply.TheVariants.{Exits, Fails, Writes}
+use Rattle.vm_run.specs.InterimCalls.{reply_of, or_fault, write_limit}
+use Rattle.vm_run.specs.declared.interim_calls.SystemCall.{SystemCall}
+use Rattle.vm_run.specs.InterimStep.{replied, call_entry}
 use Rattle.vm_run.specs.declared.running.Mark.{Mark}
 use Rattle.vm_run.specs.declared.running.Mark.TheVariants.{Unmarked, Turned}
 use Rattle.vm_facts.specs.declared.stop.NoMemory.{NoMemory}

@@ -6,7 +6,7 @@ use Rattle.io_edge.specs.FileHolding.{NamedFile, place_of, bytes_at}
 use Rattle.io_edge.specs.Written.{Appends, AppendsSome}
 use Rattle.aout_image.specs.declared.Image.{Image}
 use Rattle.aout_image.specs.Image.{image_of}
-use Rattle.page_model.specs.Flat.{Inputs}
+use Rattle.vm_run.specs.InterimInputs.{Inputs}
 use Rattle.run_text.specs.Text.{text_of}
 use Rattle.vm_run.specs.Next.{State}
 use Rattle.vm_run.specs.Lawful.{IsLawful, IsFinished}

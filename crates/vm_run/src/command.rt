@@ -1,7 +1,7 @@
 ghost use Rattle.std.specs.Prelude.{◌≡◌, ◌≤◌, ◌<◌, ℕ, false, List, [], ◌++◌, length, map, Option, Some, None, Ok, Err};
 ghost use Rattle.io_edge.specs.FileHolding.{NamedFile};
 ghost use Rattle.aout_image.specs.Image.{IsSound, file_length_of};
-ghost use Rattle.page_model.specs.Flat.{Inputs};
+ghost use Rattle.vm_run.specs.InterimInputs.{Inputs};
 ghost use Rattle.run_text.specs.Text.{text_of};
 ghost use Rattle.vm_run.specs.Words.{command_of};
 ghost use Rattle.vm_run.specs.Halted.{halted};

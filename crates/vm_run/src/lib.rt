@@ -3,6 +3,7 @@
 
 pub mod command;
 pub mod ending;
+pub mod interim_calls;
 pub mod journal;
 pub mod opening;
 pub mod replies;

@@ -1,8 +1,8 @@
 ghost use Rattle.std.specs.Prelude.{◌≡◌, ℕ, ◌+◌, ◌*◌, ◌^◌, ◌<◌, ◌≤◌, ◌==◌, ◌||◌, Bool, true, IfOk, Ok, min};
 ghost use Rattle.user_vax.specs.Program.{run};
-ghost use Rattle.flat_model.specs.Calls.{argument, bytes_from, exit_reply, write_arguments, write_reply, written_to, reply_of};
+ghost use Rattle.vm_run.specs.InterimCalls.{argument, bytes_from, exit_reply, write_arguments, write_reply, written_to, reply_of};
 
-use flat_model::{EBADF, Reply, SystemCall, WRITE_LIMIT};
+use crate::interim_calls::{EBADF, Reply, SystemCall, WRITE_LIMIT};
 use std::alloc::Global;
 use user_vax::{Refused, read_byte, read_long};
 use vm_facts::{Bytes, Memory, NoMemory, Regs};
@@ -11,7 +11,7 @@ use vm_facts::{Bytes, Memory, NoMemory, Regs};
 pub type Asked = Result<Reply, Refused>;
 
 /// What a call comes to, from the registers that its instruction left.
-#[tactic(auto, unfolding(flat_model::specs::Calls::reply_of))]
+#[tactic(auto, unfolding(crate::specs::InterimCalls::reply_of))]
 pub fn reply<M: Memory>(
     alloc: Global,
     memory: &M,
@@ -27,7 +27,7 @@ pub fn reply<M: Memory>(
 }
 
 // The call's argument of this number, counted from 1.
-#[tactic(auto, unfolding(flat_model::specs::Calls::argument))]
+#[tactic(auto, unfolding(crate::specs::InterimCalls::argument))]
 fn argument<M: Memory>(memory: &M, regs: Regs, number: u32) -> Result<u32, Refused>
     requires { number < 16 }
     ensures { result ≡ run (M.answers memory.now) (argument regs number) }
@@ -35,7 +35,7 @@ fn argument<M: Memory>(memory: &M, regs: Regs, number: u32) -> Result<u32, Refus
     read_long(memory, regs.r[12].wrapping_add(4 * number))
 }
 
-#[tactic(auto, using(user_vax::proofs::Runs::run_bind), unfolding(flat_model::specs::Calls::exit_reply))]
+#[tactic(auto, using(user_vax::proofs::Runs::run_bind), unfolding(crate::specs::InterimCalls::exit_reply))]
 fn exit_reply<M: Memory>(memory: &M, regs: Regs) -> Asked
     ensures { result ≡ run (M.answers memory.now) (exit_reply regs) }
 {
@@ -43,7 +43,7 @@ fn exit_reply<M: Memory>(memory: &M, regs: Regs) -> Asked
     Ok(Reply::Exits(code % 256 * 256))
 }
 
-#[tactic(auto, using(user_vax::proofs::Runs::run_bind), unfolding(flat_model::specs::Calls::write_arguments))]
+#[tactic(auto, using(user_vax::proofs::Runs::run_bind), unfolding(crate::specs::InterimCalls::write_arguments))]
 fn write_arguments<M: Memory>(memory: &M, regs: Regs) -> Result<(u32, u32, u32), Refused>
     ensures { result ≡ run (M.answers memory.now) (write_arguments regs) }
 {
@@ -53,7 +53,7 @@ fn write_arguments<M: Memory>(memory: &M, regs: Regs) -> Result<(u32, u32, u32),
     Ok((file, buffer, count))
 }
 
-#[tactic(auto, using(user_vax::proofs::Runs::run_bind), unfolding(flat_model::specs::Calls::write_reply))]
+#[tactic(auto, using(user_vax::proofs::Runs::run_bind), unfolding(crate::specs::InterimCalls::write_reply))]
 fn write_reply<M: Memory>(alloc: Global, memory: &M, regs: Regs) -> Result<Asked, NoMemory>
     ensures { IfOk result (λ asked. asked ≡ run (M.answers memory.now) (write_reply regs)) }
 {
@@ -63,7 +63,7 @@ fn write_reply<M: Memory>(alloc: Global, memory: &M, regs: Regs) -> Result<Asked
     }
 }
 
-#[tactic(auto, using(user_vax::proofs::Runs::run_bind), unfolding(flat_model::specs::Calls::written_to))]
+#[tactic(auto, using(user_vax::proofs::Runs::run_bind), unfolding(crate::specs::InterimCalls::written_to))]
 fn write_to<M: Memory>(
     alloc: Global,
     memory: &M,

@@ -1,17 +1,17 @@
 ghost use Rattle.std.specs.Prelude.{◌≡◌, ◌≢◌, ℕ, ◌+◌, ◌-◌, ◌*◌, ◌/◌, ◌^◌, ◌<◌, ◌≤◌, nat_lt, ◌&&◌, Bool, true, false, List, [], ◌∷◌, ◌++◌, length, Option, Some, None, Ok, OnOk, OnErr, IfOk};
-ghost use Rattle.flat_model.specs.Journal.{append, instructions_of};
+ghost use Rattle.page_model.specs.Journal.{append, instructions_of};
 ghost use Rattle.io_edge.specs.Count.{Rose};
-ghost use Rattle.flat_model.specs.Calls.{write_limit, call_of};
-ghost use Rattle.flat_model.specs.Step.{replied, call_entry};
+ghost use Rattle.vm_run.specs.InterimCalls.{write_limit, call_of};
+ghost use Rattle.vm_run.specs.InterimStep.{replied, call_entry};
 ghost use Rattle.vm_run.specs.Resident.{IsWaiting, resident_spot};
 ghost use Rattle.vm_run.specs.Running.{HasFile, BroughtIn, Advanced, Stopped, TurnSoFar, RunSoFar, RanToEnd, Asked, Called, IsFew, HaltsSo, noted_run, left};
 ghost use Rattle.vm_run.specs.Running.{IsFit, is_on, ran_run, ended_run, grown_run, answered_run, wrote_run};
 
+use crate::interim_calls::{EFAULT, Reply, SystemCall};
 use crate::journal::Journal;
 use crate::replies::reply;
 use crate::resident::Resident;
 use aout_image::Image;
-use flat_model::{EFAULT, Reply, SystemCall};
 use io_edge::{Files, Moved};
 use page_model::{PAGE, STACK_TOP};
 use std::alloc::Global;

@@ -4,7 +4,7 @@ use Rattle.io_edge.specs.FileHolding.{NamedFile}
 use Rattle.user_vax.specs.declared.refused.Refused.{Refused}
 use Rattle.user_vax.specs.declared.refused.Refused.TheVariants.{Below, Signal}
 use Rattle.user_vax.specs.Program.{run}
-use Rattle.flat_model.specs.Calls.{reply_of}
+use Rattle.vm_run.specs.InterimCalls.{reply_of}
 use Rattle.vm_run.specs.Resident.{resident_answers}
 use Rattle.vm_run.specs.Running.{Asked}
 use Rattle.vm_run.proofs.Covering.{missed_waits}

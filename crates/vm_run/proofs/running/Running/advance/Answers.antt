@@ -3,7 +3,7 @@ use Rattle.std.proofs.lemmas.Result.{on_ok_weaker}
 use Rattle.user_vax.specs.declared.stepping.Stepped.TheVariants as answers
 use Rattle.vm_run.specs.declared.running.Running.{Running}
 use Rattle.std.proofs.lemmas.Int.{to_z-of_z}
-use Rattle.flat_model.specs.Calls.{call_of}
+use Rattle.vm_run.specs.InterimCalls.{call_of}
 use Rattle.vm_run.specs.Running.{Advanced, Called}
 use Rattle.vm_run.proofs.Halting.{halts_ok}
 use Rattle.vm_run.proofs.Advancing.{took_fit, ran_advanced, signal_advanced, Grows, grows, below_advanced, missed_waiting, miss_advanced, call_advanced}

@@ -1,29 +1,31 @@
--- Units, and the journal that they make: neighbouring `Ran` of one process are joined.
+-- Units, and the journal that they make: neighbouring `Ran` of one process are joined, and neighbouring `Hands`.
 use Rattle.std.specs.Prelude.{◌≡◌, ℕ, zero, suc, ◌+◌, ◌==◌, Bool, true, false, List, [], ◌∷◌, ◌++◌}
 use Rattle.vm_facts.specs.declared.entry.Entry.{Entry}
-use Rattle.vm_facts.specs.declared.entry.Entry.TheVariants.{Ran, Call, Ended}
+use Rattle.vm_facts.specs.declared.entry.Entry.TheVariants.{Ran, Call, Ended, Hands}
 
 -- a last `Ran` and so many more instructions, of the same process or not
 abbrev pub join_by : Bool → ℕ → ℕ → ℕ → ℕ → List Entry
 join_by true p m q n = Ran p (m + n) ∷ []
 join_by false p m q n = Ran p m ∷ Ran q n ∷ []
 
--- a last entry and so many more instructions of a process
-abbrev pub join : Entry → ℕ → ℕ → List Entry
-join (Ran p m) q n = join_by (p == q) p m q n
-join e q n = e ∷ Ran q n ∷ []
+-- a last entry and one that joins a last one of its kind
+abbrev pub join : Entry → Entry → List Entry
+join (Ran p m) (Ran q n) = join_by (p == q) p m q n
+join (Hands m) (Hands n) = Hands (m + n) ∷ []
+join e u = e ∷ u ∷ []
 
-abbrev pub append_after : Entry → List Entry → ℕ → ℕ → List Entry
-append_after e [] q n = join e q n
-append_after e (f ∷ journal) q n = e ∷ append_after f journal q n
+abbrev pub append_after : Entry → List Entry → Entry → List Entry
+append_after e [] u = join e u
+append_after e (f ∷ journal) u = e ∷ append_after f journal u
 
-abbrev pub append_ran : List Entry → ℕ → ℕ → List Entry
-append_ran [] q n = Ran q n ∷ []
-append_ran (e ∷ journal) q n = append_after e journal q n
+abbrev pub append_joined : List Entry → Entry → List Entry
+append_joined [] u = u ∷ []
+append_joined (e ∷ journal) u = append_after e journal u
 
 -- a journal and one more unit
 abbrev pub append : List Entry → Entry → List Entry
-append journal (Ran q n) = append_ran journal q n
+append journal (Ran q n) = append_joined journal (Ran q n)
+append journal (Hands n) = append_joined journal (Hands n)
 append journal e = journal ++ e ∷ []
 
 -- a journal and further units, in order
@@ -31,16 +33,17 @@ abbrev pub appended : List Entry → List Entry → List Entry
 appended journal [] = journal
 appended journal (u ∷ us) = appended (append journal u) us
 
--- so many times one instruction, and then these
-abbrev pub ones : ℕ → ℕ → List Entry → List Entry
-ones p zero us = us
-ones p (suc n) us = Ran p 1 ∷ ones p n us
+-- so many times one unit, and then these
+abbrev pub repeated : Entry → ℕ → List Entry → List Entry
+repeated u zero us = us
+repeated u (suc n) us = u ∷ repeated u n us
 
 abbrev pub units_with : Entry → List Entry → List Entry
-units_with (Ran p n) us = ones p n us
+units_with (Ran p n) us = repeated (Ran p 1) n us
+units_with (Hands n) us = repeated (Hands 1) n us
 units_with e us = e ∷ us
 
--- the units of a journal, in order: each entry, or so many times one instruction
+-- the units of a journal, in order: each entry, or so many times one instruction or one move of the hands
 abbrev pub units_of : List Entry → List Entry
 units_of [] = []
 units_of (e ∷ journal) = units_with e (units_of journal)
@@ -59,11 +62,13 @@ instructions_of (e ∷ journal) = counted e + instructions_of journal
 -- an entry that is never joined
 abbrev pub IsPlain : Entry → Type 0
 IsPlain (Ran p n) = ⊥
+IsPlain (Hands n) = ⊥
 IsPlain e = Unit {0}
 
--- one entry, or one count of a `Ran`
+-- one entry, or one count of a `Ran` or of `Hands`
 abbrev pub IsUnit : Entry → Type 0
 IsUnit (Ran p n) = n ≡ 1
+IsUnit (Hands n) = n ≡ 1
 IsUnit e = Unit {0}
 
 abbrev pub AllUnits : List Entry → Type 0

@@ -13,14 +13,14 @@ use Rattle.user_vax.specs.declared.refused.Refused.{Refused as Refusal}
 use Rattle.user_vax.specs.declared.refused.Refused.TheVariants.{Miss, Below, Signal}
 use Rattle.page_model.specs.Flat.{process_of}
 use Rattle.page_model.specs.Space.{answers_of, puts}
-use Rattle.flat_model.specs.declared.calls.SystemCall.{SystemCall}
+use Rattle.vm_run.specs.declared.interim_calls.SystemCall.{SystemCall}
 use Rattle.flat_model.specs.Instruction.{instruction_in}
-use Rattle.flat_model.specs.declared.calls.Reply.{Reply}
-use Rattle.flat_model.specs.declared.calls.Reply.TheVariants.{Exits, Fails, Writes}
-use Rattle.flat_model.specs.Calls.{number_of, reply_of, or_fault, call_of}
-use Rattle.flat_model.specs.Step.{ended, answered, called, went_on, stepped, step_holding, step_process, flat_step, out_entries, call_entry, replied, pages_down_to}
-use Rattle.flat_model.specs.Journal.{IsUnit}
-use Rattle.flat_model.specs.Run.{Point, step_at, is_refused, due, due_of, first_if, act, same_bytes, same_carry, same_entry, process_of_entry}
+use Rattle.vm_run.specs.declared.interim_calls.Reply.{Reply}
+use Rattle.vm_run.specs.declared.interim_calls.Reply.TheVariants.{Exits, Fails, Writes}
+use Rattle.vm_run.specs.InterimCalls.{number_of, reply_of, or_fault, call_of}
+use Rattle.vm_run.specs.InterimStep.{ended, answered, called, went_on, stepped, step_holding, step_process, flat_step, out_entries, call_entry, replied, pages_down_to}
+use Rattle.page_model.specs.Journal.{IsUnit}
+use Rattle.vm_run.specs.InterimRun.{Point, step_at, is_refused, due, due_of, first_if, act, same_bytes, same_carry, same_entry, process_of_entry}
 
 -- a unit of a process, which is the same as itself
 pub record IsOwn (pid : ℕ) (u : Entry) : Type 0 where
@@ -83,7 +83,7 @@ stepped_own F p s false (Err (Signal number)) = ended_own F p number
 
 holding_own : (F : FlatState) (p : Process) (refused : Bool) (h : Holding) → AllOwn p.pid (step_holding F p refused h).entries
 holding_own F p refused (Holds s) = stepped_own F p s refused (instruction_in s p.regs)
-holding_own F p refused (Lends s child) = tt
+holding_own F p refused (Lends sid child) = tt
 holding_own F p refused (Zombie status) = tt
 
 -- what is found has the number that was looked for

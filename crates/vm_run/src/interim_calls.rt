@@ -1,9 +1,9 @@
 ghost use Rattle.std.specs.Prelude.{◌≡◌, ℕ};
-ghost use Rattle.flat_model.specs.Calls.{call_of, number_of};
+ghost use Rattle.vm_run.specs.InterimCalls.{call_of, number_of};
 
 use vm_facts::Bytes;
 
-/// The system calls that are built (the 4.3BSD book has their meaning, this project's profile their
+/// The system calls that the interim machine has (the 4.3BSD book has their meaning, this project's profile their
 /// numbers).
 #[derive(Clone, Copy, Debug, PartialEq, Eq, Drop)]
 pub enum SystemCall {

@@ -1,4 +1,4 @@
--- One step of one process of the flat machine: its entries, and the state after it.
+-- One step of the one process of the interim machine: its entries, and the state after it.
 use Rattle.std.specs.Prelude.{ℕ, ◌+◌, ◌-◌, ◌*◌, ◌/◌, ◌==◌, Bool, true, false, not, List, [], ◌∷◌, ◌++◌, length, map, filter, replicate, Option, Some, None, Result, Ok, Err, ℤ, if◌then◌else◌}
 use Rattle.vm_facts.specs.Flat.{Space, Holding, Holds, Lends, Zombie, Process, FlatState}
 use Rattle.vm_facts.specs.declared.regs.Regs.{Regs}
@@ -12,10 +12,10 @@ use Rattle.user_vax.specs.declared.refused.Refused.TheVariants.{Miss, Below, Sig
 use Rattle.page_model.specs.Flat.{process_of}
 use Rattle.page_model.specs.Space.{stack_top, answers_of, puts}
 use Rattle.flat_model.specs.Instruction.{instruction_in}
-use Rattle.flat_model.specs.declared.calls.Reply.{Reply}
-use Rattle.flat_model.specs.declared.calls.Reply.TheVariants.{Exits, Fails, Writes}
-use Rattle.flat_model.specs.Calls.{number_of, reply_of, or_fault, call_of}
-use Rattle.flat_model.specs.declared.calls.SystemCall.{SystemCall}
+use Rattle.vm_run.specs.declared.interim_calls.Reply.{Reply}
+use Rattle.vm_run.specs.declared.interim_calls.Reply.TheVariants.{Exits, Fails, Writes}
+use Rattle.vm_run.specs.InterimCalls.{number_of, reply_of, or_fault, call_of}
+use Rattle.vm_run.specs.declared.interim_calls.SystemCall.{SystemCall}
 
 pub record Step : Type 0 where
   pub entries : List Entry
@@ -103,7 +103,7 @@ stepped F p s refused (Err (Signal number)) = ended F p number
 
 abbrev pub step_holding : FlatState → Process → Bool → Holding → Step
 step_holding F p refused (Holds s) = stepped F p s refused (instruction_in s p.regs)
-step_holding F p refused (Lends s child) = record { entries = []; after = F }
+step_holding F p refused (Lends sid child) = record { entries = []; after = F }
 step_holding F p refused (Zombie status) = record { entries = []; after = F }
 
 abbrev pub step_process : FlatState → Bool → Option Process → Step

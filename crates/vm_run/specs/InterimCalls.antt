@@ -1,13 +1,13 @@
--- The system calls, as computations over what a memory answers.
+-- The two system calls of the interim machine, as computations over what a memory answers.
 use Rattle.std.specs.Prelude.{ℕ, zero, suc, ◌*◌, ◌%◌, ◌==◌, ◌||◌, Bool, true, false, min, List, [], ◌∷◌, ℤ, pos, negsuc, Option, Some, None, Result, Ok, Err, if◌then◌else◌}
 use Rattle.vm_facts.specs.declared.regs.Regs.{Regs}
 use Rattle.user_vax.specs.Program.{Program, Gives, Reads, ◌>>=◌}
 use Rattle.user_vax.specs.Operands.{register, past, number_at}
 use Rattle.user_vax.specs.declared.refused.Refused.{Refused}
-use Rattle.flat_model.specs.declared.calls.Reply.{Reply}
-use Rattle.flat_model.specs.declared.calls.Reply.TheVariants.{Exits, Fails, Writes}
-use Rattle.flat_model.specs.declared.calls.SystemCall.{SystemCall}
-use Rattle.flat_model.specs.declared.calls.SystemCall.TheVariants.{Exit, Write}
+use Rattle.vm_run.specs.declared.interim_calls.Reply.{Reply}
+use Rattle.vm_run.specs.declared.interim_calls.Reply.TheVariants.{Exits, Fails, Writes}
+use Rattle.vm_run.specs.declared.interim_calls.SystemCall.{SystemCall}
+use Rattle.vm_run.specs.declared.interim_calls.SystemCall.TheVariants.{Exit, Write}
 
 -- EBADF, no such file is open, and EFAULT, an address outside the space
 abbrev pub bad_file : ℕ
