@@ -7,3 +7,9 @@ pub mod PartLaws
 pub mod Steps
 pub mod Joins
 pub mod Owns
+pub mod RunLaws
+pub mod OwnsRuns
+pub mod OwnsHands
+pub mod OwnsServe
+pub mod OwnsSpaces
+pub mod OwnsChanges

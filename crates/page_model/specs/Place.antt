@@ -1,5 +1,5 @@
 -- What each entry of the journal does to a placement.
-use Rattle.std.specs.Prelude.{ℕ, zero, suc, ◌+◌, ◌-◌, ◌==◌, Bool, true, false, cond, not, List, [], ◌∷◌, ◌++◌, length, map, filter, take, replicate, Option, Some, None}
+use Rattle.std.specs.Prelude.{ℕ, zero, suc, ◌+◌, ◌-◌, ◌==◌, Bool, true, false, cond, not, ◌||◌, List, [], ◌∷◌, ◌++◌, length, map, filter, take, replicate, Option, Some, None}
 use Rattle.vm_facts.specs.declared.page.Page.{Page}
 use Rattle.vm_facts.specs.declared.page.Page.TheVariants.{Data, Stack, Text}
 use Rattle.vm_facts.specs.declared.page.PageState.{PageState}
@@ -7,6 +7,10 @@ use Rattle.vm_facts.specs.declared.page.PageState.TheVariants.{Unfilled, Valid, 
 use Rattle.vm_facts.specs.declared.entry.Entry.{Entry}
 use Rattle.vm_facts.specs.declared.entry.Entry.TheVariants as entries
 use Rattle.aout_image.specs.declared.Image.{Image}
+use Rattle.vm_facts.specs.Flat.{Holding, Holds, Lends, Zombie, Process, FlatState}
+use Rattle.page_model.specs.declared.change.Change.{Change}
+use Rattle.page_model.specs.declared.change.Change.TheVariants.{Keep, Resize, Fork, Lend, Exec, Reap, Sleep, End}
+use Rattle.page_model.specs.Flat.{NamedImage, image_numbered, process_of}
 use Rattle.page_model.specs.Pages.{Slot, Zeros, SpacePages, TextPages, changed, same_page, pages_from, number_of}
 use Rattle.page_model.specs.Placement.{Placement, Transfer, Errand, Reads, Writes, Residence, Due, Start, CopyOf, due_page, space_number, slots_of, state_of, is_dirty, sharers, image_of, unfilled, new_pages}
 use Rattle.page_model.specs.Moves.{fill, get_run, launch_run, reclaim, retire, done, touch_all, drop_all, leave_all}
@@ -62,7 +66,9 @@ stack_from sid lo n = pages_from (Stack sid lo) lo n
 
 -- a segment of so many pages: pages at its end are cut off, or unfilled ones with zeros are added
 abbrev pub sized : ℕ → List Slot → List Slot
-sized n xs = take n xs ++ replicate (n - length xs) (unfilled Zeros)
+sized zero xs = []
+sized (suc n) [] = unfilled Zeros ∷ sized n []
+sized (suc n) (x ∷ xs) = x ∷ sized n xs
 
 -- other sizes for a space; the pages that go were dropped before
 abbrev pub cut_space : Placement → ℕ → ℕ → ℕ → Placement
@@ -143,3 +149,51 @@ begin_residence p pid at = record p { residents = p.residents ++ record { pid = 
 
 abbrev pub end_residence : Placement → ℕ → Placement
 end_residence p pid = record p { residents = filter (λ (r : Residence). not (r.pid == pid)) p.residents }
+
+-- The flat entries: what a change of a process does to the placement.
+
+abbrev pub space_of_holding : Holding → ℕ
+space_of_holding (Holds s) = s.sid
+space_of_holding (Lends sid child) = sid
+space_of_holding (Zombie status) = 0
+
+abbrev pub space_of_process : Option Process → ℕ
+space_of_process None = 0
+space_of_process (Some q) = space_of_holding q.holding
+
+abbrev pub lends_to : ℕ → Holding → Bool
+lends_to pid (Holds s) = false
+lends_to pid (Lends sid child) = child == pid
+lends_to pid (Zombie status) = false
+
+-- somebody lent the process its space
+abbrev pub is_borrower : List Process → ℕ → Bool
+is_borrower [] pid = false
+is_borrower (q ∷ qs) pid = lends_to pid q.holding || is_borrower qs pid
+
+-- a space that isn't borrowed is given up
+abbrev pub give_up_unless : Bool → Placement → ℕ → Placement
+give_up_unless true p sid = p
+give_up_unless false p sid = give_up p sid
+
+abbrev pub enter_image : Placement → ℕ → ℕ → Option NamedImage → Placement
+enter_image p sid image None = p
+enter_image p sid image (Some named) = enter_space p sid image named.image.facts
+
+-- by the process, its space, whether it borrowed that, the number of the next space, and the place in the journal
+abbrev pub place_change : List NamedImage → Placement → ℕ → ℕ → Bool → ℕ → ℕ → Change → Placement
+place_change images p pid sid borrowed next_sid at Keep = p
+place_change images p pid sid borrowed next_sid at (Resize data_pages stack_pages) = resize p sid data_pages stack_pages
+place_change images p pid sid borrowed next_sid at (Fork child) = begin_residence (fork_space p sid next_sid) child at
+place_change images p pid sid borrowed next_sid at (Lend child) = begin_residence p child at
+place_change images p pid sid borrowed next_sid at (Exec image top) =
+    give_up_unless borrowed (enter_image p next_sid image (image_numbered images image)) sid
+place_change images p pid sid borrowed next_sid at (Reap child) = p
+place_change images p pid sid borrowed next_sid at Sleep = p
+place_change images p pid sid borrowed next_sid at (End status) = end_residence (give_up_unless borrowed p sid) pid
+
+-- The placement after an entry of a process with its change: the pages that were written are dirty, and the change is
+-- made. The flat state is the one before, and the place that of the entry in the journal.
+abbrev pub place_step : List NamedImage → FlatState → ℕ → ℕ → List Page → Change → Placement → Placement
+place_step images flat pid at written change p =
+    place_change images (touch_all p written) pid (space_of_process (process_of flat pid)) (is_borrower flat.processes pid) flat.next_sid at change
