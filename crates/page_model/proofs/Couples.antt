@@ -1,11 +1,11 @@
 -- A step that changes one page and one frame keeps the flat memory, where it does so at that page.
-use Rattle.std.proofs.Common.{◌≡◌, ◌≢◌, ◌⊎◌, inl, inr, ℕ, ◌+◌, ◌<◌, Bool, true, false, List, [], ◌∷◌, ◌++◌, length, Option, Some, None, refl, sym, ap, ◌∙◌, subst, arith}
+use Rattle.std.proofs.Common.{◌≡◌, ◌≢◌, ◌⊎◌, inl, inr, ℕ, List, [], Option, Some, None, refl, sym, ap, ◌∙◌, subst, arith}
 use Rattle.vm_facts.specs.declared.page.Page.{Page}
 use Rattle.vm_facts.specs.declared.page.Page.TheVariants.{Text}
 use Rattle.vm_facts.specs.declared.page.PageState.{PageState}
 use Rattle.vm_facts.specs.declared.page.PageState.TheVariants.{Unfilled, Valid, Invalid, Coming, Going, OnSwap}
 use Rattle.page_model.specs.Pages.{Slot, Filling, Zeros, OfImage, frame_of, is_dirty_by}
-use Rattle.page_model.specs.Placement.{Placement, Errand, Writes, Reads, Source, FromSwap, FromFile, Due, Start, CopyOf, filling_by, slot_of, state_of, mark_of, is_dirty, filling_of, page_of, errand_at, due_at, parts_of, IsThere}
+use Rattle.page_model.specs.Placement.{Placement, Errand, Writes, Reads, FromSwap, FromFile, Due, Start, CopyOf, filling_by, state_of, is_dirty, filling_of, page_of, errand_at, due_at, parts_of, IsThere}
 use Rattle.page_model.specs.Ownership.{OwnsFrames}
 use Rattle.page_model.specs.Coupled.{Bytes, bytes_in, IsInFrame, KeepsUnfilled, KeepsComing, KeepsBy, Keeps, CouplesPages, SamePage}
 use Rattle.page_model.proofs.PageLaws.{page_cases}

@@ -13,3 +13,5 @@ pub mod OwnsHands
 pub mod OwnsServe
 pub mod OwnsSpaces
 pub mod OwnsChanges
+pub mod OwnsEntries
+pub mod Locks

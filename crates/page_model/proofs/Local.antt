@@ -1,11 +1,10 @@
 -- A step that changes one page and one frame.
-use Rattle.std.proofs.Common.{◌≡◌, ◌≢◌, ◌⊎◌, inl, inr, ℕ, ◌+◌, ◌-◌, ◌<◌, ◌≤◌, Bool, true, false, List, [], ◌∷◌, ◌++◌, length, Option, Some, None, refl, sym, ap, ◌∙◌, subst, arith}
+use Rattle.std.proofs.Common.{◌≡◌, ◌≢◌, ◌⊎◌, inl, inr, ℕ, ◌+◌, ◌<◌, true, length, Option, Some, None, refl, sym, ap, ◌∙◌, subst, arith}
 use Rattle.std.proofs.lemmas.Bool.{cases_eq}
 use Rattle.vm_facts.specs.declared.page.Page.{Page}
-use Rattle.vm_facts.specs.declared.page.PageState.{PageState}
 use Rattle.page_model.specs.Pages.{Slot, frame_of}
 use Rattle.page_model.specs.Frames.{times}
-use Rattle.page_model.specs.Placement.{Placement, Moving, slots_of, slot_of, state_of, mark_of, page_of, IsFrame, parts_of, flying, moving_state}
+use Rattle.page_model.specs.Placement.{Placement, slots_of, slot_of, state_of, mark_of, page_of, IsFrame, parts_of, flying}
 use Rattle.page_model.specs.Ownership.{OwnsFrames, Each, IsMoving, IsListed, is_marked_dirty, may_be_dirty, seats, seated, seated_of}
 use Rattle.page_model.proofs.PageLaws.{page_cases}
 

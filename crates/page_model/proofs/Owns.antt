@@ -1,20 +1,20 @@
 -- Each move of one page keeps the ownership of frames.
-use Rattle.std.proofs.Common.{◌≡◌, ◌≢◌, ◌⊎◌, inl, inr, ℕ, zero, suc, ◌+◌, ◌-◌, ◌<◌, ◌≤◌, Bool, true, false, List, [], ◌∷◌, ◌++◌, length, Option, Some, None, refl, sym, ap, ◌∙◌, subst, arith}
+use Rattle.std.proofs.Common.{◌≡◌, inl, inr, ℕ, ◌+◌, ◌-◌, ◌<◌, Bool, true, false, List, [], ◌∷◌, ◌++◌, Option, Some, None, refl, sym, ap, ◌∙◌, subst, arith}
 use Rattle.vm_facts.specs.declared.page.Page.{Page}
 use Rattle.vm_facts.specs.declared.page.Page.TheVariants.{Data, Stack, Text}
 use Rattle.vm_facts.specs.declared.page.PageState.{PageState}
 use Rattle.vm_facts.specs.declared.page.PageState.TheVariants.{Unfilled, Valid, Invalid, Coming, Going, OnSwap}
 use Rattle.page_model.specs.Pages.{Slot, frame_of, written_mark, same_page}
 use Rattle.page_model.specs.Frames.{times, without}
-use Rattle.page_model.specs.Placement.{Placement, Transfer, Part, Moving, Errand, Writes, Reads, Source, FromSwap, FromFile, moving, slot_of, state_of, mark_of, page_of, IsThere, parts_of, flying, moving_state, put}
-use Rattle.page_model.specs.Moves.{evict, enter, turn, fill, fill_at, begin, join_last, get_one, get_at, launch, launch_to, land, land_read, arrived_mark, reclaim, reclaim_to, retire, retire_to, touch, touch_to, drop_at, drop_page, leave_by, leave_page, listed, listed_of}
+use Rattle.page_model.specs.Placement.{Placement, Transfer, Errand, Writes, Reads, Source, moving, state_of, mark_of, page_of, IsThere, parts_of, flying, moving_state, put}
+use Rattle.page_model.specs.Moves.{evict, fill, fill_at, join_last, get_one, get_at, launch, launch_to, reclaim, reclaim_to, retire, retire_to, touch, touch_to}
 use Rattle.page_model.specs.Hands.{expire, expire_of, expire_if, expire_to}
-use Rattle.page_model.specs.Ownership.{OwnsFrames, Each, IsMoving, IsListed, is_marked_dirty, may_be_dirty, seats, seated, seated_of}
-use Rattle.page_model.proofs.FrameLaws.{times-append, times_one, times_one_other, times_head, times_tail, times_without, times_without_other}
-use Rattle.page_model.proofs.PageLaws.{put_state, put_mark, put_other, put_length}
-use Rattle.page_model.proofs.PartLaws.{IsOpen, parts_begin, parts_join, times_joined, all_push, all_absent}
-use Rattle.page_model.proofs.Local.{Local, Here, Joined, local_owner, some_is, none_some}
-use Rattle.page_model.proofs.Steps.{Turns, turn_owner, turn_local, Enters, enter_owner, once_at, page_in, frame_in, frameless_clean, frameless_rest, moves_kept, put_other_state, frame_of_moving, AtRest, evict_owner, evict_page, evict_other, EvictRest, evict_rest, drop_owner, not_flying}
+use Rattle.page_model.specs.Ownership.{OwnsFrames, Each, IsMoving, is_marked_dirty, seats}
+use Rattle.page_model.specs.Conditions.{AtRest, CanEnter, IsSeated}
+use Rattle.page_model.proofs.FrameLaws.{times-append, times_one, times_one_other, times_head, times_without, times_without_other}
+use Rattle.page_model.proofs.PageLaws.{put_state}
+use Rattle.page_model.proofs.PartLaws.{IsOpen, parts_join, times_joined, all_push}
+use Rattle.page_model.proofs.Steps.{Turns, turn_owner, Enters, enter_owner, once_at, page_in, frameless_clean, frameless_rest, moves_kept, put_other_state, evict_owner, evict_page, evict_other, EvictRest, evict_rest}
 
 -- a page at rest moves on, with the same transfers
 pub rest_moves : (p : Placement) (v : Page) (s : PageState) (m : Bool) → OwnsFrames p → AtRest (state_of p v) → Each (IsMoving (put p v s m)) (parts_of p.transfers)
@@ -27,11 +27,6 @@ clean_is d e h = absurd (let k : true ≡ false = sym h ∙ e in cc)
 
 some_free : (p : Placement) (f : ℕ) (rest : List ℕ) → p.free ≡ f ∷ rest → 0 < times f p.free
 some_free p f rest e = let h : times f p.free ≡ 1 + times f rest = ap (times f) e ∙ times_head f rest in omega arith
-
--- what a page needs to take a frame
-pub record CanEnter (p : Placement) (v : Page) : Type 0 where
-  pub there : IsThere p v
-  pub frameless : frame_of (state_of p v) ≡ None
 
 entered_there : (p : Placement) (v : Page) (f : ℕ) → CanEnter p v → IsThere (evict p f) v
 entered_there p v f c = let e : EvictRest p (evict p f) = evict_rest p f in let h = e.sizes v in let k = c.there in omega arith
@@ -174,10 +169,6 @@ expire_owner p locked o = go (page_of p p.front)
     go : (h : Option Page) → OwnsFrames (expire_of p locked h)
     go None = o
     go (Some v) = at v (Rattle.page_model.specs.Pages.is_among v locked)
-
--- a page that holds its frame off the free list
-pub record IsSeated (p : Placement) (v : Page) (f : ℕ) : Type 0 where
-  pub state : (state_of p v ≡ Valid f) ⊎ ((state_of p v ≡ Invalid f) × (times f p.free ≡ 0))
 
 seated_frame : (p : Placement) (v : Page) (f : ℕ) → IsSeated p v f → frame_of (state_of p v) ≡ Some f
 seated_frame p v f c = elim c.state [

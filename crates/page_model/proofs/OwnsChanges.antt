@@ -7,21 +7,16 @@ use Rattle.vm_facts.specs.declared.page.Page.{Page}
 use Rattle.vm_facts.specs.declared.page.Page.TheVariants.{Data, Stack, Text}
 use Rattle.vm_facts.specs.declared.page.PageState.{PageState}
 use Rattle.vm_facts.specs.declared.page.PageState.TheVariants.{Unfilled, Valid, Invalid, Coming, Going, OnSwap}
-use Rattle.vm_facts.specs.Flat.{FlatState}
 use Rattle.aout_image.specs.declared.Image.{Image}
-use Rattle.page_model.specs.declared.change.Change.{Change}
-use Rattle.page_model.specs.declared.change.Change.TheVariants.{Keep, Resize, Fork, Lend, Exec, Reap, Sleep, End}
-use Rattle.page_model.specs.Flat.{NamedImage, image_numbered, process_of}
-use Rattle.page_model.specs.Pages.{Slot, Filling, Zeros, no_slot, SpacePages, numbered, changed, data_in, stack_in, frame_of, number_of, beside, pages_from}
-use Rattle.page_model.specs.Placement.{Placement, Transfer, Due, space_number, slots_in, slots_of, slot_of, state_of, mark_of, image_of, sharers, unfilled, unfilled_data, data_filling, new_pages}
-use Rattle.page_model.specs.Moves.{drop_all, leave_all, touch, touch_all}
-use Rattle.page_model.specs.Place.{sized, cut_space, resize, data_count, stack_count, data_from, stack_from, child_slot, child_slot_by, fork_space, enter_space, remove_space, pages_of_space, pages_of_text, leave_text, leave_text_by, give_up, give_up_unless, begin_residence, end_residence, enter_image, place_change, place_step, is_borrower, space_of_process}
+use Rattle.page_model.specs.Pages.{Slot, no_slot, SpacePages, numbered, changed, data_in, stack_in, number_of, beside, pages_from}
+use Rattle.page_model.specs.Placement.{Placement, Due, space_number, slots_of, slot_of, state_of, image_of, sharers, unfilled_data, new_pages}
+use Rattle.page_model.specs.Moves.{drop_all, touch, touch_all}
+use Rattle.page_model.specs.Place.{sized, cut_space, resize, data_count, stack_count, data_from, stack_from, child_slot, child_slot_by, fork_space, enter_space, remove_space, pages_of_space, pages_of_text, leave_text, leave_text_by, give_up, begin_residence, end_residence}
 use Rattle.page_model.specs.Ownership.{OwnsFrames, is_marked_dirty}
+use Rattle.page_model.specs.Conditions.{EachPage, AtRest, IsNew}
 use Rattle.page_model.proofs.PageLaws.{mapped, changed_same, changed_other}
-use Rattle.page_model.proofs.Steps.{AtRest}
 use Rattle.page_model.proofs.Owns.{touch_owner}
-use Rattle.page_model.proofs.RunLaws.{EachPage, each_page_append, each_page_imp, pages_from_each}
-use Rattle.page_model.proofs.OwnsSpaces.{Reshaped, reshaped_owner, IsBlank, drop_all_owner, drop_all_blank, drop_all_other, drop_all_length, leave_all_owner}
+use Rattle.page_model.proofs.OwnsSpaces.{reshaped_owner, IsBlank, drop_all_owner, drop_all_blank, drop_all_length, leave_all_owner}
 
 -- What is asked of a slot: its state and its mark.
 abbrev pub Alike : Slot → Slot → Type 0
@@ -152,10 +147,6 @@ added_other t (s ∷ ss) x n = elim (cases_eq (space_number s) t) [
   | inr m ↦ numbered_miss t s (ss ++ x ∷ []) m ∙ added_other t ss x n ∙ sym (numbered_miss t s ss m)
 ]
 
--- no space has this number
-abbrev pub IsNew : Placement → ℕ → Type 0
-IsNew p sid = numbered space_number sid p.spaces ≡ None
-
 added_same : (t : ℕ) (ss : List SpacePages) (x : SpacePages) → space_number x ≡ t → numbered space_number t ss ≡ None → numbered space_number t (ss ++ x ∷ []) ≡ Some x
 added_same t [] x e n = numbered_hit t x [] e
 added_same t (s ∷ ss) x e n = elim (cases_eq (space_number s) t) [
@@ -173,8 +164,8 @@ blank_slot_at [] w b = (refl, refl)
 blank_slot_at (x ∷ xs) zero b = b.0
 blank_slot_at (x ∷ xs) (suc w) b = blank_slot_at xs w b.1
 
-pub add_owner : (p : Placement) (x : SpacePages) (due : List Due) → OwnsFrames p → IsNew p x.sid → AllBlank x.data_pages → AllBlank x.stack_pages → OwnsFrames (record p { spaces = p.spaces ++ x ∷ []; due = due })
-add_owner p x due o n bd bs = alike_owner p (record p { spaces = p.spaces ++ x ∷ []; due = due }) o refl refl refl alike
+add_alike : (p : Placement) (x : SpacePages) (due : List Due) → IsNew p x.sid → AllBlank x.data_pages → AllBlank x.stack_pages → (w : Page) → Alike (slot_of (record p { spaces = p.spaces ++ x ∷ []; due = due }) w) (slot_of p w)
+add_alike p x due n bd bs = alike
   where
     alike : (w : Page) → Alike (slot_of (record p { spaces = p.spaces ++ x ∷ []; due = due }) w) (slot_of p w)
     alike (Data t w) = elim (cases_eq t x.sid) [
@@ -190,6 +181,9 @@ add_owner p x due o n bd bs = alike_owner p (record p { spaces = p.spaces ++ x �
       | inr m ↦ subst (λ (y : Option SpacePages). Alike (get_or (stack_in y) w no_slot) (get_or (stack_in (numbered space_number t p.spaces)) w no_slot)) (sym (added_other t p.spaces x (λ k. m (sym k)))) (refl, refl)
     ]
     alike (Text i w) = (refl, refl)
+
+pub add_owner : (p : Placement) (x : SpacePages) (due : List Due) → OwnsFrames p → IsNew p x.sid → AllBlank x.data_pages → AllBlank x.stack_pages → OwnsFrames (record p { spaces = p.spaces ++ x ∷ []; due = due })
+add_owner p x due o n bd bs = alike_owner p (record p { spaces = p.spaces ++ x ∷ []; due = due }) o refl refl refl (add_alike p x due n bd bs)
 
 child_blank : (xs : List Slot) → AllBlank (map child_slot xs)
 child_blank [] = tt
@@ -214,6 +208,10 @@ fork_owner p parent child o n = add_owner p (record {
 unfilled_blank : (facts : Image) (v n : ℕ) → AllBlank (unfilled_data facts v n)
 unfilled_blank facts v zero = tt
 unfilled_blank facts v (suc n) = ((refl, refl), unfilled_blank facts (v + 1) n)
+
+pub enter_alike : (p : Placement) (sid image : ℕ) (facts : Image) → IsNew p sid → (w : Page) → Alike (slot_of (enter_space p sid image facts) w) (slot_of p w)
+enter_alike p sid image facts n = add_alike p (new_pages sid image facts) (enter_space p sid image facts).due n
+    (unfilled_blank facts 0 (Rattle.aout_image.specs.Image.data_pages_of facts)) ((refl, refl), tt)
 
 pub enter_space_owner : (p : Placement) (sid image : ℕ) (facts : Image) → OwnsFrames p → IsNew p sid → OwnsFrames (enter_space p sid image facts)
 enter_space_owner p sid image facts o n = add_owner p (new_pages sid image facts) (enter_space p sid image facts).due o n

@@ -1,19 +1,19 @@
 -- A move of the hands keeps the ownership of frames.
-use Rattle.std.proofs.Common.{◌≡◌, ◌≢◌, ◌⊎◌, inl, inr, ℕ, zero, suc, ◌+◌, ◌<◌, ◌&&◌, Bool, true, false, not, List, [], ◌∷◌, ◌++◌, length, Option, Some, None, refl, sym, ap, ◌∙◌, subst, arith}
+use Rattle.std.proofs.Common.{◌≡◌, inr, ℕ, zero, suc, ◌&&◌, Bool, true, false, not, List, Option, Some, None, refl, sym, ap, ◌∙◌}
 use Rattle.vm_facts.specs.declared.page.Page.{Page}
 use Rattle.vm_facts.specs.declared.page.PageState.{PageState}
 use Rattle.vm_facts.specs.declared.page.PageState.TheVariants.{Unfilled, Valid, Invalid, Coming, Going, OnSwap}
 use Rattle.page_model.specs.Pages.{frame_of, number_of, beside, is_among}
-use Rattle.page_model.specs.Frames.{times, next_frame}
+use Rattle.page_model.specs.Frames.{times}
 use Rattle.page_model.specs.Placement.{Placement, state_of, mark_of, is_dirty, page_of}
-use Rattle.page_model.specs.Moves.{launch_run, retire}
-use Rattle.page_model.specs.Runs.{run_out, run_both, pages_of_run, goes_along, is_idle, is_near, most_written}
+use Rattle.page_model.specs.Runs.{run_out, pages_of_run, goes_along, is_idle, is_near, most_written}
 use Rattle.page_model.specs.Hands.{expire, sweep, sweep_of, sweep_to, sweep_by, advance, hand_move, hand_moves}
 use Rattle.page_model.specs.Ownership.{OwnsFrames, IsListed}
-use Rattle.page_model.proofs.Local.{some_is, none_some}
-use Rattle.page_model.proofs.Owns.{IsSeated, expire_owner, retire_owner}
-use Rattle.page_model.proofs.RunLaws.{and_both, EachPage, run_each, run_both_in, run_apart}
-use Rattle.page_model.proofs.OwnsRuns.{HasSeat, idle_seat, launch_run_owner, clean_unmarked}
+use Rattle.page_model.specs.Conditions.{EachPage, HasSeat}
+use Rattle.page_model.proofs.Local.{some_is}
+use Rattle.page_model.proofs.Owns.{expire_owner, retire_owner}
+use Rattle.page_model.proofs.RunLaws.{and_both, run_each, run_both_in, run_apart}
+use Rattle.page_model.proofs.OwnsRuns.{idle_seat, launch_run_owner, clean_unmarked}
 
 -- the pages of the run hold frames off the free list
 pub run_out_seats : (p : Placement) (locked : List Page) (q : Page) → HasSeat p q → EachPage (HasSeat p) (pages_of_run q (run_out p locked q))

@@ -1,24 +1,25 @@
 -- Reads and writes of several pages, their beginning and their end, keep the ownership of frames.
-use Rattle.std.proofs.Common.{◌≡◌, ◌≢◌, ◌⊎◌, inl, inr, ℕ, zero, suc, ◌+◌, ◌-◌, ◌<◌, ◌≤◌, ◌&&◌, ◌==◌, Bool, true, false, List, [], ◌∷◌, ◌++◌, length, Option, Some, None, refl, sym, ap, ◌∙◌, subst, arith}
+use Rattle.std.proofs.Common.{◌≡◌, ◌≢◌, inl, inr, ℕ, ◌+◌, ◌==◌, Bool, true, false, List, [], ◌∷◌, ◌++◌, Some, refl, sym, ap, ◌∙◌, subst, arith}
 use Rattle.std.proofs.lemmas.Bool.Decides.{nat_tests}
 use Rattle.vm_facts.specs.declared.page.Page.{Page}
 use Rattle.vm_facts.specs.declared.page.Page.TheVariants.{Data, Stack, Text}
 use Rattle.vm_facts.specs.declared.page.PageState.{PageState}
 use Rattle.vm_facts.specs.declared.page.PageState.TheVariants.{Unfilled, Valid, Invalid, Coming, Going, OnSwap}
 use Rattle.page_model.specs.Pages.{Slot, frame_of, written_mark, same_page, is_dirty_by}
-use Rattle.page_model.specs.Frames.{times, without}
-use Rattle.page_model.specs.Placement.{Placement, Transfer, Part, Moving, Errand, Writes, Reads, Source, moving, slots_of, slot_of, state_of, mark_of, is_dirty, page_of, IsFrame, IsThere, parts_of, flying, moving_state, put}
-use Rattle.page_model.specs.Moves.{evict, enter, turn, begin, join_last, get_one, get_at, get_all, get_run, launch, launch_to, launch_all, launch_run, land, land_read, arrived_mark, land_all, done, done_of, retire}
+use Rattle.page_model.specs.Frames.{times}
+use Rattle.page_model.specs.Placement.{Placement, Transfer, Part, Moving, Errand, Writes, Reads, Source, moving, state_of, mark_of, is_dirty, parts_of, flying, moving_state, put}
+use Rattle.page_model.specs.Moves.{evict, turn, begin, join_last, get_one, get_at, get_all, get_run, launch, launch_to, launch_all, launch_run, land, land_read, arrived_mark, land_all, done, done_of}
 use Rattle.page_model.specs.Runs.{is_idle, is_idle_by, is_seated, is_seated_by}
 use Rattle.page_model.specs.Place.{put_step, put_by}
-use Rattle.page_model.specs.Ownership.{OwnsFrames, Each, IsMoving, IsListed, is_marked_dirty, may_be_dirty, seats, seated, seated_of}
+use Rattle.page_model.specs.Ownership.{OwnsFrames, Each, IsMoving, IsListed, is_marked_dirty, may_be_dirty, seated}
+use Rattle.page_model.specs.Conditions.{EachPage, AllApart, CanEnter, IsSeated, HasSeat}
 use Rattle.page_model.proofs.FrameLaws.{times-append, times_one, times_one_other, times_head, times_tail}
-use Rattle.page_model.proofs.PageLaws.{put_other, put_length}
+use Rattle.page_model.proofs.PageLaws.{put_length}
 use Rattle.page_model.proofs.PartLaws.{IsOpen, begin_open, join_open, parts_begin, all_absent}
-use Rattle.page_model.proofs.Local.{some_is, none_some}
-use Rattle.page_model.proofs.Steps.{Turns, turn_owner, page_in, once_at, put_other_state, frame_of_moving, evict_other, EvictRest, evict_rest}
-use Rattle.page_model.proofs.Owns.{CanEnter, get_owner, IsSeated, launch_owner, retire_owner}
-use Rattle.page_model.proofs.RunLaws.{and_both, EachPage, AllApart, each_page_imp, each_page_both}
+use Rattle.page_model.proofs.Local.{some_is}
+use Rattle.page_model.proofs.Steps.{Turns, turn_owner, once_at, put_other_state, frame_of_moving, evict_other, EvictRest, evict_rest}
+use Rattle.page_model.proofs.Owns.{get_owner, launch_owner, retire_owner}
+use Rattle.page_model.proofs.RunLaws.{each_page_imp, each_page_both}
 
 -- other transfers with the same pages
 pub same_parts_owner : (p : Placement) (ts : List Transfer) → OwnsFrames p → parts_of ts ≡ parts_of p.transfers → OwnsFrames (record p { transfers = ts })
@@ -37,7 +38,7 @@ begin_owner p e o = same_parts_owner p (p.transfers ++ record { errand = e; part
 
 -- Reads.
 
-get_enters_still : (p : Placement) (e : Errand) (v w : Page) → OwnsFrames p → w ≢ v → CanEnter p w → CanEnter (get_one p e v) w
+pub get_enters_still : (p : Placement) (e : Errand) (v w : Page) → OwnsFrames p → w ≢ v → CanEnter p w → CanEnter (get_one p e v) w
 get_enters_still p e v w o n c = go p.free
   where
     go : (fr : List ℕ) → CanEnter (get_at p e v fr) w
@@ -49,7 +50,7 @@ get_enters_still p e v w o n c = go p.free
           frameless = ap frame_of (put_other_state (evict p f) v (Coming f) (mark_of p v) w n) ∙ ap (λ (x : Slot). frame_of x.state) (evict_other p f w o c.frameless) ∙ c.frameless;
         }
 
-get_open_still : (p : Placement) (e : Errand) (v : Page) → IsOpen p.transfers e → IsOpen (get_one p e v).transfers e
+pub get_open_still : (p : Placement) (e : Errand) (v : Page) → IsOpen p.transfers e → IsOpen (get_one p e v).transfers e
 get_open_still p e v latest = go p.free
   where
     go : (fr : List ℕ) → IsOpen (get_at p e v fr).transfers e
@@ -70,11 +71,6 @@ get_run_owner p source demanded qs o c a =
     (begin_open p.transfers (Reads source demanded))
 
 -- Writes.
-
--- a page that holds a frame off the free list, whichever
-pub record HasSeat (p : Placement) (v : Page) : Type 0 where
-  pub frame : ℕ
-  pub seat : IsSeated p v frame
 
 launch_is : (p : Placement) (v : Page) (c : HasSeat p v) → launch p v ≡ turn p v (Going c.frame) (mark_of p v) p.free (join_last p.transfers Writes (record { page = v; frame = c.frame }))
 launch_is p v c = let k : IsSeated p v c.frame = c.seat in elim k.state [

@@ -1,5 +1,5 @@
 -- Forcing a frame and serving a page keep the ownership of frames.
-use Rattle.std.proofs.Common.{◌≡◌, ◌≢◌, ◌⊎◌, inl, inr, ℕ, zero, suc, ◌+◌, ◌<◌, ◌≤◌, ◌&&◌, nat_lt, min, Bool, true, false, List, [], ◌∷◌, ◌++◌, length, Option, Some, None, refl, sym, ap, ◌∙◌, subst, arith}
+use Rattle.std.proofs.Common.{◌≡◌, ◌⊎◌, inl, inr, ℕ, ◌<◌, ◌≤◌, nat_lt, min, Bool, true, false, List, [], ◌∷◌, length, refl, sym, ap, ◌∙◌, arith}
 use Rattle.std.proofs.lemmas.Bool.Decides.{nat_tests}
 use Rattle.std.proofs.lemmas.List.{get_or_past}
 use Rattle.vm_facts.specs.declared.page.Page.{Page}
@@ -7,13 +7,13 @@ use Rattle.vm_facts.specs.declared.page.Page.TheVariants.{Data, Stack, Text}
 use Rattle.vm_facts.specs.declared.page.PageState.{PageState}
 use Rattle.vm_facts.specs.declared.page.PageState.TheVariants.{Unfilled, Valid, Invalid, Coming, Going, OnSwap}
 use Rattle.page_model.specs.Pages.{Slot, no_slot, Filling, Zeros, OfImage, frame_of, number_of, beside, is_on_swap, is_unfilled}
-use Rattle.page_model.specs.Placement.{Placement, Transfer, slots_of, slot_of, state_of, filling_of, IsThere}
-use Rattle.page_model.specs.Moves.{fill, get_run, reclaim, done}
-use Rattle.page_model.specs.Runs.{Run, pages_of_run, run_in, run_in_by, run_both, run_up, run_alone, comes_from_swap, comes_from_file, is_near, spare_frames}
-use Rattle.page_model.specs.Serve.{force, force_by, read_step, read_errand, source_for, read_if, bring_by, feed_by, serve_by, serve_step, is_full, Serves}
+use Rattle.page_model.specs.Placement.{Placement, Transfer, slots_of, state_of, filling_of, IsThere}
+use Rattle.page_model.specs.Runs.{pages_of_run, run_in, run_in_by, run_both, run_up, run_alone, comes_from_swap, comes_from_file, is_near, spare_frames}
+use Rattle.page_model.specs.Serve.{force, force_by, read_step, source_for, read_if, bring_by, feed_by, serve_by, serve_step, is_full}
 use Rattle.page_model.specs.Ownership.{OwnsFrames}
-use Rattle.page_model.proofs.Owns.{CanEnter, fill_owner, reclaim_owner}
-use Rattle.page_model.proofs.RunLaws.{and_both, EachPage, run_each, run_both_in, run_up_in, run_alone_in, run_apart, beside_number}
+use Rattle.page_model.specs.Conditions.{EachPage, CanEnter}
+use Rattle.page_model.proofs.Owns.{fill_owner, reclaim_owner}
+use Rattle.page_model.proofs.RunLaws.{and_both, run_each, run_both_in, run_up_in, run_alone_in, run_apart}
 use Rattle.page_model.proofs.OwnsRuns.{get_run_owner, done_owner}
 use Rattle.page_model.proofs.OwnsHands.{move_owner}
 

@@ -1,23 +1,22 @@
 -- Growth, break, fork, a new image and giving up keep the ownership of frames.
-use Rattle.std.proofs.Common.{◌≡◌, ◌≢◌, ◌⊎◌, inl, inr, ℕ, zero, suc, ◌+◌, ◌-◌, ◌<◌, ◌≤◌, ◌==◌, Bool, true, false, not, cond, List, [], ◌∷◌, ◌++◌, length, get_or, take, replicate, map, filter, Option, Some, None, refl, sym, ap, ◌∙◌, subst, arith}
-use Rattle.std.proofs.lemmas.Bool.{cases_eq}
-use Rattle.std.proofs.lemmas.Bool.Decides.{nat_tests}
+use Rattle.std.proofs.Common.{◌≡◌, ◌≢◌, ◌⊎◌, inl, inr, ℕ, zero, suc, ◌+◌, ◌<◌, ◌≤◌, Bool, true, false, List, [], ◌∷◌, ◌++◌, length, get_or, Option, Some, None, refl, sym, ap, ◌∙◌, subst, arith}
 use Rattle.std.proofs.lemmas.List.{get_or_past}
 use Rattle.vm_facts.specs.declared.page.Page.{Page}
 use Rattle.vm_facts.specs.declared.page.Page.TheVariants.{Data, Stack, Text}
 use Rattle.vm_facts.specs.declared.page.PageState.{PageState}
 use Rattle.vm_facts.specs.declared.page.PageState.TheVariants.{Unfilled, Valid, Invalid, Coming, Going, OnSwap}
-use Rattle.page_model.specs.Pages.{Slot, no_slot, SpacePages, numbered, changed, data_in, stack_in, frame_of, number_of, beside, pages_from}
+use Rattle.page_model.specs.Pages.{Slot, no_slot, frame_of, number_of}
 use Rattle.page_model.specs.Frames.{times, without}
-use Rattle.page_model.specs.Placement.{Placement, Transfer, Due, space_number, slots_in, slots_of, slot_of, state_of, mark_of, page_of, IsFrame, IsThere, parts_of, flying, moving_state, put, sharers}
+use Rattle.page_model.specs.Placement.{Placement, Transfer, slots_of, slot_of, state_of, mark_of, page_of, IsFrame, IsThere, parts_of, flying, put}
 use Rattle.page_model.specs.Moves.{turn, drop_at, drop_page, drop_all, leave_by, leave_page, leave_all, listed, listed_of}
 use Rattle.page_model.specs.Ownership.{OwnsFrames, Each, IsMoving, IsListed, is_marked_dirty, may_be_dirty, seats, seated, seated_of}
+use Rattle.page_model.specs.Conditions.{EachPage, AtRest}
 use Rattle.page_model.proofs.PageLaws.{page_cases, put_state, put_mark, put_other, put_length}
 use Rattle.page_model.proofs.PartLaws.{all_imp}
-use Rattle.page_model.proofs.Local.{some_is, none_some}
-use Rattle.page_model.proofs.Steps.{Turns, turn_owner, page_in, frame_in, once_at, put_other_state, AtRest, frameless_rest, moves_kept, drop_owner}
-use Rattle.page_model.proofs.Owns.{IsSeated, retire_turns, rest_moves}
-use Rattle.page_model.proofs.RunLaws.{EachPage, AllApart, each_page_both, each_page_imp}
+use Rattle.page_model.proofs.Local.{none_some}
+use Rattle.page_model.proofs.Steps.{Turns, turn_owner, once_at, put_other_state, frameless_rest, drop_owner}
+use Rattle.page_model.proofs.Owns.{retire_turns, rest_moves}
+use Rattle.page_model.proofs.RunLaws.{each_page_imp}
 
 -- Another list of spaces in which each page is as it was, with the same frames.
 pub record Reshaped (p q : Placement) : Type 0 where

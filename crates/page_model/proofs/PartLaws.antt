@@ -1,14 +1,13 @@
 -- The pages in flight: what joins them, and what leaves.
-use Rattle.std.proofs.Common.{◌≡◌, ◌≢◌, ◌⊎◌, inl, inr, ℕ, zero, suc, ◌+◌, ◌<◌, ◌≤◌, ◌==◌, Bool, true, false, cond, List, [], ◌∷◌, ◌++◌, map, length, Option, Some, None, refl, sym, ap, ◌∙◌, subst, append_assoc, arith}
+use Rattle.std.proofs.Common.{◌≡◌, ◌≢◌, inl, inr, ℕ, suc, ◌+◌, ◌==◌, cond, List, [], ◌∷◌, ◌++◌, map, length, Some, refl, sym, ap, ◌∙◌, subst, append_assoc, arith}
 use Rattle.std.proofs.lemmas.Bool.{cases_eq}
 use Rattle.std.proofs.lemmas.Bool.Decides.{nat_tests}
 use Rattle.std.proofs.lemmas.List.{append-nil}
-use Rattle.vm_facts.specs.declared.page.Page.{Page}
 use Rattle.page_model.specs.Frames.{times}
-use Rattle.page_model.specs.Placement.{Placement, Transfer, Part, Errand, Moving, moving, parts_of, flying, errand_at}
+use Rattle.page_model.specs.Placement.{Transfer, Part, Errand, Moving, moving, parts_of, flying, errand_at}
 use Rattle.page_model.specs.Moves.{join_last}
 use Rattle.page_model.specs.Ownership.{Each}
-use Rattle.page_model.proofs.FrameLaws.{times-append, times_one, times_one_other, times_head, flying-append}
+use Rattle.page_model.proofs.FrameLaws.{times-append, times_head, flying-append}
 
 pub map-append : {A B : Type 0} (f : A → B) (xs ys : List A) → map f (xs ++ ys) ≡ map f xs ++ map f ys
 map-append f [] ys = refl

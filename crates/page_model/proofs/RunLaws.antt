@@ -1,25 +1,16 @@
 -- The pages of a run: each passes, and no two are one.
-use Rattle.std.proofs.Common.{◌≡◌, ◌≢◌, ◌⊎◌, inl, inr, ℕ, zero, suc, ◌+◌, ◌-◌, ◌<◌, ◌≤◌, ◌==◌, ◌&&◌, Bool, true, false, cond, not, List, [], ◌∷◌, ◌++◌, length, Option, Some, None, refl, sym, ap, ◌∙◌, subst, arith}
+use Rattle.std.proofs.Common.{◌≡◌, ◌≢◌, ◌⊎◌, inl, inr, ℕ, zero, suc, ◌+◌, ◌-◌, ◌<◌, ◌≤◌, ◌&&◌, Bool, true, false, cond, List, [], ◌∷◌, ◌++◌, refl, sym, ap, ◌∙◌, subst, arith}
 use Rattle.std.proofs.lemmas.Bool.{cases_eq}
 use Rattle.vm_facts.specs.declared.page.Page.{Page}
 use Rattle.vm_facts.specs.declared.page.Page.TheVariants.{Data, Stack, Text}
 use Rattle.page_model.specs.Pages.{number_of, beside, pages_from}
 use Rattle.page_model.specs.Runs.{Run, pages_of_run, passing_above, passing_below, run_both, run_up, run_alone}
+use Rattle.page_model.specs.Conditions.{EachPage, AllApart}
 
 pub and_both : (a b : Bool) → (a && b) ≡ true → (a ≡ true) × (b ≡ true)
 and_both true true h = (refl, refl)
 and_both true false h = absurd cc
 and_both false b h = absurd cc
-
--- something is so of each page
-abbrev pub EachPage : (Page → Type 0) → List Page → Type 0
-EachPage P [] = Unit {0}
-EachPage P (q ∷ qs) = P q × EachPage P qs
-
--- no two are one
-abbrev pub AllApart : List Page → Type 0
-AllApart [] = Unit {0}
-AllApart (q ∷ qs) = EachPage (λ r. r ≢ q) qs × AllApart qs
 
 pub each_page_imp : (P Q : Page → Type 0) (qs : List Page) → EachPage P qs → ((q : Page) → P q → Q q) → EachPage Q qs
 each_page_imp P Q [] h k = tt

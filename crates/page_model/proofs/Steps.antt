@@ -1,5 +1,5 @@
 -- A page that moves on with its frame, that takes a frame, or that loses it, keeps the ownership of frames.
-use Rattle.std.proofs.Common.{◌≡◌, ◌≢◌, ◌⊎◌, inl, inr, ℕ, zero, suc, ◌+◌, ◌-◌, ◌<◌, ◌≤◌, Bool, true, false, List, [], ◌∷◌, ◌++◌, length, get_or, Option, Some, None, refl, sym, ap, ◌∙◌, subst, arith}
+use Rattle.std.proofs.Common.{◌≡◌, ◌≢◌, ◌⊎◌, inl, inr, ℕ, zero, suc, ◌+◌, ◌-◌, ◌<◌, ◌≤◌, Bool, true, false, List, length, Option, Some, None, refl, sym, ap, ◌∙◌, subst, arith}
 use Rattle.std.proofs.lemmas.List.{get_or_past}
 use Rattle.vm_facts.specs.declared.page.Page.{Page}
 use Rattle.vm_facts.specs.declared.page.Page.TheVariants.{Data, Stack, Text}
@@ -10,6 +10,7 @@ use Rattle.page_model.specs.Frames.{at_frame, times, without}
 use Rattle.page_model.specs.Placement.{Placement, Transfer, Moving, Errand, Writes, Reads, slots_of, slot_of, state_of, mark_of, page_of, IsFrame, IsThere, parts_of, flying, moving_state, put}
 use Rattle.page_model.specs.Moves.{evict_at, evict, enter, turn, drop_at}
 use Rattle.page_model.specs.Ownership.{OwnsFrames, Each, IsMoving, IsListed, is_marked_dirty, may_be_dirty, seats, seated, seated_of}
+use Rattle.page_model.specs.Conditions.{AtRest}
 use Rattle.page_model.proofs.FrameLaws.{times_head, times_tail, times_without, times_without_other, at_set_same, at_set_other, length_set_frame}
 use Rattle.page_model.proofs.PageLaws.{put_state, put_mark, put_other, put_length}
 use Rattle.page_model.proofs.PartLaws.{all_imp}
@@ -61,15 +62,6 @@ frameless_clean p v o e = go (is_marked_dirty v (mark_of p v)) refl
     go : (d : Bool) → is_marked_dirty v (mark_of p v) ≡ d → d ≡ false
     go true k = absurd (let a : true ≡ false = sym (o.dirty v k) ∙ never (state_of p v) e in cc)
     go false k = refl
-
--- the states in which no transfer has the page
-abbrev pub AtRest : PageState → Type 0
-AtRest Unfilled = Unit {0}
-AtRest (Valid f) = Unit {0}
-AtRest (Invalid f) = Unit {0}
-AtRest (Coming f) = ⊥
-AtRest (Going f) = ⊥
-AtRest OnSwap = Unit {0}
 
 not_moving : (s : PageState) (e : Errand) (f : ℕ) → AtRest s → s ≡ moving_state e f → ⊥
 not_moving s Writes f r h = subst AtRest h r

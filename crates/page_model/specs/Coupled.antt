@@ -1,13 +1,13 @@
 -- Where the bytes of each page of a flat memory are: in its frame, on swap, in the file of its image, or nowhere,
 -- where they are zeros.
-use Rattle.std.specs.Prelude.{◌≡◌, ℕ, ◌*◌, ◌+◌, Bool, true, false, List, [], ◌∷◌, ◌++◌, length, take, drop, replicate, Option, Some, None}
+use Rattle.std.specs.Prelude.{◌≡◌, ℕ, Bool, false, List, [], replicate, Option, Some, None}
 use Rattle.vm_facts.specs.declared.page.Page.{Page}
-use Rattle.vm_facts.specs.declared.page.Page.TheVariants.{Data, Stack, Text}
+use Rattle.vm_facts.specs.declared.page.Page.TheVariants.{Text}
 use Rattle.vm_facts.specs.declared.page.PageState.{PageState}
 use Rattle.vm_facts.specs.declared.page.PageState.TheVariants.{Unfilled, Valid, Invalid, Coming, Going, OnSwap}
 use Rattle.page_model.specs.Pages.{Filling, Zeros, OfImage, frame_of}
 use Rattle.page_model.specs.Frames.{at_frame}
-use Rattle.page_model.specs.Placement.{Placement, Errand, Writes, Reads, Source, FromSwap, FromFile, Due, Start, CopyOf, state_of, is_dirty, filling_of, errand_at, due_at, parts_of, IsThere}
+use Rattle.page_model.specs.Placement.{Placement, Errand, Writes, Reads, FromSwap, FromFile, Due, Start, CopyOf, state_of, is_dirty, filling_of, errand_at, due_at, parts_of, IsThere}
 
 unfoldable pub zeros : List ℕ
 zeros = replicate 1024 0

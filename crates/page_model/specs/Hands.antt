@@ -1,8 +1,8 @@
 -- The clock with two hands: one move (the 4.3BSD book).
-use Rattle.std.specs.Prelude.{ℕ, zero, suc, ◌+◌, ◌/◌, nat_lt, Bool, true, false, List, [], ◌∷◌, ◌++◌, length, Option, Some, None}
+use Rattle.std.specs.Prelude.{ℕ, zero, suc, ◌/◌, nat_lt, Bool, true, false, List, length, Option, Some, None}
 use Rattle.vm_facts.specs.declared.page.Page.{Page}
 use Rattle.vm_facts.specs.declared.page.PageState.{PageState}
-use Rattle.vm_facts.specs.declared.page.PageState.TheVariants.{Unfilled, Valid, Invalid, Coming, Going, OnSwap}
+use Rattle.vm_facts.specs.declared.page.PageState.TheVariants.{Valid, Invalid}
 use Rattle.page_model.specs.Pages.{is_among}
 use Rattle.page_model.specs.Frames.{times, next_frame}
 use Rattle.page_model.specs.Placement.{Placement, state_of, mark_of, is_dirty, page_of}

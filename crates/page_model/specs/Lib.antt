@@ -8,6 +8,7 @@ pub mod Runs
 pub mod Hands
 pub mod Serve
 pub mod Place
+pub mod Conditions
 pub mod Ownership
 pub mod Coupled
 pub mod Swapper

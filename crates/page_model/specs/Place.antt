@@ -1,9 +1,9 @@
 -- What each entry of the journal does to a placement.
-use Rattle.std.specs.Prelude.{ℕ, zero, suc, ◌+◌, ◌-◌, ◌==◌, Bool, true, false, cond, not, ◌||◌, List, [], ◌∷◌, ◌++◌, length, map, filter, take, replicate, Option, Some, None}
+use Rattle.std.specs.Prelude.{ℕ, zero, suc, ◌+◌, ◌-◌, ◌==◌, Bool, true, false, cond, not, ◌||◌, List, [], ◌∷◌, ◌++◌, length, map, filter, Option, Some, None}
 use Rattle.vm_facts.specs.declared.page.Page.{Page}
 use Rattle.vm_facts.specs.declared.page.Page.TheVariants.{Data, Stack, Text}
 use Rattle.vm_facts.specs.declared.page.PageState.{PageState}
-use Rattle.vm_facts.specs.declared.page.PageState.TheVariants.{Unfilled, Valid, Invalid, Coming, Going, OnSwap}
+use Rattle.vm_facts.specs.declared.page.PageState.TheVariants.{Unfilled}
 use Rattle.vm_facts.specs.declared.entry.Entry.{Entry}
 use Rattle.vm_facts.specs.declared.entry.Entry.TheVariants as entries
 use Rattle.aout_image.specs.declared.Image.{Image}
@@ -11,8 +11,8 @@ use Rattle.vm_facts.specs.Flat.{Holding, Holds, Lends, Zombie, Process, FlatStat
 use Rattle.page_model.specs.declared.change.Change.{Change}
 use Rattle.page_model.specs.declared.change.Change.TheVariants.{Keep, Resize, Fork, Lend, Exec, Reap, Sleep, End}
 use Rattle.page_model.specs.Flat.{NamedImage, image_numbered, process_of}
-use Rattle.page_model.specs.Pages.{Slot, Zeros, SpacePages, TextPages, changed, same_page, pages_from, number_of}
-use Rattle.page_model.specs.Placement.{Placement, Transfer, Errand, Reads, Writes, Residence, Due, Start, CopyOf, due_page, space_number, slots_of, state_of, is_dirty, sharers, image_of, unfilled, new_pages}
+use Rattle.page_model.specs.Pages.{Slot, Zeros, SpacePages, changed, same_page, pages_from, number_of}
+use Rattle.page_model.specs.Placement.{Placement, Residence, Due, Start, CopyOf, due_page, space_number, slots_of, is_dirty, sharers, image_of, unfilled, new_pages}
 use Rattle.page_model.specs.Moves.{fill, get_run, launch_run, reclaim, retire, done, touch_all, drop_all, leave_all}
 use Rattle.page_model.specs.Hands.{hand_moves}
 use Rattle.page_model.specs.Serve.{read_errand}

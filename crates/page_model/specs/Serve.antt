@@ -1,11 +1,11 @@
 -- Forcing a frame and serving a page: the next unit, by the state of the page.
-use Rattle.std.specs.Prelude.{◌≡◌, ℕ, ◌==◌, Bool, true, false, nat_le, List, [], ◌∷◌, length, Option, Some, None}
+use Rattle.std.specs.Prelude.{◌≡◌, ℕ, Bool, true, false, nat_le, List, [], ◌∷◌, length, Option, Some, None}
 use Rattle.vm_facts.specs.declared.page.Page.{Page}
 use Rattle.vm_facts.specs.declared.page.PageState.{PageState}
 use Rattle.vm_facts.specs.declared.page.PageState.TheVariants.{Unfilled, Valid, Invalid, Coming, Going, OnSwap}
 use Rattle.vm_facts.specs.declared.entry.Entry.{Entry}
 use Rattle.vm_facts.specs.declared.entry.Entry.TheVariants as entries
-use Rattle.page_model.specs.Pages.{Filling, Zeros, OfImage}
+use Rattle.page_model.specs.Pages.{Filling, Zeros}
 use Rattle.page_model.specs.Placement.{Placement, Transfer, Errand, Reads, Source, FromSwap, FromFile, state_of, filling_of}
 use Rattle.page_model.specs.Moves.{done, fill, get_run, reclaim}
 use Rattle.page_model.specs.Runs.{run_in, pages_of_run}

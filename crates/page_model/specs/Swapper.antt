@@ -1,11 +1,10 @@
 -- The swapper: which process comes in or goes out, and the units of putting one out.
-use Rattle.std.specs.Prelude.{ℕ, zero, suc, ◌+◌, ◌/◌, ◌==◌, nat_lt, nat_le, Bool, true, false, cond, not, ◌&&◌, ◌||◌, List, [], ◌∷◌, ◌++◌, length, take, filter, Option, Some, None}
+use Rattle.std.specs.Prelude.{ℕ, ◌+◌, ◌==◌, nat_lt, nat_le, Bool, true, false, cond, not, ◌&&◌, ◌||◌, List, [], ◌∷◌, length, take, filter, Option, Some, None}
 use Rattle.vm_facts.specs.declared.page.Page.{Page}
 use Rattle.vm_facts.specs.declared.page.Page.TheVariants.{Data, Stack, Text}
 use Rattle.vm_facts.specs.declared.entry.Entry.{Entry}
 use Rattle.vm_facts.specs.declared.entry.Entry.TheVariants as entries
-use Rattle.page_model.specs.Pages.{number_of, same_page}
-use Rattle.page_model.specs.Placement.{Placement, Residence, Moving, state_of, is_dirty, parts_of, image_of, sharers}
+use Rattle.page_model.specs.Placement.{Placement, Residence, Moving, is_dirty, parts_of, image_of, sharers}
 use Rattle.page_model.specs.Runs.{desired_free, is_seated, run_put}
 use Rattle.page_model.specs.Serve.{is_full}
 use Rattle.page_model.specs.Place.{pages_of_space}
