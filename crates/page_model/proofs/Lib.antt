@@ -15,3 +15,5 @@ pub mod OwnsSpaces
 pub mod OwnsChanges
 pub mod OwnsEntries
 pub mod Locks
+pub mod Stays
+pub mod HandLaws

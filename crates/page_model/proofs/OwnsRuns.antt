@@ -156,7 +156,7 @@ landing_moves p e x rest o l = subst (Each (IsMoving p)) l.parts o.moves
 pub landing_state : (p : Placement) (e : Errand) (x : Part) (rest : List Transfer) → OwnsFrames p → Landing p e x rest → state_of p x.page ≡ moving_state e x.frame
 landing_state p e x rest o l = (landing_moves p e x rest o l).0
 
-landing_frame : (p : Placement) (e : Errand) (x : Part) (rest : List Transfer) → OwnsFrames p → Landing p e x rest → frame_of (state_of p x.page) ≡ Some x.frame
+pub landing_frame : (p : Placement) (e : Errand) (x : Part) (rest : List Transfer) → OwnsFrames p → Landing p e x rest → frame_of (state_of p x.page) ≡ Some x.frame
 landing_frame p e x rest o l = ap frame_of (landing_state p e x rest o l) ∙ frame_of_moving e x.frame
 
 -- its frame is in no other transfer, and off the free list

@@ -9,6 +9,7 @@ pub mod Hands
 pub mod Serve
 pub mod Place
 pub mod Conditions
+pub mod Rank
 pub mod Ownership
 pub mod Coupled
 pub mod Swapper
