@@ -17,3 +17,4 @@ pub mod OwnsEntries
 pub mod Locks
 pub mod Stays
 pub mod HandLaws
+pub mod Ends

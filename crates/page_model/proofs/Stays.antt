@@ -72,6 +72,44 @@ expire_steady p locked = go (page_of p p.front)
     go None = steady_self p
     go (Some v) = at v (is_among v locked)
 
+pub expire_free : (p : Placement) (locked : List Page) → (expire p locked).free ≡ p.free
+expire_free p locked = go (page_of p p.front)
+  where
+    to : (v : Page) (s : PageState) → (expire_to p v s).free ≡ p.free
+    to v (Valid f) = refl
+    to v Unfilled = refl
+    to v (Invalid f) = refl
+    to v (Coming f) = refl
+    to v (Going f) = refl
+    to v OnSwap = refl
+
+    at : (v : Page) (b : Bool) → (expire_if p v b).free ≡ p.free
+    at v true = refl
+    at v false = to v (state_of p v)
+
+    go : (h : Option Page) → (expire_of p locked h).free ≡ p.free
+    go None = refl
+    go (Some v) = at v (is_among v locked)
+
+pub expire_transfers : (p : Placement) (locked : List Page) → (expire p locked).transfers ≡ p.transfers
+expire_transfers p locked = go (page_of p p.front)
+  where
+    to : (v : Page) (s : PageState) → (expire_to p v s).transfers ≡ p.transfers
+    to v (Valid f) = refl
+    to v Unfilled = refl
+    to v (Invalid f) = refl
+    to v (Coming f) = refl
+    to v (Going f) = refl
+    to v OnSwap = refl
+
+    at : (v : Page) (b : Bool) → (expire_if p v b).transfers ≡ p.transfers
+    at v true = refl
+    at v false = to v (state_of p v)
+
+    go : (h : Option Page) → (expire_of p locked h).transfers ≡ p.transfers
+    go None = refl
+    go (Some v) = at v (is_among v locked)
+
 begin_steady : (p : Placement) (e : Errand) → Steady p (begin p e)
 begin_steady p e = record { sizes = λ w. refl; holds = refl; frames = λ w. refl; others = λ w e. refl; due = refl; front = refl; back = refl }
 
