@@ -18,3 +18,4 @@ pub mod Locks
 pub mod Stays
 pub mod HandLaws
 pub mod Ends
+pub mod ServeEnds
