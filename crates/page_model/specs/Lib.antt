@@ -15,3 +15,4 @@ pub mod Coupled
 pub mod Swapper
 pub mod Journal
 pub mod Change
+pub mod Kernel

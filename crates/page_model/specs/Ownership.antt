@@ -1,12 +1,18 @@
 -- Each frame has one owner: the free list, a transfer, or the page that it holds.
-use Rattle.std.specs.Prelude.{◌≡◌, ℕ, ◌+◌, ◌-◌, ◌<◌, Bool, true, false, List, [], ◌∷◌, Option, Some, None}
+use Rattle.std.specs.Prelude.{◌≡◌, ℕ, zero, suc, ◌+◌, ◌-◌, ◌*◌, ◌<◌, ◌⊎◌, Bool, true, false, List, [], ◌∷◌, length, Option, Some, None}
 use Rattle.vm_facts.specs.declared.page.Page.{Page}
 use Rattle.vm_facts.specs.declared.page.Page.TheVariants.{Data, Stack, Text}
 use Rattle.vm_facts.specs.declared.page.PageState.{PageState}
 use Rattle.vm_facts.specs.declared.page.PageState.TheVariants.{Unfilled, Valid, Invalid, Coming, Going, OnSwap}
-use Rattle.page_model.specs.Pages.{frame_of}
+use Rattle.swap_dmap.specs.Chunks.{pieces, text_pieces}
+use Rattle.swap_book.specs.declared.Owner.{Owner}
+use Rattle.swap_book.specs.declared.Owner.TheVariants as owners
+use Rattle.swap_book.specs.Owners.{u_pieces}
+use Rattle.swap_book.specs.Holdings.{Holdings, lengths, block_in}
+use Rattle.swap_book.specs.Book.{IsBook}
+use Rattle.page_model.specs.Pages.{number_of, frame_of}
 use Rattle.page_model.specs.Frames.{times}
-use Rattle.page_model.specs.Placement.{Placement, Moving, state_of, mark_of, page_of, IsFrame, parts_of, flying, moving_state}
+use Rattle.page_model.specs.Placement.{Placement, Moving, slots_of, state_of, mark_of, page_of, sharers, IsFrame, parts_of, flying, moving_state}
 
 -- whether a page in this state holds its frame off the free list, where the frame stands `listed` times on that list
 abbrev pub seats : ℕ → PageState → ℕ
@@ -66,3 +72,59 @@ pub record OwnsFrames (p : Placement) : Type 0 where
   pub moves : Each (IsMoving p) (parts_of p.transfers)
   -- a dirty page is in a frame, and isn't being read
   pub dirty : (q : Page) → is_marked_dirty q (mark_of p q) ≡ true → may_be_dirty (state_of p q) ≡ true
+
+-- Blocks of swap.
+
+-- who holds the blocks of a page
+abbrev pub owner_of : Page → Owner
+owner_of (Data sid v) = owners.Data sid
+owner_of (Stack sid v) = owners.Stack sid
+owner_of (Text image v) = owners.Text image
+
+-- the first of the two blocks of a page, where its owner has a place for it
+abbrev pub block_of : Holdings → Page → Option ℕ
+block_of hs q = block_in hs (owner_of q) (number_of q)
+
+-- an image's pieces are held as long as a space shares it
+abbrev pub text_pieces_while : ℕ → ℕ → List ℕ
+text_pieces_while zero blocks = []
+text_pieces_while (suc sharers) blocks = text_pieces blocks
+
+-- each process that isn't a zombie holds one u page
+abbrev pub u_blocks : Bool → ℕ
+u_blocks true = 2
+u_blocks false = 0
+
+pub record OwnsBlocks (size : ℕ) (lives : ℕ → Bool) (p : Placement) (hs : Holdings) : Type 0 where
+  -- no two holdings overlap, none passes the end and none crosses a multiple of 1,024
+  pub book : IsBook size hs
+  pub data_held : (sid : ℕ) → lengths (owners.Data sid) hs ≡ pieces (2 * length (slots_of p (Data sid 0)))
+  pub stack_held : (sid : ℕ) → lengths (owners.Stack sid) hs ≡ pieces (2 * length (slots_of p (Stack sid 0)))
+  pub text_held : (image : ℕ) → lengths (owners.Text image) hs ≡ text_pieces_while (sharers p image) (2 * length (slots_of p (Text image 0)))
+  pub u_held : (pid : ℕ) → lengths (owners.U pid) hs ≡ u_pieces (u_blocks (lives pid))
+
+-- a text page that nobody shares isn't saved; it is at most in a free frame
+pub record IsAside (p : Placement) (q : Page) : Type 0 where
+  pub unsaved : mark_of p q ≡ false
+  pub rests : (state_of p q ≡ Unfilled) ⊎ ((f : ℕ) × (state_of p q ≡ Invalid f) × (0 < times f p.free))
+
+abbrev pub TextAside : Placement → Type 0
+TextAside p = (image v : ℕ) → sharers p image ≡ 0 → IsAside p (Text image v)
+
+-- Each frame and each block has one owner or is free; a page that is on swap, on its way there or from there, or saved,
+-- has its blocks in its own owner's holding.
+pub record OneOwner (size : ℕ) (lives : ℕ → Bool) (p : Placement) (hs : Holdings) : Type 0 where
+  pub frames : OwnsFrames p
+  pub blocks : OwnsBlocks size lives p hs
+  pub aside : TextAside p
+
+-- the page needs its blocks
+abbrev pub needs_blocks_by : Page → PageState → Bool → Bool
+needs_blocks_by (Text image v) s true = true
+needs_blocks_by q OnSwap mark = true
+needs_blocks_by q (Coming f) mark = true
+needs_blocks_by q (Going f) mark = true
+needs_blocks_by q s mark = false
+
+abbrev pub needs_blocks : Placement → Page → Bool
+needs_blocks p q = needs_blocks_by q (state_of p q) (mark_of p q)
