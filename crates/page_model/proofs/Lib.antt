@@ -19,3 +19,4 @@ pub mod Stays
 pub mod HandLaws
 pub mod Ends
 pub mod ServeEnds
+pub mod Kept

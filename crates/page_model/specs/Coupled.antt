@@ -2,12 +2,12 @@
 -- where they are zeros.
 use Rattle.std.specs.Prelude.{◌≡◌, ℕ, Bool, false, List, [], replicate, Option, Some, None}
 use Rattle.vm_facts.specs.declared.page.Page.{Page}
-use Rattle.vm_facts.specs.declared.page.Page.TheVariants.{Text}
+use Rattle.vm_facts.specs.declared.page.Page.TheVariants.{Data, Stack, Text}
 use Rattle.vm_facts.specs.declared.page.PageState.{PageState}
 use Rattle.vm_facts.specs.declared.page.PageState.TheVariants.{Unfilled, Valid, Invalid, Coming, Going, OnSwap}
 use Rattle.page_model.specs.Pages.{Filling, Zeros, OfImage, frame_of}
 use Rattle.page_model.specs.Frames.{at_frame}
-use Rattle.page_model.specs.Placement.{Placement, Errand, Writes, Reads, FromSwap, FromFile, Due, Start, CopyOf, state_of, is_dirty, filling_of, errand_at, due_at, parts_of, IsThere}
+use Rattle.page_model.specs.Placement.{Placement, Errand, Writes, Reads, FromSwap, FromFile, Due, Start, CopyOf, state_of, mark_of, is_dirty, filling_of, errand_at, due_at, parts_of, IsThere}
 
 unfoldable pub zeros : List ℕ
 zeros = replicate 1024 0
@@ -36,18 +36,30 @@ KeepsUnfilled b q None OfImage = b.file q ≡ b.memory q
 KeepsUnfilled b q (Some (Start r)) filling = b.start q ≡ b.memory q
 KeepsUnfilled b q (Some (CopyOf r parent)) filling = b.memory parent ≡ b.memory q
 
--- of a page that is being read, by what its transfer is for
-abbrev pub KeepsComing : Bytes → Page → Option Errand → Type 0
-KeepsComing b q None = ⊥
-KeepsComing b q (Some Writes) = ⊥
-KeepsComing b q (Some (Reads FromSwap demanded)) = b.swap q ≡ b.memory q
-KeepsComing b q (Some (Reads FromFile demanded)) = b.file q ≡ b.memory q
+-- text that must be read from its file isn't saved
+abbrev pub IsUnsaved : Page → Bool → Type 0
+IsUnsaved (Data sid v) dirty = Unit {0}
+IsUnsaved (Stack sid v) dirty = Unit {0}
+IsUnsaved (Text image v) saved = saved ≡ false
+
+-- what a read from a file brings: text that isn't saved, or the one data page that is demanded
+abbrev pub IsFromFile : Page → Bool → Page → Type 0
+IsFromFile (Data sid v) dirty demanded = Data sid v ≡ demanded
+IsFromFile (Stack sid v) dirty demanded = Stack sid v ≡ demanded
+IsFromFile (Text image v) saved demanded = saved ≡ false
+
+-- of a page that is being read, by its mark and what its transfer is for
+abbrev pub KeepsComing : Bytes → Page → Bool → Option Errand → Type 0
+KeepsComing b q mark None = ⊥
+KeepsComing b q mark (Some Writes) = ⊥
+KeepsComing b q mark (Some (Reads FromSwap demanded)) = b.swap q ≡ b.memory q
+KeepsComing b q mark (Some (Reads FromFile demanded)) = (b.file q ≡ b.memory q) × IsFromFile q mark demanded
 
 abbrev pub KeepsBy : Placement → Bytes → Page → PageState → Type 0
-KeepsBy p b q Unfilled = KeepsUnfilled b q (due_at p.due q) (filling_of p q)
+KeepsBy p b q Unfilled = KeepsUnfilled b q (due_at p.due q) (filling_of p q) × IsUnsaved q (mark_of p q)
 KeepsBy p b q (Valid f) = IsInFrame b (is_dirty p q) f q
 KeepsBy p b q (Invalid f) = IsInFrame b (is_dirty p q) f q
-KeepsBy p b q (Coming f) = KeepsComing b q (errand_at (parts_of p.transfers) f)
+KeepsBy p b q (Coming f) = KeepsComing b q (mark_of p q) (errand_at (parts_of p.transfers) f)
 KeepsBy p b q (Going f) = bytes_in b f ≡ b.memory q
 KeepsBy p b q OnSwap = b.swap q ≡ b.memory q
 
@@ -57,8 +69,9 @@ Keeps p b q = KeepsBy p b q (state_of p q)
 
 pub record CouplesPages (p : Placement) (b : Bytes) : Type 0 where
   pub each : (q : Page) → IsThere p q → Keeps p b q
-  -- text is never written
+  -- text is never written, and never due
   pub text : (image v : ℕ) → b.file (Text image v) ≡ b.memory (Text image v)
+  pub text_due : (image v : ℕ) → due_at p.due (Text image v) ≡ None
 
 -- One page in two machines: where it has a frame in both, the frames have the same bytes, and so have its two blocks,
 -- and what is kept for it.

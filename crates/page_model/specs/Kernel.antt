@@ -272,13 +272,6 @@ outline_of q = record { pid = q.pid; parent = q.parent; life = life_of q.holding
 abbrev pub outline_kept : Proc → Outline
 outline_kept p = record { pid = p.pid; parent = p.parent; life = p.life; asleep = p.asleep }
 
--- the number, image and sizes of a space
-pub record Shape : Type 0 where
-  pub sid : ℕ
-  pub image : ℕ
-  pub data_pages : ℕ
-  pub stack_pages : ℕ
-
 -- the processes, spaces and next numbers of the machine are those of the flat state
 pub record SameTables (k : Kernel) (flat : FlatState) : Type 0 where
   pub processes : map outline_kept k.processes ≡ map outline_of flat.processes
