@@ -1,5 +1,5 @@
 -- A step that changes one page and one frame keeps the flat memory, where it does so at that page.
-use Rattle.std.proofs.Common.{◌≡◌, ◌≢◌, ◌⊎◌, inl, inr, ℕ, Bool, true, false, List, [], Option, Some, None, refl, sym, ap, ◌∙◌, subst, arith}
+use Rattle.std.proofs.Common.{◌≡◌, ◌≢◌, ◌⊎◌, inl, inr, ℕ, Bool, List, [], Option, Some, None, refl, sym, ap, ◌∙◌, subst, arith}
 use Rattle.vm_facts.specs.declared.page.Page.{Page}
 use Rattle.vm_facts.specs.declared.page.Page.TheVariants.{Text}
 use Rattle.vm_facts.specs.declared.page.PageState.{PageState}
@@ -60,9 +60,11 @@ in_frame_same : (p q : Placement) (b c : Bytes) (w : Page) (f : ℕ) → Unmoved
 in_frame_same p q b c w f u e k = record { here = (u.frames f e).0 ∙ k.here ∙ sym u.memory; there = λ h. u.swap ∙ k.there (sym (ap (is_dirty_by w) (mark_same p q b c w u)) ∙ h) ∙ sym u.memory }
 
 keeps_same : (p q : Placement) (b c : Bytes) (w : Page) (s : PageState) → state_of p w ≡ s → Unmoved p q b c w → KeepsBy p b w s → KeepsBy q c w s
-keeps_same p q b c w Unfilled e u k = (unfilled_same b c w (due_at q.due w) (filling_of q w) u.file u.start u.memory u.copied
-    (subst (λ (d : Option Due). KeepsUnfilled b w d (filling_of q w)) (sym u.due) (subst (KeepsUnfilled b w (due_at p.due w)) (sym (filling_same p q b c w u)) k.0)),
-    subst (IsUnsaved w) (sym (mark_same p q b c w u)) k.1)
+keeps_same p q b c w Unfilled e u k = (
+  unfilled_same b c w (due_at q.due w) (filling_of q w) u.file u.start u.memory u.copied
+      (subst (λ (d : Option Due). KeepsUnfilled b w d (filling_of q w)) (sym u.due) (subst (KeepsUnfilled b w (due_at p.due w)) (sym (filling_same p q b c w u)) k.0)),
+  subst (IsUnsaved w) (sym (mark_same p q b c w u)) k.1,
+)
 keeps_same p q b c w (Valid f) e u k = in_frame_same p q b c w f u (ap frame_of e) k
 keeps_same p q b c w (Invalid f) e u k = in_frame_same p q b c w f u (ap frame_of e) k
 keeps_same p q b c w (Coming f) e u k = coming_same b c w (mark_of q w) (errand_at (parts_of q.transfers) f) u.file u.swap u.memory

@@ -1,25 +1,23 @@
 -- Forcing a frame ends: a number falls with each unit, whatever is locked.
-use Rattle.std.proofs.Common.{◌≡◌, ◌≢◌, ◌⊎◌, inl, inr, ℕ, zero, suc, ◌+◌, ◌-◌, ◌*◌, ◌/◌, ◌<◌, ◌≤◌, ◌==◌, ◌&&◌, Bool, true, false, cond, not, List, [], ◌∷◌, ◌++◌, length, Option, Some, None, refl, sym, ap, ◌∙◌, subst, arith}
+use Rattle.std.proofs.Common.{◌≡◌, ◌≢◌, ◌⊎◌, inl, inr, ℕ, zero, suc, ◌+◌, ◌-◌, ◌/◌, ◌<◌, ◌≤◌, ◌&&◌, Bool, true, false, cond, not, List, [], ◌∷◌, ◌++◌, length, Option, Some, None, refl, sym, ap, ◌∙◌, subst, arith}
 use Rattle.std.proofs.lemmas.Bool.{cases_eq}
 use Rattle.vm_facts.specs.declared.page.Page.{Page}
 use Rattle.vm_facts.specs.declared.page.Page.TheVariants.{Data}
 use Rattle.vm_facts.specs.declared.page.PageState.{PageState}
 use Rattle.vm_facts.specs.declared.page.PageState.TheVariants.{Unfilled, Valid, Invalid, Coming, Going, OnSwap}
-use Rattle.page_model.specs.Pages.{Slot, frame_of, is_among, beside, number_of, pages_from}
+use Rattle.page_model.specs.Pages.{frame_of, is_among, beside, pages_from}
 use Rattle.page_model.specs.Frames.{times, next_frame, at_frame}
-use Rattle.page_model.specs.Placement.{Placement, Transfer, Part, Moving, Errand, Writes, Reads, Source, slot_of, state_of, mark_of, is_dirty, page_of, IsFrame, parts_of, flying, put}
-use Rattle.page_model.specs.Moves.{turn, begin, join_last, launch, launch_to, launch_all, launch_run, land, land_read, land_all, retire, retire_to, done, done_of}
-use Rattle.page_model.specs.Runs.{Run, run_out, pages_of_run}
+use Rattle.page_model.specs.Placement.{Placement, Transfer, Part, Errand, Writes, state_of, mark_of, is_dirty, page_of, IsFrame, parts_of, flying}
+use Rattle.page_model.specs.Moves.{begin, join_last, launch, launch_to, launch_all, launch_run, retire_to}
+use Rattle.page_model.specs.Runs.{run_out, pages_of_run}
 use Rattle.page_model.specs.Hands.{expire, expire_of, expire_if, expire_to, sweep, sweep_of, sweep_to, sweep_by, advance, hand_move}
-use Rattle.page_model.specs.Serve.{force, force_by}
 use Rattle.page_model.specs.Conditions.{EachPage, HasSeat, IsSeated}
-use Rattle.page_model.specs.Rank.{is_invalid, is_open, is_open_page, is_usable, is_usable_page, reach, walk, HandsStand, far, far_by, far_transfers, far_parts}
+use Rattle.page_model.specs.Rank.{is_invalid, is_open, is_open_page, is_usable, is_usable_page, reach, walk, HandsStand, far, far_by, far_transfers, far_parts, HasRoom}
 use Rattle.page_model.specs.Ownership.{OwnsFrames, seats, seated, seated_of}
 use Rattle.page_model.proofs.PageLaws.{page_cases, put_state}
-use Rattle.page_model.proofs.Local.{some_is, none_some}
+use Rattle.page_model.proofs.Local.{some_is}
 use Rattle.page_model.proofs.Steps.{page_in, put_other_state}
 use Rattle.page_model.proofs.OwnsHands.{run_out_seats}
-use Rattle.page_model.proofs.OwnsRuns.{land_transfers}
 use Rattle.page_model.proofs.Stays.{Steady, expire_steady, swept_steady}
 use Rattle.page_model.proofs.HandLaws.{walk_in, walk_apart, walk_next, next_in, pigeons, reach_le, reach_none, Passed, reach_shift}
 
@@ -274,11 +272,6 @@ freed_near p locked h = go p.free refl h
     go [] e (inr w) = write p.transfers w
     go (f ∷ fs) e k = omega arith
 
--- enough frames lie ahead of the front hand for all that is locked
-pub record HasRoom (p : Placement) (locked : List Page) : Type 0 where
-  pub quarter : 0 < length p.holds / 4
-  pub rest : length locked + length p.holds / 4 < length p.holds
-
 far_hands : (p : Placement) (locked : List Page) → p.free ≡ [] → p.transfers ≡ [] → far p locked ≡ 2 + reach p locked (length p.holds) (length p.holds / 4) p.back
 far_hands p locked e t = ap (far_by p locked) e ∙ ap (far_transfers p locked) t
 
@@ -345,13 +338,13 @@ move_falls p locked o h r e t = go (is_usable (expire p locked) locked (expire p
     go false i =
         let same : hand_move p locked ≡ advance (expire p locked) = ap advance (sweep_idles (expire p locked) locked i) in
         let now : far (advance (expire p locked)) locked ≡ 2 + reach (advance (expire p locked)) locked (length p.holds) (length p.holds / 4) (next_frame (length p.holds) p.back) =
-            far_hands (advance (expire p locked)) locked free_still transfers_still
-            ∙ ap (λ (l : List (Option Page)). 2 + reach (advance (expire p locked)) locked (length l) (length l / 4) (next_frame (length l) (expire p locked).back)) s.holds
-            ∙ ap (λ (f : ℕ). 2 + reach (advance (expire p locked)) locked (length p.holds) (length p.holds / 4) (next_frame (length p.holds) f)) s.back in
+        far_hands (advance (expire p locked)) locked free_still transfers_still
+        ∙ ap (λ (l : List (Option Page)). 2 + reach (advance (expire p locked)) locked (length l) (length l / 4) (next_frame (length l) (expire p locked).back)) s.holds
+        ∙ ap (λ (f : ℕ). 2 + reach (advance (expire p locked)) locked (length p.holds) (length p.holds / 4) (next_frame (length p.holds) f)) s.back in
         let step = step_by p locked (length p.holds) (length p.holds / 4) (is_usable p locked p.back) (omega (arith, r.rest)) r.quarter refl (unused i) in
         let less : reach (advance (expire p locked)) locked (length p.holds) (length p.holds / 4) (next_frame (length p.holds) p.back) ≤ reach p locked (length p.holds - 1) (length p.holds / 4 - 1) (next_frame (length p.holds) p.back) =
-            shifted p (advance (expire p locked)) locked (length p.holds) (length p.holds / 4) (next_frame (length p.holds) p.back) k (omega (arith, r.rest)) r.quarter
-            (walk_back (length p.holds) (length p.holds / 4) p.back r.quarter ∙ sym h.ahead) (omega (arith, found, step)) in
+        shifted p (advance (expire p locked)) locked (length p.holds) (length p.holds / 4) (next_frame (length p.holds) p.back) k (omega (arith, r.rest)) r.quarter
+        (walk_back (length p.holds) (length p.holds / 4) p.back r.quarter ∙ sym h.ahead) (omega (arith, found, step)) in
         let all : far (hand_move p locked) locked ≡ far (advance (expire p locked)) locked = ap (λ (q : Placement). far q locked) same in
         omega (arith, was, now, step, less)
 

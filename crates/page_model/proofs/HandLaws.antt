@@ -1,13 +1,13 @@
 -- Where the hands stand, and how far they have to go.
-use Rattle.std.proofs.Common.{◌≡◌, ◌≢◌, ◌⊎◌, inl, inr, ℕ, zero, suc, ◌+◌, ◌-◌, ◌/◌, ◌<◌, ◌≤◌, ◌==◌, ◌&&◌, ◌||◌, Bool, true, false, cond, not, List, [], ◌∷◌, ◌++◌, length, Option, Some, None, refl, sym, ap, ◌∙◌, subst, arith}
+use Rattle.std.proofs.Common.{◌≡◌, ◌≢◌, ◌⊎◌, inl, inr, ℕ, zero, suc, ◌+◌, ◌-◌, ◌<◌, ◌≤◌, ◌||◌, Bool, true, false, cond, List, [], ◌∷◌, length, refl, sym, ap, ◌∙◌, subst, arith}
 use Rattle.std.proofs.lemmas.Bool.{cases_eq}
 use Rattle.std.proofs.lemmas.Bool.Decides.{nat_tests}
 use Rattle.vm_facts.specs.declared.page.Page.{Page}
 use Rattle.page_model.specs.Pages.{same_page, is_among}
 use Rattle.page_model.specs.Frames.{next_frame}
-use Rattle.page_model.specs.Placement.{Placement, page_of}
+use Rattle.page_model.specs.Placement.{Placement}
 use Rattle.page_model.specs.Rank.{is_open, is_usable, reach, walk}
-use Rattle.page_model.proofs.PageLaws.{page_cases, same_page_is, same_page_self}
+use Rattle.page_model.proofs.PageLaws.{same_page_is}
 
 next_more : (n f : ℕ) → f < n → next_frame n f ≡ f + 1
 next_more n f l = grind (arith, nat_tests)

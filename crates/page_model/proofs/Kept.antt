@@ -1,25 +1,25 @@
 -- Each move of one page keeps the flat memory.
-use Rattle.std.proofs.Common.{◌≡◌, ◌≢◌, ◌⊎◌, inl, inr, ℕ, zero, suc, ◌+◌, ◌<◌, ◌≤◌, ◌==◌, Bool, true, false, cond, not, List, [], ◌∷◌, ◌++◌, length, Option, Some, None, refl, sym, ap, ◌∙◌, subst, arith}
+use Rattle.std.proofs.Common.{◌≡◌, ◌≢◌, ◌⊎◌, inl, inr, ℕ, ◌+◌, ◌<◌, Bool, true, false, cond, not, List, [], ◌∷◌, ◌++◌, length, Option, Some, None, refl, sym, ap, ◌∙◌, subst, arith}
 use Rattle.vm_facts.specs.declared.page.Page.{Page}
 use Rattle.vm_facts.specs.declared.page.Page.TheVariants.{Data, Stack, Text}
 use Rattle.vm_facts.specs.declared.page.PageState.{PageState}
 use Rattle.vm_facts.specs.declared.page.PageState.TheVariants.{Unfilled, Valid, Invalid, Coming, Going, OnSwap}
-use Rattle.page_model.specs.Pages.{Slot, Filling, Zeros, OfImage, frame_of, is_dirty_by, left_state, written_mark, same_page, is_among}
-use Rattle.page_model.specs.Frames.{times, without, at_frame, set_frame}
-use Rattle.page_model.specs.Placement.{Placement, Transfer, Part, Moving, Errand, Writes, Reads, Source, FromSwap, FromFile, Due, due_page, moving, filling_by, slots_of, slot_of, state_of, mark_of, is_dirty, filling_of, page_of, errand_at, due_at, parts_of, flying, moving_state, IsFrame, IsThere, put}
-use Rattle.page_model.specs.Moves.{evict, evict_at, enter, turn, fill, fill_at, begin, join_last, get_one, get_at, launch, launch_to, land, land_read, arrived_mark, reclaim, reclaim_to, retire, retire_to, touch, touch_to}
+use Rattle.page_model.specs.Pages.{Filling, OfImage, frame_of, is_dirty_by, left_state, written_mark, same_page, is_among}
+use Rattle.page_model.specs.Frames.{times, without, at_frame}
+use Rattle.page_model.specs.Placement.{Placement, Transfer, Part, Moving, Errand, Writes, Reads, Source, FromSwap, FromFile, Due, due_page, moving, state_of, mark_of, is_dirty, filling_of, page_of, errand_at, due_at, parts_of, flying, IsFrame, IsThere}
+use Rattle.page_model.specs.Moves.{evict, evict_at, enter, turn, fill_at, join_last, get_one, get_at, launch, launch_to, land, land_read, arrived_mark, reclaim, reclaim_to, retire, retire_to, touch, touch_to}
 use Rattle.page_model.specs.Place.{filled, due_after}
 use Rattle.page_model.specs.Hands.{expire, expire_of, expire_if, expire_to}
-use Rattle.page_model.specs.Conditions.{CanEnter, IsSeated, HasSeat}
+use Rattle.page_model.specs.Conditions.{CanEnter, IsSeated}
 use Rattle.page_model.specs.Ownership.{OwnsFrames, IsListed, is_marked_dirty}
-use Rattle.page_model.specs.Coupled.{zeros, Bytes, bytes_in, IsInFrame, KeepsUnfilled, IsUnsaved, IsFromFile, KeepsComing, KeepsBy, Keeps, CouplesPages}
+use Rattle.page_model.specs.Coupled.{Bytes, bytes_in, IsInFrame, KeepsUnfilled, IsUnsaved, IsFromFile, KeepsComing, KeepsBy, CouplesPages, with_frame, source_bytes, Stores, WritesBoth, IsWritable, ReadsFrom}
 use Rattle.page_model.proofs.FrameLaws.{times_head, at_set_same, at_set_other}
 use Rattle.page_model.proofs.PageLaws.{page_cases, put_same, put_state, put_mark, same_page_is}
 use Rattle.page_model.proofs.PartLaws.{IsOpen, parts_join, errand_push_same, errand_push_other, errand_head, errand_tail}
-use Rattle.page_model.proofs.Local.{Local, some_is, none_some}
-use Rattle.page_model.proofs.Steps.{Turns, turn_local, Enters, enter_local, page_in, frame_in, evict_local, evict_owner, evict_other, EvictRest, evict_rest}
+use Rattle.page_model.proofs.Local.{Local}
+use Rattle.page_model.proofs.Steps.{Turns, turn_local, Enters, enter_local, page_in, frame_in, evict_local, evict_owner, EvictRest, evict_rest}
 use Rattle.page_model.proofs.Owns.{fill_enters, get_enters, reclaim_turns, expire_turns, launch_turns, retire_turns, touch_turns}
-use Rattle.page_model.proofs.OwnsRuns.{Landing, landing_state, landing_frame, tail_turns, valid_turns, written_clean, coming_clean, clean_unmarked}
+use Rattle.page_model.proofs.OwnsRuns.{Landing, landing_state, landing_frame, tail_turns, valid_turns, written_clean, coming_clean}
 use Rattle.page_model.proofs.Couples.{Beside, local_coupled}
 
 -- what stands beside, where it stays as it is
@@ -36,10 +36,6 @@ beside_still p q v f b d e = record {
   text_due = λ i n h. ap (λ (ds : List Due). due_at ds (Text i n)) d ∙ h;
   errands = e;
 }
-
--- other bytes in one frame
-abbrev pub with_frame : Bytes → ℕ → List ℕ → Bytes
-with_frame b f bytes = record b { frames = set_frame b.frames f bytes }
 
 pub beside_frame : (p q : Placement) (v : Page) (f : ℕ) (b : Bytes) (bytes : List ℕ) → q.due ≡ p.due → ((g : ℕ) → g ≢ f → errand_at (parts_of q.transfers) g ≡ errand_at (parts_of p.transfers) g) → Beside p q v f b (with_frame b f bytes)
 beside_frame p q v f b bytes d e = record {
@@ -122,12 +118,6 @@ due_text (d ∷ ds) v w e = go (same_page (due_page d) v) (same_page (due_page d
     go true true h = absurd (let k : Some d ≡ None = sym (ap (λ (z : Bool). cond z (Some d) (due_at ds w)) h) ∙ e in cc)
     go true false h = sym (ap (λ (z : Bool). cond z (Some d) (due_at ds w)) h) ∙ e
 
--- text takes no frame but by a read
-abbrev pub IsWritable : Page → Type 0
-IsWritable (Data sid n) = Unit {0}
-IsWritable (Stack sid n) = Unit {0}
-IsWritable (Text image n) = ⊥
-
 writable_dirty : (v : Page) → IsWritable v → is_dirty_by v true ≡ true
 writable_dirty (Data sid n) w = refl
 writable_dirty (Stack sid n) w = refl
@@ -176,11 +166,6 @@ filled_coupled p v f rest b bytes o c fr tokens w is k = subst (λ (q : Placemen
       text_due = λ i n h. due_text p.due v (Text i n) (ap (λ (ds : List Due). due_at ds (Text i n)) (sym r.due) ∙ h);
       errands = λ g n. ap (λ (ts : List Transfer). errand_at (parts_of ts) g) (sym r.transfers);
     }
-
--- what a page that is read from swap, or from its file, was
-abbrev pub ReadsFrom : Placement → Source → Page → Page → Type 0
-ReadsFrom p FromSwap demanded v = state_of p v ≡ OnSwap
-ReadsFrom p FromFile demanded v = (state_of p v ≡ Unfilled) × (filling_of p v ≡ OfImage) × (due_at p.due v ≡ None) × (IsWritable v → v ≡ demanded)
 
 from_file : (v : Page) (m : Bool) (demanded : Page) → IsUnsaved v m → (IsWritable v → v ≡ demanded) → IsFromFile v m demanded
 from_file (Data sid n) m demanded u h = h tt
@@ -309,15 +294,6 @@ written_stored (Data sid n) = refl
 written_stored (Stack sid n) = refl
 written_stored (Text image n) = refl
 
--- what a write changes beside: the page's own blocks
-pub record Stores (b c : Bytes) (v : Page) (bytes : List ℕ) : Type 0 where
-  pub frames : c.frames ≡ b.frames
-  pub own : c.swap v ≡ bytes
-  pub others : (w : Page) → w ≢ v → c.swap w ≡ b.swap w
-  pub file : (w : Page) → c.file w ≡ b.file w
-  pub start : (w : Page) → c.start w ≡ b.start w
-  pub memory : (w : Page) → c.memory w ≡ b.memory w
-
 -- A page that was written: its blocks have the bytes of its frame.
 pub land_write_coupled : (p : Placement) (x : Part) (rest : List Transfer) (b c : Bytes) → OwnsFrames p → Landing p Writes x rest → Stores b c x.page (bytes_in b x.frame) → CouplesPages p b → CouplesPages (land p Writes x rest) c
 land_write_coupled p x rest b c o l st k = turn_coupled p x.page x.frame (Invalid x.frame) (written_mark x.page) (p.free ++ x.frame ∷ []) rest b c o (tail_turns p Writes x rest (written_mark x.page) o l (written_clean x.page))
@@ -341,11 +317,6 @@ land_write_coupled p x rest b c o l st k = turn_coupled p x.page x.frame (Invali
 
     was : bytes_in b x.frame ≡ b.memory x.page
     was = keeps_at p b x.page (Going x.frame) k there (landing_state p Writes x rest o l)
-
--- what a read brings
-abbrev pub source_bytes : Bytes → Source → Page → List ℕ
-source_bytes b FromSwap v = b.swap v
-source_bytes b FromFile v = b.file v
 
 came : (b : Bytes) (source : Source) (demanded v : Page) (m : Bool) → KeepsComing b v m (Some (Reads source demanded)) → source_bytes b source v ≡ b.memory v
 came b FromSwap demanded v m k = k
@@ -398,15 +369,6 @@ land_read_coupled p source demanded x rest b o l tokens k = go (same_page x.page
         (marked p x.page x.frame (Invalid x.frame) (mark_of p x.page) (p.free ++ x.frame ∷ []) rest c there (record { here = here; there = λ h. beside_there b source demanded x.page (mark_of p x.page) (apart e) was h }))
 
 -- A user write.
-
--- other bytes in a frame, and in the flat memory of its page
-pub record WritesBoth (b c : Bytes) (v : Page) (f : ℕ) (bytes : List ℕ) : Type 0 where
-  pub frames : c.frames ≡ set_frame b.frames f bytes
-  pub own : c.memory v ≡ bytes
-  pub others : (w : Page) → w ≢ v → c.memory w ≡ b.memory w
-  pub swap : (w : Page) → c.swap w ≡ b.swap w
-  pub file : (w : Page) → c.file w ≡ b.file w
-  pub start : (w : Page) → c.start w ≡ b.start w
 
 pub touch_coupled : (p : Placement) (v : Page) (f : ℕ) (b c : Bytes) (bytes : List ℕ) → OwnsFrames p → state_of p v ≡ Valid f → IsWritable v → p.due ≡ [] → length b.frames ≡ length p.holds → WritesBoth b c v f bytes → CouplesPages p b → CouplesPages (touch p v) c
 touch_coupled p v f b c bytes o e w due tokens wr k = go v w refl

@@ -20,3 +20,4 @@ pub mod HandLaws
 pub mod Ends
 pub mod ServeEnds
 pub mod Kept
+pub mod KeptRuns

@@ -1,21 +1,21 @@
 -- What is locked and valid stays valid, whatever frame is forced and whatever page is served.
-use Rattle.std.proofs.Common.{◌≡◌, ◌≢◌, ◌⊎◌, inl, inr, ℕ, zero, suc, ◌+◌, ◌<◌, ◌==◌, ◌&&◌, Bool, true, false, not, List, [], ◌∷◌, ◌++◌, length, Option, Some, None, refl, sym, ap, ◌∙◌, subst, arith}
+use Rattle.std.proofs.Common.{◌≡◌, ◌≢◌, inl, inr, ℕ, zero, suc, ◌+◌, ◌<◌, ◌&&◌, Bool, true, false, not, List, [], ◌∷◌, Option, Some, None, refl, sym, ap, ◌∙◌, subst, arith}
 use Rattle.vm_facts.specs.declared.page.Page.{Page}
 use Rattle.vm_facts.specs.declared.page.PageState.{PageState}
 use Rattle.vm_facts.specs.declared.page.PageState.TheVariants.{Unfilled, Valid, Invalid, Coming, Going, OnSwap}
 use Rattle.page_model.specs.Pages.{Slot, Filling, Zeros, OfImage, frame_of, number_of, beside, is_valid, is_among, left_state, same_page, written_mark}
-use Rattle.page_model.specs.Frames.{times, without}
+use Rattle.page_model.specs.Frames.{times}
 use Rattle.page_model.specs.Placement.{Placement, Transfer, Part, Errand, Writes, Reads, Source, slot_of, state_of, mark_of, is_dirty, filling_of, page_of, IsThere, moving_state, put}
-use Rattle.page_model.specs.Moves.{evict, evict_at, enter, turn, fill, fill_at, begin, join_last, get_one, get_at, get_all, get_run, launch, launch_to, launch_all, launch_run, land, land_read, land_all, done, done_of, reclaim, reclaim_to, retire, retire_to, arrived_mark}
-use Rattle.page_model.specs.Runs.{run_out, run_both, pages_of_run, goes_along, is_idle, is_idle_by, is_near, most_written, run_in}
+use Rattle.page_model.specs.Moves.{evict, evict_at, enter, fill, fill_at, begin, join_last, get_one, get_at, get_all, launch, launch_to, launch_all, land, land_read, land_all, done, done_of, reclaim, reclaim_to, retire_to, arrived_mark}
+use Rattle.page_model.specs.Runs.{run_out, pages_of_run, goes_along, is_idle, is_idle_by, is_near, most_written, run_in}
 use Rattle.page_model.specs.Hands.{expire, expire_of, expire_if, expire_to, sweep, sweep_of, sweep_to, sweep_by, hand_move}
 use Rattle.page_model.specs.Serve.{force, force_by, read_step, read_errand, source_for, read_if, bring_by, feed_by, serve_by, serve_step, is_full}
 use Rattle.page_model.specs.Conditions.{EachPage, AllApart, CanEnter, Spares}
 use Rattle.page_model.specs.Ownership.{OwnsFrames, IsListed}
-use Rattle.page_model.proofs.PageLaws.{page_cases, put_other}
+use Rattle.page_model.proofs.PageLaws.{page_cases}
 use Rattle.page_model.proofs.PartLaws.{IsOpen, begin_open}
-use Rattle.page_model.proofs.Local.{some_is, none_some}
-use Rattle.page_model.proofs.Steps.{put_other_state, evict_other, EvictRest, evict_rest}
+use Rattle.page_model.proofs.Local.{none_some}
+use Rattle.page_model.proofs.Steps.{put_other_state, evict_other}
 use Rattle.page_model.proofs.Owns.{get_owner}
 use Rattle.page_model.proofs.RunLaws.{and_both, each_page_imp, each_page_both, run_each, run_both_in, run_apart}
 use Rattle.page_model.proofs.OwnsRuns.{begin_owner, get_enters_still, get_open_still, Landing, landing_state, land_owner, land_transfers}

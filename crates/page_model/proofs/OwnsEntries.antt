@@ -1,28 +1,22 @@
 -- Each entry keeps the ownership of frames.
-use Rattle.std.proofs.Common.{◌≡◌, ◌≢◌, ◌⊎◌, inl, inr, ℕ, zero, suc, ◌+◌, ◌-◌, ◌<◌, ◌≤◌, ◌==◌, ◌&&◌, ◌||◌, Bool, true, false, not, cond, List, [], ◌∷◌, ◌++◌, length, map, Option, Some, None, refl, sym, ap, ◌∙◌, subst, arith}
-use Rattle.std.proofs.lemmas.Bool.{cases_eq}
-use Rattle.std.proofs.lemmas.Bool.Decides.{nat_tests}
+use Rattle.std.proofs.Common.{◌≡◌, ℕ, ◌-◌, Bool, true, false, List, ◌++◌, Option, Some, None, refl, sym, subst}
 use Rattle.vm_facts.specs.declared.page.Page.{Page}
-use Rattle.vm_facts.specs.declared.page.Page.TheVariants.{Data, Stack, Text}
-use Rattle.vm_facts.specs.declared.page.PageState.{PageState}
-use Rattle.vm_facts.specs.declared.page.PageState.TheVariants.{Unfilled, Valid, Invalid, Coming, Going, OnSwap}
+use Rattle.vm_facts.specs.declared.page.Page.TheVariants.{Data, Stack}
 use Rattle.vm_facts.specs.declared.entry.Entry.{Entry}
 use Rattle.vm_facts.specs.declared.entry.Entry.TheVariants as entries
 use Rattle.vm_facts.specs.Flat.{FlatState}
 use Rattle.page_model.specs.declared.change.Change.{Change}
 use Rattle.page_model.specs.declared.change.Change.TheVariants.{Keep, Resize, Fork, Lend, Exec, Reap, Sleep, End}
 use Rattle.page_model.specs.Flat.{NamedImage, image_numbered, process_of}
-use Rattle.page_model.specs.Pages.{frame_of, number_of, pages_from}
-use Rattle.page_model.specs.Frames.{times}
-use Rattle.page_model.specs.Placement.{Placement, Moving, Errand, Writes, Reads, state_of, parts_of, flying, moving_state}
+use Rattle.page_model.specs.Pages.{number_of, pages_from}
+use Rattle.page_model.specs.Placement.{Placement, state_of}
 use Rattle.page_model.specs.Moves.{fill, touch_all}
-use Rattle.page_model.specs.Place.{filled, moved, resize, data_from, stack_from, data_count, stack_count, pages_of_space, give_up, give_up_unless, enter_image, fork_space, place_change, place_entry, place_step, space_of_process, is_borrower}
+use Rattle.page_model.specs.Place.{filled, moved, data_from, stack_from, data_count, stack_count, give_up_unless, enter_image, fork_space, place_change, place_entry, place_step, space_of_process, is_borrower}
 use Rattle.page_model.specs.Serve.{source_for}
-use Rattle.page_model.specs.Swapper.{is_of_space, is_of_text, names_page, is_settled}
-use Rattle.page_model.specs.Conditions.{EachPage, AtRest, AllAtRest, CanEnter, HasSeat, IsNew, IsSettled, CanPlace, CanChange}
-use Rattle.page_model.specs.Ownership.{OwnsFrames, Each, IsMoving}
+use Rattle.page_model.specs.Conditions.{AtRest, AllAtRest, CanEnter, IsNew, IsSettled, CanPlace, CanChange}
+use Rattle.page_model.specs.Ownership.{OwnsFrames}
 use Rattle.page_model.proofs.Owns.{fill_owner, reclaim_owner}
-use Rattle.page_model.proofs.RunLaws.{and_both, each_page_append, pages_from_each, pages_from_apart}
+use Rattle.page_model.proofs.RunLaws.{each_page_append, pages_from_each, pages_from_apart}
 use Rattle.page_model.proofs.OwnsRuns.{get_run_owner, put_step_owner, done_owner}
 use Rattle.page_model.proofs.OwnsHands.{moves_owner}
 use Rattle.page_model.proofs.OwnsChanges.{alike_owner, dropped_pages, resize_owner, fork_owner, enter_space_owner, give_up_owner, begin_residence_owner, end_residence_owner, touch_all_owner}

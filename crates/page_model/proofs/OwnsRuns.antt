@@ -78,7 +78,7 @@ launch_is p v c = let k : IsSeated p v c.frame = c.seat in elim k.state [
   | inr e ↦ ap (launch_to p v) e.0
 ]
 
-launch_still : (p : Placement) (v w : Page) → HasSeat p v → w ≢ v → HasSeat p w → HasSeat (launch p v) w
+pub launch_still : (p : Placement) (v w : Page) → HasSeat p v → w ≢ v → HasSeat p w → HasSeat (launch p v) w
 launch_still p v w c n h = subst (λ (q : Placement). HasSeat q w) (sym (launch_is p v c)) (record {
   frame = h.frame;
   seat = record {
@@ -89,7 +89,7 @@ launch_still p v w c n h = subst (λ (q : Placement). HasSeat q w) (sym (launch_
   };
 })
 
-launch_open_still : (p : Placement) (v : Page) → HasSeat p v → IsOpen p.transfers Writes → IsOpen (launch p v).transfers Writes
+pub launch_open_still : (p : Placement) (v : Page) → HasSeat p v → IsOpen p.transfers Writes → IsOpen (launch p v).transfers Writes
 launch_open_still p v c latest = subst (λ (q : Placement). IsOpen q.transfers Writes) (sym (launch_is p v c)) (join_open p.transfers Writes (record { page = v; frame = c.frame }) latest)
 
 pub launch_all_owner : (qs : List Page) (p : Placement) → OwnsFrames p → EachPage (HasSeat p) qs → AllApart qs → IsOpen p.transfers Writes → OwnsFrames (launch_all p qs)

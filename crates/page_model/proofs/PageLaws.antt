@@ -142,8 +142,11 @@ PutAt new old q r s m = (new ≡ old) ⊎ ((r ≡ beside q (number_of r)) × (ne
 
 put_at_data : (p : Placement) (sid v : ℕ) (s : PageState) (m : Bool) (r : Page) → PutAt (slots_of (put p (Data sid v) s m) r) (slots_of p r) (Data sid v) r s m
 put_at_data p sid v s m (Data t w) = elim (cases_eq t sid) [
-  | inl e ↦ inr (ap (λ (x : ℕ). Data x w) e, subst (λ (x : ℕ). data_in (numbered space_number x (changed space_number sid (with_data v s m) p.spaces)) ≡ change_slot (data_in (numbered space_number x p.spaces)) v s m) (sym e)
-      (ap data_in (changed_same space_number sid (with_data v s m) (λ x. refl) p.spaces) ∙ data_with_data v s m (numbered space_number sid p.spaces)))
+  | inl e ↦ inr (
+    ap (λ (x : ℕ). Data x w) e,
+    subst (λ (x : ℕ). data_in (numbered space_number x (changed space_number sid (with_data v s m) p.spaces)) ≡ change_slot (data_in (numbered space_number x p.spaces)) v s m) (sym e)
+        (ap data_in (changed_same space_number sid (with_data v s m) (λ x. refl) p.spaces) ∙ data_with_data v s m (numbered space_number sid p.spaces)),
+  )
   | inr n ↦ inl (ap data_in (changed_other space_number sid t (with_data v s m) (λ x. refl) n p.spaces))
 ]
 put_at_data p sid v s m (Stack t w) = elim (cases_eq t sid) [
@@ -155,8 +158,11 @@ put_at_data p sid v s m (Text i w) = inl refl
 
 put_at_stack : (p : Placement) (sid v : ℕ) (s : PageState) (m : Bool) (r : Page) → PutAt (slots_of (put p (Stack sid v) s m) r) (slots_of p r) (Stack sid v) r s m
 put_at_stack p sid v s m (Stack t w) = elim (cases_eq t sid) [
-  | inl e ↦ inr (ap (λ (x : ℕ). Stack x w) e, subst (λ (x : ℕ). stack_in (numbered space_number x (changed space_number sid (with_stack v s m) p.spaces)) ≡ change_slot (stack_in (numbered space_number x p.spaces)) v s m) (sym e)
-      (ap stack_in (changed_same space_number sid (with_stack v s m) (λ x. refl) p.spaces) ∙ stack_with_stack v s m (numbered space_number sid p.spaces)))
+  | inl e ↦ inr (
+    ap (λ (x : ℕ). Stack x w) e,
+    subst (λ (x : ℕ). stack_in (numbered space_number x (changed space_number sid (with_stack v s m) p.spaces)) ≡ change_slot (stack_in (numbered space_number x p.spaces)) v s m) (sym e)
+        (ap stack_in (changed_same space_number sid (with_stack v s m) (λ x. refl) p.spaces) ∙ stack_with_stack v s m (numbered space_number sid p.spaces)),
+  )
   | inr n ↦ inl (ap stack_in (changed_other space_number sid t (with_stack v s m) (λ x. refl) n p.spaces))
 ]
 put_at_stack p sid v s m (Data t w) = elim (cases_eq t sid) [
@@ -168,8 +174,11 @@ put_at_stack p sid v s m (Text i w) = inl refl
 
 put_at_text : (p : Placement) (image v : ℕ) (s : PageState) (m : Bool) (r : Page) → PutAt (slots_of (put p (Text image v) s m) r) (slots_of p r) (Text image v) r s m
 put_at_text p image v s m (Text t w) = elim (cases_eq t image) [
-  | inl e ↦ inr (ap (λ (x : ℕ). Text x w) e, subst (λ (x : ℕ). text_in (numbered image_number x (changed image_number image (with_text v s m) p.texts)) ≡ change_slot (text_in (numbered image_number x p.texts)) v s m) (sym e)
-      (ap text_in (changed_same image_number image (with_text v s m) (λ x. refl) p.texts) ∙ text_with_text v s m (numbered image_number image p.texts)))
+  | inl e ↦ inr (
+    ap (λ (x : ℕ). Text x w) e,
+    subst (λ (x : ℕ). text_in (numbered image_number x (changed image_number image (with_text v s m) p.texts)) ≡ change_slot (text_in (numbered image_number x p.texts)) v s m) (sym e)
+        (ap text_in (changed_same image_number image (with_text v s m) (λ x. refl) p.texts) ∙ text_with_text v s m (numbered image_number image p.texts)),
+  )
   | inr n ↦ inl (ap text_in (changed_other image_number image t (with_text v s m) (λ x. refl) n p.texts))
 ]
 put_at_text p image v s m (Data t w) = inl refl

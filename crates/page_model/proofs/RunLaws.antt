@@ -44,9 +44,11 @@ beside_number (Text image v) = refl
 
 pub pages_from_apart : (q : Page) (lo n : ℕ) → AllApart (pages_from q lo n)
 pages_from_apart q lo zero = tt
-pages_from_apart q lo (suc n) =
-    (pages_from_each (λ r. r ≢ beside q lo) q (lo + 1) n
-    (λ w l m e. absurd (let k : w ≡ lo = sym (number_beside q w) ∙ ap number_of e ∙ number_beside q lo in omega arith)), pages_from_apart q (lo + 1) n)
+pages_from_apart q lo (suc n) = (
+  pages_from_each (λ r. r ≢ beside q lo) q (lo + 1) n
+      (λ w l m e. absurd (let k : w ≡ lo = sym (number_beside q w) ∙ ap number_of e ∙ number_beside q lo in omega arith)),
+  pages_from_apart q (lo + 1) n,
+)
 
 -- What passes.
 

@@ -1,5 +1,5 @@
 -- Serving a page ends: its rank falls with each unit.
-use Rattle.std.proofs.Common.{◌≡◌, ◌≢◌, ◌⊎◌, inl, inr, ℕ, zero, suc, ◌+◌, ◌-◌, ◌*◌, ◌/◌, ◌<◌, ◌≤◌, ◌==◌, ◌&&◌, ◌||◌, nat_le, min, max, Bool, true, false, cond, not, List, [], ◌∷◌, ◌++◌, length, Option, Some, None, refl, sym, ap, ◌∙◌, subst, arith}
+use Rattle.std.proofs.Common.{◌≡◌, ◌≢◌, ◌⊎◌, inl, inr, ℕ, zero, suc, ◌+◌, ◌-◌, ◌*◌, ◌/◌, ◌<◌, ◌≤◌, ◌||◌, nat_le, min, Bool, true, false, cond, List, [], ◌∷◌, length, Option, Some, None, refl, sym, ap, ◌∙◌, subst, arith}
 use Rattle.std.proofs.lemmas.Bool.{cases_eq}
 use Rattle.std.proofs.lemmas.Bool.Decides.{nat_tests}
 use Rattle.std.proofs.lemmas.List.{length_push}
@@ -9,26 +9,26 @@ use Rattle.vm_facts.specs.declared.page.PageState.{PageState}
 use Rattle.vm_facts.specs.declared.page.PageState.TheVariants.{Unfilled, Valid, Invalid, Coming, Going, OnSwap}
 use Rattle.page_model.specs.Pages.{Slot, Filling, Zeros, OfImage, frame_of, number_of, beside, pages_from, is_valid, is_among, same_page, written_mark}
 use Rattle.page_model.specs.Frames.{times, without}
-use Rattle.page_model.specs.Placement.{Placement, Transfer, Part, Moving, Errand, Writes, Reads, Source, filling_by, slots_of, slot_of, state_of, mark_of, is_dirty, filling_of, page_of, IsThere, parts_of, flying, put}
-use Rattle.page_model.specs.Moves.{launch, launch_to, launch_all, launch_run, retire, retire_to, evict, evict_at, enter, turn, fill, fill_at, begin, join_last, get_one, get_at, get_all, get_run, land, land_read, land_all, done, done_of, reclaim, reclaim_to, arrived_mark}
-use Rattle.page_model.specs.Runs.{Run, pages_of_run, passing_above, passing_below, run_both, run_up, run_alone, run_in, run_in_by, comes_from_swap, comes_from_file, run_out, spare_frames, desired_free}
+use Rattle.page_model.specs.Placement.{Placement, Transfer, Part, Errand, Writes, Reads, Source, filling_by, slot_of, state_of, mark_of, is_dirty, filling_of, page_of, IsThere, parts_of, flying, put}
+use Rattle.page_model.specs.Moves.{launch, launch_to, launch_all, retire_to, evict, evict_at, enter, fill, fill_at, begin, get_one, get_at, get_all, land, land_read, land_all, done, done_of, reclaim_to, arrived_mark}
+use Rattle.page_model.specs.Runs.{Run, pages_of_run, passing_above, passing_below, run_both, run_up, run_alone, run_in, run_in_by, comes_from_swap, comes_from_file, run_out, spare_frames}
 use Rattle.page_model.specs.Hands.{expire, sweep, sweep_of, sweep_to, sweep_by}
-use Rattle.page_model.specs.Serve.{force, force_by, read_step, read_errand, source_for, read_if, bring_by, feed_by, serve_by, serve_step, is_full, most_in_flight}
+use Rattle.page_model.specs.Serve.{force, force_by, read_step, read_errand, source_for, read_if, feed_by, serve_by, serve_step, is_full}
 use Rattle.page_model.specs.Conditions.{EachPage, AllApart, CanEnter}
-use Rattle.page_model.specs.Rank.{reach, walk, HandsStand, far, far_by, far_transfers, far_parts, rank, rank_by, rank_unfilled}
-use Rattle.page_model.specs.Ownership.{OwnsFrames, IsListed, seats, seated}
+use Rattle.page_model.specs.Rank.{HandsStand, far, far_by, far_transfers, far_parts, rank, rank_by, rank_unfilled, HasRoom}
+use Rattle.page_model.specs.Ownership.{OwnsFrames, IsListed, seats}
 use Rattle.page_model.proofs.FrameLaws.{times_head, without_first}
 use Rattle.page_model.proofs.PageLaws.{page_cases, put_state, put_other, put_length, same_page_self}
 use Rattle.page_model.proofs.PartLaws.{IsOpen, begin_open, join_open, length_join}
-use Rattle.page_model.proofs.Local.{some_is, none_some}
-use Rattle.page_model.proofs.Steps.{page_in, once_at, put_other_state, evict_other, EvictRest, evict_rest}
+use Rattle.page_model.proofs.Local.{none_some}
+use Rattle.page_model.proofs.Steps.{once_at, put_other_state, EvictRest, evict_rest}
 use Rattle.page_model.proofs.Owns.{get_owner}
 use Rattle.page_model.proofs.RunLaws.{each_page_imp, each_page_both, below_le, beside_number, run_apart}
 use Rattle.page_model.proofs.OwnsRuns.{begin_owner, get_enters_still, get_open_still}
 use Rattle.page_model.proofs.OwnsServe.{run_in_enters}
 use Rattle.page_model.proofs.Stays.{Steady, Stays, done_steady, force_stays, expire_transfers}
 use Rattle.page_model.proofs.HandLaws.{reach_le}
-use Rattle.page_model.proofs.Ends.{HasRoom, move_falls}
+use Rattle.page_model.proofs.Ends.{move_falls}
 
 -- What the end of a transfer leaves.
 

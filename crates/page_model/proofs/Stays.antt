@@ -1,18 +1,18 @@
 -- Moves of pages with their frames: each page has the frame that it had, and a page with no frame stays as it is.
-use Rattle.std.proofs.Common.{◌≡◌, ◌≢◌, ◌⊎◌, inl, inr, ℕ, zero, suc, ◌+◌, ◌<◌, ◌&&◌, Bool, true, false, not, List, [], ◌∷◌, ◌++◌, length, Option, Some, None, refl, sym, ap, ◌∙◌, subst, arith}
+use Rattle.std.proofs.Common.{◌≡◌, inl, inr, ℕ, zero, suc, Bool, true, false, List, [], ◌∷◌, ◌++◌, length, Option, Some, None, refl, sym, ap, ◌∙◌, subst}
 use Rattle.vm_facts.specs.declared.page.Page.{Page}
 use Rattle.vm_facts.specs.declared.page.PageState.{PageState}
 use Rattle.vm_facts.specs.declared.page.PageState.TheVariants.{Unfilled, Valid, Invalid, Coming, Going, OnSwap}
-use Rattle.page_model.specs.Pages.{Slot, frame_of, is_among, same_page, written_mark}
-use Rattle.page_model.specs.Frames.{times, without}
-use Rattle.page_model.specs.Placement.{Placement, Transfer, Part, Errand, Writes, Reads, Source, parts_of, slots_of, slot_of, state_of, mark_of, is_dirty, page_of, put}
-use Rattle.page_model.specs.Moves.{turn, begin, join_last, launch, launch_to, launch_all, launch_run, land, land_read, land_all, done, done_of, reclaim, reclaim_to, retire, retire_to, arrived_mark}
+use Rattle.page_model.specs.Pages.{frame_of, is_among, same_page, written_mark}
+use Rattle.page_model.specs.Frames.{times}
+use Rattle.page_model.specs.Placement.{Placement, Transfer, Part, Errand, Writes, Reads, parts_of, slots_of, slot_of, state_of, mark_of, is_dirty, page_of, put}
+use Rattle.page_model.specs.Moves.{turn, begin, join_last, launch, launch_to, launch_all, launch_run, land, land_read, land_all, done, done_of, retire, retire_to, arrived_mark}
 use Rattle.page_model.specs.Runs.{run_out, pages_of_run}
 use Rattle.page_model.specs.Hands.{expire, expire_of, expire_if, expire_to, sweep, sweep_of, sweep_to, sweep_by, hand_move}
 use Rattle.page_model.specs.Serve.{force, force_by}
 use Rattle.page_model.specs.Ownership.{OwnsFrames}
 use Rattle.page_model.proofs.PageLaws.{page_cases, put_state, put_other, put_length}
-use Rattle.page_model.proofs.Local.{some_is, none_some}
+use Rattle.page_model.proofs.Local.{none_some}
 use Rattle.page_model.proofs.Steps.{page_in, put_other_state}
 use Rattle.page_model.proofs.OwnsRuns.{Landing, landing_frame, land_owner, land_transfers}
 

@@ -1,13 +1,13 @@
 -- Where the bytes of each page of a flat memory are: in its frame, on swap, in the file of its image, or nowhere,
 -- where they are zeros.
-use Rattle.std.specs.Prelude.{◌≡◌, ℕ, Bool, false, List, [], replicate, Option, Some, None}
+use Rattle.std.specs.Prelude.{◌≡◌, ◌≢◌, ℕ, Bool, false, List, [], ◌∷◌, replicate, Option, Some, None}
 use Rattle.vm_facts.specs.declared.page.Page.{Page}
 use Rattle.vm_facts.specs.declared.page.Page.TheVariants.{Data, Stack, Text}
 use Rattle.vm_facts.specs.declared.page.PageState.{PageState}
 use Rattle.vm_facts.specs.declared.page.PageState.TheVariants.{Unfilled, Valid, Invalid, Coming, Going, OnSwap}
 use Rattle.page_model.specs.Pages.{Filling, Zeros, OfImage, frame_of}
-use Rattle.page_model.specs.Frames.{at_frame}
-use Rattle.page_model.specs.Placement.{Placement, Errand, Writes, Reads, FromSwap, FromFile, Due, Start, CopyOf, state_of, mark_of, is_dirty, filling_of, errand_at, due_at, parts_of, IsThere}
+use Rattle.page_model.specs.Frames.{at_frame, set_frame}
+use Rattle.page_model.specs.Placement.{Placement, Transfer, Part, Source, Errand, Writes, Reads, FromSwap, FromFile, Due, Start, CopyOf, state_of, mark_of, is_dirty, filling_of, errand_at, due_at, parts_of, IsThere}
 
 unfoldable pub zeros : List ℕ
 zeros = replicate 1024 0
@@ -79,3 +79,60 @@ pub record SamePage (p q : Placement) (b c : Bytes) (v : Page) : Type 0 where
   pub frames : (f g : ℕ) → frame_of (state_of p v) ≡ Some f → frame_of (state_of q v) ≡ Some g → bytes_in c g ≡ bytes_in b f
   pub swap : c.swap v ≡ b.swap v
   pub start : c.start v ≡ b.start v
+
+-- other bytes in one frame
+abbrev pub with_frame : Bytes → ℕ → List ℕ → Bytes
+with_frame b f bytes = record b { frames = set_frame b.frames f bytes }
+
+-- what a read brings
+abbrev pub source_bytes : Bytes → Source → Page → List ℕ
+source_bytes b FromSwap v = b.swap v
+source_bytes b FromFile v = b.file v
+
+-- what a write changes beside: the page's own blocks
+pub record Stores (b c : Bytes) (v : Page) (bytes : List ℕ) : Type 0 where
+  pub frames : c.frames ≡ b.frames
+  pub own : c.swap v ≡ bytes
+  pub others : (w : Page) → w ≢ v → c.swap w ≡ b.swap w
+  pub file : (w : Page) → c.file w ≡ b.file w
+  pub start : (w : Page) → c.start w ≡ b.start w
+  pub memory : (w : Page) → c.memory w ≡ b.memory w
+
+-- other bytes in a frame, and in the flat memory of its page
+pub record WritesBoth (b c : Bytes) (v : Page) (f : ℕ) (bytes : List ℕ) : Type 0 where
+  pub frames : c.frames ≡ set_frame b.frames f bytes
+  pub own : c.memory v ≡ bytes
+  pub others : (w : Page) → w ≢ v → c.memory w ≡ b.memory w
+  pub swap : (w : Page) → c.swap w ≡ b.swap w
+  pub file : (w : Page) → c.file w ≡ b.file w
+  pub start : (w : Page) → c.start w ≡ b.start w
+
+-- text takes no frame but by a read
+abbrev pub IsWritable : Page → Type 0
+IsWritable (Data sid n) = Unit {0}
+IsWritable (Stack sid n) = Unit {0}
+IsWritable (Text image n) = ⊥
+
+-- what a page that is read from swap, or from its file, was
+abbrev pub ReadsFrom : Placement → Source → Page → Page → Type 0
+ReadsFrom p FromSwap demanded v = state_of p v ≡ OnSwap
+ReadsFrom p FromFile demanded v = (state_of p v ≡ Unfilled) × (filling_of p v ≡ OfImage) × (due_at p.due v ≡ None) × (IsWritable v → v ≡ demanded)
+
+-- after a read the frames have what was read
+abbrev pub bytes_read : Bytes → Source → List Part → Bytes
+bytes_read b source [] = b
+bytes_read b source (x ∷ xs) = bytes_read (with_frame b x.frame (source_bytes b source x.page)) source xs
+
+-- after a write the blocks have the bytes of the frames, one page after another
+abbrev pub StoresAll : Bytes → List Part → Bytes → Type 0
+StoresAll b [] c = b ≡ c
+StoresAll b (x ∷ xs) c = (m : Bytes) × Stores b m x.page (bytes_in b x.frame) × StoresAll m xs c
+
+abbrev pub BytesBy : Bytes → Errand → List Part → Bytes → Type 0
+BytesBy b Writes xs c = StoresAll b xs c
+BytesBy b (Reads source demanded) xs c = bytes_read b source xs ≡ c
+
+-- what the end of the oldest transfer makes of the bytes
+abbrev pub BytesAfter : Bytes → List Transfer → Bytes → Type 0
+BytesAfter b [] c = b ≡ c
+BytesAfter b (t ∷ ts) c = BytesBy b t.errand t.parts c

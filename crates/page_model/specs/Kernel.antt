@@ -1,23 +1,21 @@
 -- The whole machine as lists, and what each of its steps does to them.
-use Rattle.std.specs.Prelude.{◌≡◌, ℕ, zero, suc, ◌+◌, ◌-◌, ◌*◌, ◌<◌, ◌≤◌, ◌^◌, ◌==◌, Bool, true, false, cond, not, List, [], ◌∷◌, ◌++◌, length, map, filter, take, drop, replicate, flat_map, get_or, set, Option, Some, None}
+use Rattle.std.specs.Prelude.{◌≡◌, ℕ, ◌+◌, ◌*◌, ◌≤◌, ◌==◌, Bool, true, false, cond, not, List, [], ◌∷◌, ◌++◌, length, map, filter, take, drop, replicate, flat_map, set, Option, Some, None}
 use Rattle.vm_facts.specs.Flat.{Space, Holding, Holds, Lends, Zombie, Process, FlatState}
 use Rattle.vm_facts.specs.declared.page.Page.{Page}
 use Rattle.vm_facts.specs.declared.page.Page.TheVariants.{Data, Stack, Text}
-use Rattle.vm_facts.specs.declared.page.PageState.{PageState}
 use Rattle.vm_facts.specs.declared.regs.Regs.{Regs}
 use Rattle.vm_facts.specs.declared.entry.Entry.{Entry}
 use Rattle.vm_facts.specs.declared.entry.Entry.TheVariants as entries
-use Rattle.aout_image.specs.Image.{Loaded, page_at, word_bytes}
+use Rattle.aout_image.specs.Image.{page_at, word_bytes}
 use Rattle.swap_book.specs.declared.Owner.TheVariants as owners
 use Rattle.swap_book.specs.Holdings.{Holdings, block_in}
 use Rattle.page_model.specs.Flat.{NamedImage, image_numbered}
 use Rattle.page_model.specs.Journal.{append}
-use Rattle.page_model.specs.Pages.{number_of, same_page, pages_from, frame_of, numbered}
+use Rattle.page_model.specs.Pages.{same_page, frame_of, numbered}
 use Rattle.page_model.specs.Frames.{at_frame, set_frame}
-use Rattle.page_model.specs.Placement.{Placement, Transfer, Part, Errand, Writes, Reads, Due, Start, CopyOf, state_of, due_at, image_of, space_number, slots_of}
-use Rattle.page_model.specs.Moves.{done, reclaim, touch}
+use Rattle.page_model.specs.Placement.{Placement, Transfer, Part, Errand, Writes, Reads, Due, Start, CopyOf, state_of, due_at, image_of, slots_of}
+use Rattle.page_model.specs.Moves.{touch}
 use Rattle.page_model.specs.Place.{filled, put_step, moved, place_entry}
-use Rattle.page_model.specs.Hands.{hand_move}
 use Rattle.page_model.specs.Rank.{HandsStand}
 use Rattle.page_model.specs.Ownership.{OneOwner, block_of}
 use Rattle.page_model.specs.Coupled.{zeros, Bytes, CouplesPages}

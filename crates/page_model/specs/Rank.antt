@@ -1,11 +1,11 @@
 -- How far serving is from its end: numbers that fall with each unit.
-use Rattle.std.specs.Prelude.{◌≡◌, ℕ, zero, suc, ◌+◌, ◌*◌, ◌/◌, ◌==◌, ◌<◌, ◌≤◌, Bool, true, false, cond, not, ◌&&◌, List, [], ◌∷◌, length, Option, Some, None}
+use Rattle.std.specs.Prelude.{◌≡◌, ℕ, zero, suc, ◌+◌, ◌*◌, ◌/◌, ◌<◌, ◌≤◌, Bool, true, false, cond, not, ◌&&◌, List, [], ◌∷◌, length, Option, Some, None}
 use Rattle.vm_facts.specs.declared.page.Page.{Page}
 use Rattle.vm_facts.specs.declared.page.PageState.{PageState}
 use Rattle.vm_facts.specs.declared.page.PageState.TheVariants.{Unfilled, Valid, Invalid, Coming, Going, OnSwap}
 use Rattle.page_model.specs.Pages.{Filling, Zeros, OfImage, is_among}
 use Rattle.page_model.specs.Frames.{next_frame}
-use Rattle.page_model.specs.Placement.{Placement, Transfer, Part, Errand, Writes, Reads, state_of, filling_of, page_of}
+use Rattle.page_model.specs.Placement.{Placement, Transfer, Part, Errand, Writes, state_of, filling_of, page_of}
 
 abbrev pub is_invalid : PageState → Bool
 is_invalid (Invalid f) = true
@@ -76,3 +76,8 @@ rank_by p locked x OnSwap = 4 + length p.transfers + 2 * far p locked
 -- how far a page is from being valid
 abbrev pub rank : Placement → List Page → Page → ℕ
 rank p locked q = rank_by p locked (filling_of p q) (state_of p q)
+
+-- enough frames lie ahead of the front hand for all that is locked
+pub record HasRoom (p : Placement) (locked : List Page) : Type 0 where
+  pub quarter : 0 < length p.holds / 4
+  pub rest : length locked + length p.holds / 4 < length p.holds
