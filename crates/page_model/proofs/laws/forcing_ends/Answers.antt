@@ -1,0 +1,16 @@
+use Rattle.page_model.proofs.Ends.{far_bound, move_stands}
+use Rattle.page_model.proofs.ServeEnds.{force_falls}
+use Rattle.page_model.proofs.Locks.{force_spares}
+use Rattle.page_model.proofs.laws.forcing_ends.Goals as goal
+
+pub returns-clause-falls : goal.returns-clause-falls
+returns-clause-falls c = force_falls
+
+pub returns-clause-near : goal.returns-clause-near
+returns-clause-near c = far_bound
+
+pub returns-clause-stands : goal.returns-clause-stands
+returns-clause-stands c = move_stands
+
+pub returns-clause-spares : goal.returns-clause-spares
+returns-clause-spares c = force_spares

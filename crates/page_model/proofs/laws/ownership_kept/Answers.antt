@@ -1,0 +1,12 @@
+use Rattle.page_model.proofs.OwnsEntries.{place_entry_owner, place_step_owner}
+use Rattle.page_model.proofs.OwnsServe.{serve_owner}
+use Rattle.page_model.proofs.laws.ownership_kept.Goals as goal
+
+pub returns-clause-entry : goal.returns-clause-entry
+returns-clause-entry c = place_entry_owner
+
+pub returns-clause-change : goal.returns-clause-change
+returns-clause-change c = place_step_owner
+
+pub returns-clause-serve : goal.returns-clause-serve
+returns-clause-serve c = serve_owner

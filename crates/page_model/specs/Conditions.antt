@@ -1,0 +1,79 @@
+-- What the steps of a placement ask of the pages that they move, and what they keep.
+use Rattle.std.specs.Prelude.{◌≡◌, ◌⊎◌, ℕ, Bool, true, false, List, [], ◌∷◌, None}
+use Rattle.vm_facts.specs.declared.page.Page.{Page}
+use Rattle.vm_facts.specs.declared.page.Page.TheVariants.{Data, Stack}
+use Rattle.vm_facts.specs.declared.page.PageState.{PageState}
+use Rattle.vm_facts.specs.declared.page.PageState.TheVariants.{Unfilled, Valid, Invalid, Coming, Going, OnSwap}
+use Rattle.vm_facts.specs.declared.entry.Entry.{Entry}
+use Rattle.vm_facts.specs.declared.entry.Entry.TheVariants as entries
+use Rattle.page_model.specs.Pages.{numbered, number_of, pages_from, frame_of, is_valid, is_among}
+use Rattle.page_model.specs.declared.change.Change.{Change}
+use Rattle.page_model.specs.declared.change.Change.TheVariants.{Resize, Fork, Exec, End}
+use Rattle.page_model.specs.Frames.{times}
+use Rattle.page_model.specs.Placement.{Placement, space_number, state_of, IsThere}
+
+-- something is so of each page
+abbrev pub EachPage : (Page → Type 0) → List Page → Type 0
+EachPage P [] = Unit {0}
+EachPage P (q ∷ qs) = P q × EachPage P qs
+
+-- no two pages are one
+abbrev pub AllApart : List Page → Type 0
+AllApart [] = Unit {0}
+AllApart (q ∷ qs) = EachPage (λ r. r ≡ q → ⊥) qs × AllApart qs
+
+-- the states in which no transfer has the page
+abbrev pub AtRest : PageState → Type 0
+AtRest Unfilled = Unit {0}
+AtRest (Valid f) = Unit {0}
+AtRest (Invalid f) = Unit {0}
+AtRest (Coming f) = ⊥
+AtRest (Going f) = ⊥
+AtRest OnSwap = Unit {0}
+
+abbrev pub AllAtRest : Placement → List Page → Type 0
+AllAtRest p qs = EachPage (λ q. AtRest (state_of p q)) qs
+
+-- a page that may take a frame: it is there, and has none
+pub record CanEnter (p : Placement) (v : Page) : Type 0 where
+  pub there : IsThere p v
+  pub frameless : frame_of (state_of p v) ≡ None
+
+-- a page that holds this frame off the free list
+pub record IsSeated (p : Placement) (v : Page) (f : ℕ) : Type 0 where
+  pub state : (state_of p v ≡ Valid f) ⊎ ((state_of p v ≡ Invalid f) × (times f p.free ≡ 0))
+
+-- a page that holds a frame off the free list, whichever
+pub record HasSeat (p : Placement) (v : Page) : Type 0 where
+  pub frame : ℕ
+  pub seat : IsSeated p v frame
+
+-- no space has this number
+abbrev pub IsNew : Placement → ℕ → Type 0
+IsNew p sid = numbered space_number sid p.spaces ≡ None
+
+-- each of these pages that was valid still is
+abbrev pub Spares : Placement → Placement → List Page → Type 0
+Spares p q locked = (w : Page) → is_among w locked ≡ true → is_valid (state_of p w) ≡ true → is_valid (state_of q w) ≡ true
+
+-- what a paging entry asks of the pages that it moves
+abbrev pub CanPlace : Placement → Entry → Type 0
+CanPlace p (entries.Zero q) = CanEnter p q
+CanPlace p (entries.Copy q) = CanEnter p q
+CanPlace p (entries.Get q lo n) = EachPage (CanEnter p) (pages_from q lo n)
+CanPlace p (entries.Put q n) = HasSeat p q × EachPage (HasSeat p) (pages_from q (number_of q) n)
+CanPlace p _ = Unit {0}
+
+-- no transfer has a page of the space
+pub record IsSettled (p : Placement) (sid : ℕ) : Type 0 where
+  pub data_rests : (v : ℕ) → AtRest (state_of p (Data sid v))
+  pub stack_rests : (v : ℕ) → AtRest (state_of p (Stack sid v))
+
+-- what a change asks, of a process's space and the number of the next space: a space that is given up or loses pages
+-- is settled, and a new one is new
+abbrev pub CanChange : Placement → ℕ → Bool → ℕ → Change → Type 0
+CanChange p sid borrowed next_sid (Resize data_pages stack_pages) = IsSettled p sid
+CanChange p sid borrowed next_sid (Fork child) = IsNew p next_sid
+CanChange p sid borrowed next_sid (Exec image top) = IsNew p next_sid × (borrowed ≡ false → IsSettled p sid)
+CanChange p sid borrowed next_sid (End status) = borrowed ≡ false → IsSettled p sid
+CanChange p sid borrowed next_sid _ = Unit {0}

@@ -1,0 +1,147 @@
+-- Pages of spaces and of images: their names, and the lists that hold what is said of each.
+use Rattle.std.specs.Prelude.{ℕ, zero, suc, ◌+◌, ◌==◌, Bool, true, false, cond, not, ◌&&◌, ◌||◌, List, [], ◌∷◌, Option, Some, None}
+use Rattle.vm_facts.specs.declared.page.Page.{Page}
+use Rattle.vm_facts.specs.declared.page.Page.TheVariants.{Data, Stack, Text}
+use Rattle.vm_facts.specs.declared.page.PageState.{PageState}
+use Rattle.vm_facts.specs.declared.page.PageState.TheVariants.{Unfilled, Valid, Invalid, Coming, Going, OnSwap}
+
+-- Names.
+
+-- the number of a page in its segment
+abbrev pub number_of : Page → ℕ
+number_of (Data sid v) = v
+number_of (Stack sid v) = v
+number_of (Text image v) = v
+
+-- another page of the same segment
+abbrev pub beside : Page → ℕ → Page
+beside (Data sid v) w = Data sid w
+beside (Stack sid v) w = Stack sid w
+beside (Text image v) w = Text image w
+
+-- so many pages of a segment, from one on, rising
+abbrev pub pages_from : Page → ℕ → ℕ → List Page
+pages_from q lo zero = []
+pages_from q lo (suc n) = beside q lo ∷ pages_from q (lo + 1) n
+
+-- the two are one page
+abbrev pub same_page : Page → Page → Bool
+same_page (Data a v) (Data b w) = (a == b) && (v == w)
+same_page (Stack a v) (Stack b w) = (a == b) && (v == w)
+same_page (Text a v) (Text b w) = (a == b) && (v == w)
+same_page a b = false
+
+abbrev pub is_among : Page → List Page → Bool
+is_among q [] = false
+is_among q (r ∷ rs) = same_page q r || is_among q rs
+
+-- What is said of a page.
+
+-- what an unfilled page is filled with: zeros, or its page of the image's file
+pub data Filling : Type 0 where
+  Zeros : Filling
+  OfImage : Filling
+
+pub record Slot : Type 0 where
+  pub state : PageState
+  -- a data or stack page is dirty; a text page is saved
+  pub mark : Bool
+  pub filling : Filling
+
+-- what is said of a page that isn't there
+abbrev pub no_slot : Slot
+no_slot = record { state = Unfilled; mark = false; filling = Zeros }
+
+-- page v of a segment is now in this state, with this mark
+abbrev pub change_slot : List Slot → ℕ → PageState → Bool → List Slot
+change_slot [] v s m = []
+change_slot (x ∷ xs) zero s m = record x { state = s; mark = m } ∷ xs
+change_slot (x ∷ xs) (suc v) s m = x ∷ change_slot xs v s m
+
+-- a space's number and its image's, and its data and stack pages
+pub record SpacePages : Type 0 where
+  pub sid : ℕ
+  pub image : ℕ
+  pub data_pages : List Slot
+  pub stack_pages : List Slot
+
+-- an image's number and its text pages, which all spaces of that image share
+pub record TextPages : Type 0 where
+  pub image : ℕ
+  pub text_pages : List Slot
+
+-- Lists whose items have numbers.
+
+-- the first item with this number
+abbrev pub numbered : {A : Type 0} → (A → ℕ) → ℕ → List A → Option A
+numbered number n [] = None
+numbered number n (x ∷ xs) = cond (number x == n) (Some x) (numbered number n xs)
+
+-- the same list, with the first item of this number changed
+abbrev pub changed : {A : Type 0} → (A → ℕ) → ℕ → (A → A) → List A → List A
+changed number n change [] = []
+changed number n change (x ∷ xs) = cond (number x == n) (change x ∷ xs) (x ∷ changed number n change xs)
+
+abbrev pub data_in : Option SpacePages → List Slot
+data_in None = []
+data_in (Some s) = s.data_pages
+
+abbrev pub stack_in : Option SpacePages → List Slot
+stack_in None = []
+stack_in (Some s) = s.stack_pages
+
+abbrev pub text_in : Option TextPages → List Slot
+text_in None = []
+text_in (Some t) = t.text_pages
+
+-- a space with another data page, or stack page, and an image with another text page
+abbrev pub with_data : ℕ → PageState → Bool → SpacePages → SpacePages
+with_data v s m x = record x { data_pages = change_slot x.data_pages v s m }
+
+abbrev pub with_stack : ℕ → PageState → Bool → SpacePages → SpacePages
+with_stack v s m x = record x { stack_pages = change_slot x.stack_pages v s m }
+
+abbrev pub with_text : ℕ → PageState → Bool → TextPages → TextPages
+with_text v s m x = record x { text_pages = change_slot x.text_pages v s m }
+
+-- States.
+
+-- the frame that a state names
+abbrev pub frame_of : PageState → Option ℕ
+frame_of Unfilled = None
+frame_of (Valid f) = Some f
+frame_of (Invalid f) = Some f
+frame_of (Coming f) = Some f
+frame_of (Going f) = Some f
+frame_of OnSwap = None
+
+abbrev pub is_valid : PageState → Bool
+is_valid (Valid f) = true
+is_valid _ = false
+
+abbrev pub is_on_swap : PageState → Bool
+is_on_swap OnSwap = true
+is_on_swap _ = false
+
+abbrev pub is_unfilled : PageState → Bool
+is_unfilled Unfilled = true
+is_unfilled _ = false
+
+-- a page with this mark has to be written before its frame is given away
+abbrev pub is_dirty_by : Page → Bool → Bool
+is_dirty_by (Data sid v) dirty = dirty
+is_dirty_by (Stack sid v) dirty = dirty
+is_dirty_by (Text image v) saved = not saved
+
+-- the mark of a page that was just written to swap, or was given up
+abbrev pub written_mark : Page → Bool
+written_mark (Data sid v) = false
+written_mark (Stack sid v) = false
+written_mark (Text image v) = true
+
+-- where a page is once its free frame is taken: text that isn't saved must be read from the file again
+abbrev pub left_state : Page → Bool → PageState
+left_state (Text image v) false = Unfilled
+left_state (Text image v) true = OnSwap
+left_state (Data sid v) mark = OnSwap
+left_state (Stack sid v) mark = OnSwap

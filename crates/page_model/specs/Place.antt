@@ -1,0 +1,199 @@
+-- What each entry of the journal does to a placement.
+use Rattle.std.specs.Prelude.{ℕ, zero, suc, ◌+◌, ◌-◌, ◌==◌, Bool, true, false, cond, not, ◌||◌, List, [], ◌∷◌, ◌++◌, length, map, filter, Option, Some, None}
+use Rattle.vm_facts.specs.declared.page.Page.{Page}
+use Rattle.vm_facts.specs.declared.page.Page.TheVariants.{Data, Stack, Text}
+use Rattle.vm_facts.specs.declared.page.PageState.{PageState}
+use Rattle.vm_facts.specs.declared.page.PageState.TheVariants.{Unfilled}
+use Rattle.vm_facts.specs.declared.entry.Entry.{Entry}
+use Rattle.vm_facts.specs.declared.entry.Entry.TheVariants as entries
+use Rattle.aout_image.specs.declared.Image.{Image}
+use Rattle.vm_facts.specs.Flat.{Holding, Holds, Lends, Zombie, Process, FlatState}
+use Rattle.page_model.specs.declared.change.Change.{Change}
+use Rattle.page_model.specs.declared.change.Change.TheVariants.{Keep, Resize, Fork, Lend, Exec, Reap, Sleep, End}
+use Rattle.page_model.specs.Flat.{NamedImage, image_numbered, process_of}
+use Rattle.page_model.specs.Pages.{Slot, Zeros, SpacePages, changed, same_page, pages_from, number_of}
+use Rattle.page_model.specs.Placement.{Placement, Residence, Due, Start, CopyOf, due_page, space_number, slots_of, is_dirty, sharers, image_of, unfilled, new_pages}
+use Rattle.page_model.specs.Moves.{fill, get_run, launch_run, reclaim, retire, done, touch_all, drop_all, leave_all}
+use Rattle.page_model.specs.Hands.{hand_moves}
+use Rattle.page_model.specs.Serve.{read_errand}
+
+-- Fills that are due.
+
+abbrev pub due_after : List Due → Page → List Due
+due_after [] q = []
+due_after (d ∷ ds) q = cond (same_page (due_page d) q) ds (d ∷ ds)
+
+-- the fill of the first page that is due takes it off
+abbrev pub filled : Placement → Page → Placement
+filled p q = record (fill p q) { due = due_after p.due q }
+
+-- Swapping.
+
+-- a clean page's frame goes to the tail; of dirty pages a write begins
+abbrev pub put_by : Placement → Page → List Page → Bool → Placement
+put_by p q qs true = launch_run p qs
+put_by p q qs false = retire p q
+
+abbrev pub put_step : Placement → Page → List Page → Placement
+put_step p q qs = put_by p q qs (is_dirty p q)
+
+-- the process is out, or resident, since this place in the journal
+abbrev pub moved : Placement → ℕ → Bool → ℕ → Placement
+moved p pid out at = record p { residents = changed (λ (r : Residence). r.pid) pid (λ (r : Residence). record r { out = out; since = at }) p.residents }
+
+-- What a paging entry does, with the pages that are locked and the place in the journal of the entry, its length
+-- once the entry was added. The other entries move no page.
+abbrev pub place_entry : List Page → ℕ → Placement → Entry → Placement
+place_entry locked at p (entries.Zero q) = filled p q
+place_entry locked at p (entries.Get q lo n) = get_run p (read_errand p q) (pages_from q lo n)
+place_entry locked at p (entries.Copy q) = filled p q
+place_entry locked at p (entries.Reclaim q) = reclaim p q
+place_entry locked at p (entries.Hands n) = hand_moves p locked n
+place_entry locked at p (entries.Put q n) = put_step p q (pages_from q (number_of q) n)
+place_entry locked at p entries.Done = done p
+place_entry locked at p (entries.SwapOut pid) = moved p pid true at
+place_entry locked at p (entries.SwapIn pid) = moved p pid false at
+place_entry locked at p _ = p
+
+-- Spaces.
+
+-- so many pages from one on, of the data or of the stack of a space
+abbrev pub data_from : ℕ → ℕ → ℕ → List Page
+data_from sid lo n = pages_from (Data sid lo) lo n
+
+abbrev pub stack_from : ℕ → ℕ → ℕ → List Page
+stack_from sid lo n = pages_from (Stack sid lo) lo n
+
+-- a segment of so many pages: pages at its end are cut off, or unfilled ones with zeros are added
+abbrev pub sized : ℕ → List Slot → List Slot
+sized zero xs = []
+sized (suc n) [] = unfilled Zeros ∷ sized n []
+sized (suc n) (x ∷ xs) = x ∷ sized n xs
+
+-- other sizes for a space; the pages that go were dropped before
+abbrev pub cut_space : Placement → ℕ → ℕ → ℕ → Placement
+cut_space p sid data_count stack_count = record p {
+  spaces = changed space_number sid (λ (s : SpacePages). record s { data_pages = sized data_count s.data_pages; stack_pages = sized stack_count s.stack_pages }) p.spaces;
+}
+
+abbrev pub data_count : Placement → ℕ → ℕ
+data_count p sid = length (slots_of p (Data sid 0))
+
+abbrev pub stack_count : Placement → ℕ → ℕ
+stack_count p sid = length (slots_of p (Stack sid 0))
+
+-- Growth and break: the frames of the pages that go are at the head of the free list, rising one after another.
+abbrev pub resize : Placement → ℕ → ℕ → ℕ → Placement
+resize p sid data_now stack_now =
+    cut_space (drop_all p (data_from sid data_now (data_count p sid - data_now) ++ stack_from sid stack_now (stack_count p sid - stack_now))) sid data_now stack_now
+
+-- the child's page: unfilled as its parent's is; else it has zeros till it is copied
+abbrev pub child_slot_by : Slot → PageState → Slot
+child_slot_by x Unfilled = unfilled x.filling
+child_slot_by x _ = unfilled Zeros
+
+abbrev pub child_slot : Slot → Slot
+child_slot x = child_slot_by x x.state
+
+-- what is due of one page
+abbrev pub copy_due : Page → Page → PageState → List Due
+copy_due child parent Unfilled = []
+copy_due child parent _ = CopyOf child parent ∷ []
+
+abbrev pub copies_from : (ℕ → Page) → (ℕ → Page) → ℕ → List Slot → List Due
+copies_from child parent v [] = []
+copies_from child parent v (x ∷ xs) = copy_due (child v) (parent v) x.state ++ copies_from child parent (v + 1) xs
+
+-- Fork: a new space, of whose pages those that the parent filled are due for a copy, data first, rising.
+abbrev pub fork_space : Placement → ℕ → ℕ → Placement
+fork_space p parent child = record p {
+  spaces = p.spaces ++ record {
+    sid = child;
+    image = image_of p parent;
+    data_pages = map child_slot (slots_of p (Data parent 0));
+    stack_pages = map child_slot (slots_of p (Stack parent 0));
+  } ∷ [];
+  due = copies_from (Data child) (Data parent) 0 (slots_of p (Data parent 0)) ++ copies_from (Stack child) (Stack parent) 0 (slots_of p (Stack parent 0));
+}
+
+-- A new space for an image, whose stack page 0 is due.
+abbrev pub enter_space : Placement → ℕ → ℕ → Image → Placement
+enter_space p sid image facts = record p { spaces = p.spaces ++ new_pages sid image facts ∷ []; due = Start (Stack sid 0) ∷ [] }
+
+abbrev pub remove_space : Placement → ℕ → Placement
+remove_space p sid = record p { spaces = filter (λ (s : SpacePages). not (s.sid == sid)) p.spaces }
+
+-- all pages of a space, data first
+abbrev pub pages_of_space : Placement → ℕ → List Page
+pages_of_space p sid = data_from sid 0 (data_count p sid) ++ stack_from sid 0 (stack_count p sid)
+
+abbrev pub pages_of_text : Placement → ℕ → List Page
+pages_of_text p image = pages_from (Text image 0) 0 (length (slots_of p (Text image 0)))
+
+-- by how many spaces still share the image
+abbrev pub leave_text_by : Placement → ℕ → ℕ → Placement
+leave_text_by p image zero = leave_all p (pages_of_text p image)
+leave_text_by p image (suc n) = p
+
+abbrev pub leave_text : Placement → ℕ → Placement
+leave_text p image = leave_text_by p image (sharers p image)
+
+-- Giving up a space: its frames go to the head, and with the last sharer its text's frames to the tail.
+abbrev pub give_up : Placement → ℕ → Placement
+give_up p sid = leave_text (remove_space (drop_all p (pages_of_space p sid)) sid) (image_of p sid)
+
+-- Processes that are resident.
+
+abbrev pub begin_residence : Placement → ℕ → ℕ → Placement
+begin_residence p pid at = record p { residents = p.residents ++ record { pid = pid; out = false; since = at } ∷ [] }
+
+abbrev pub end_residence : Placement → ℕ → Placement
+end_residence p pid = record p { residents = filter (λ (r : Residence). not (r.pid == pid)) p.residents }
+
+-- The flat entries: what a change of a process does to the placement.
+
+abbrev pub space_of_holding : Holding → ℕ
+space_of_holding (Holds s) = s.sid
+space_of_holding (Lends sid child) = sid
+space_of_holding (Zombie status) = 0
+
+abbrev pub space_of_process : Option Process → ℕ
+space_of_process None = 0
+space_of_process (Some q) = space_of_holding q.holding
+
+abbrev pub lends_to : ℕ → Holding → Bool
+lends_to pid (Holds s) = false
+lends_to pid (Lends sid child) = child == pid
+lends_to pid (Zombie status) = false
+
+-- somebody lent the process its space
+abbrev pub is_borrower : List Process → ℕ → Bool
+is_borrower [] pid = false
+is_borrower (q ∷ qs) pid = lends_to pid q.holding || is_borrower qs pid
+
+-- a space that isn't borrowed is given up
+abbrev pub give_up_unless : Bool → Placement → ℕ → Placement
+give_up_unless true p sid = p
+give_up_unless false p sid = give_up p sid
+
+abbrev pub enter_image : Placement → ℕ → ℕ → Option NamedImage → Placement
+enter_image p sid image None = p
+enter_image p sid image (Some named) = enter_space p sid image named.image.facts
+
+-- by the process, its space, whether it borrowed that, the number of the next space, and the place in the journal
+abbrev pub place_change : List NamedImage → Placement → ℕ → ℕ → Bool → ℕ → ℕ → Change → Placement
+place_change images p pid sid borrowed next_sid at Keep = p
+place_change images p pid sid borrowed next_sid at (Resize data_pages stack_pages) = resize p sid data_pages stack_pages
+place_change images p pid sid borrowed next_sid at (Fork child) = begin_residence (fork_space p sid next_sid) child at
+place_change images p pid sid borrowed next_sid at (Lend child) = begin_residence p child at
+place_change images p pid sid borrowed next_sid at (Exec image top) =
+    give_up_unless borrowed (enter_image p next_sid image (image_numbered images image)) sid
+place_change images p pid sid borrowed next_sid at (Reap child) = p
+place_change images p pid sid borrowed next_sid at Sleep = p
+place_change images p pid sid borrowed next_sid at (End status) = end_residence (give_up_unless borrowed p sid) pid
+
+-- The placement after an entry of a process with its change: the pages that were written are dirty, and the change is
+-- made. The flat state is the one before, and the place that of the entry in the journal.
+abbrev pub place_step : List NamedImage → FlatState → ℕ → ℕ → List Page → Change → Placement → Placement
+place_step images flat pid at written change p =
+    place_change images (touch_all p written) pid (space_of_process (process_of flat pid)) (is_borrower flat.processes pid) flat.next_sid at change

@@ -1,0 +1,138 @@
+-- The swapper: which process comes in or goes out, and the units of putting one out.
+use Rattle.std.specs.Prelude.{ℕ, ◌+◌, ◌==◌, nat_lt, nat_le, Bool, true, false, cond, not, ◌&&◌, ◌||◌, List, [], ◌∷◌, length, take, filter, Option, Some, None}
+use Rattle.vm_facts.specs.declared.page.Page.{Page}
+use Rattle.vm_facts.specs.declared.page.Page.TheVariants.{Data, Stack, Text}
+use Rattle.vm_facts.specs.declared.entry.Entry.{Entry}
+use Rattle.vm_facts.specs.declared.entry.Entry.TheVariants as entries
+use Rattle.page_model.specs.Placement.{Placement, Residence, Moving, is_dirty, parts_of, image_of, sharers}
+use Rattle.page_model.specs.Runs.{desired_free, is_seated, run_put}
+use Rattle.page_model.specs.Serve.{is_full}
+use Rattle.page_model.specs.Place.{pages_of_space}
+
+-- What the swapper asks of a process: the space that it holds, whether it borrowed it, and whether it sleeps.
+pub record Runner : Type 0 where
+  pub pid : ℕ
+  pub sid : ℕ
+  pub borrowed : Bool
+  pub asleep : Bool
+
+pub data Choice : Type 0 where
+  In : ℕ → Choice
+  Out : ℕ → Choice
+  Nothing : Choice
+
+abbrev pub residence_of : List Residence → ℕ → Residence
+residence_of [] pid = record { pid = pid; out = false; since = 0 }
+residence_of (r ∷ rs) pid = cond (r.pid == pid) r (residence_of rs pid)
+
+abbrev pub is_out : Placement → ℕ → Bool
+is_out p pid = (residence_of p.residents pid).out
+
+abbrev pub since : Placement → Runner → ℕ
+since p r = (residence_of p.residents r.pid).since
+
+-- how many of these pages are in frames off the free list
+abbrev pub seated_count : Placement → List Page → ℕ
+seated_count p [] = 0
+seated_count p (q ∷ qs) = cond (is_seated p q) 1 0 + seated_count p qs
+
+abbrev pub size_in_frames : Placement → Runner → ℕ
+size_in_frames p r = seated_count p (pages_of_space p r.sid)
+
+-- the first of those that are in or out longest
+abbrev pub longest_of : Placement → Runner → List Runner → Runner
+longest_of p r [] = r
+longest_of p r (x ∷ xs) = longest_of p (cond (nat_lt (since p x) (since p r)) x r) xs
+
+abbrev pub longest : Placement → List Runner → Option Runner
+longest p [] = None
+longest p (r ∷ rs) = Some (longest_of p r rs)
+
+-- the largest first, those of one size by their order
+abbrev pub ranked_in : Placement → Runner → List Runner → List Runner
+ranked_in p r [] = r ∷ []
+ranked_in p r (x ∷ xs) = cond (nat_lt (size_in_frames p r) (size_in_frames p x)) (x ∷ ranked_in p r xs) (r ∷ x ∷ xs)
+
+abbrev pub ranked : Placement → List Runner → List Runner
+ranked p [] = []
+ranked p (r ∷ rs) = ranked_in p r (ranked p rs)
+
+abbrev pub may_come_in : Placement → Runner → Bool
+may_come_in p r = is_out p r.pid && not r.asleep
+
+abbrev pub may_go_out : Placement → Runner → Bool
+may_go_out p r = not (is_out p r.pid) && not r.borrowed
+
+abbrev pub sleepers : List Runner → List Runner
+sleepers rs = filter (λ r. r.asleep) rs
+
+abbrev pub brings : Option Runner → Choice
+brings None = Nothing
+brings (Some r) = In r.pid
+
+abbrev pub puts_out : Option Runner → Choice
+puts_out None = Nothing
+puts_out (Some r) = Out r.pid
+
+-- a sleeper before all others; of those that don't sleep one of the four largest
+abbrev pub out_of : Placement → List Runner → Option Runner → Choice
+out_of p rs (Some r) = Out r.pid
+out_of p rs None = puts_out (longest p (take 4 (ranked p rs)))
+
+abbrev pub choice_of_out : Placement → List Runner → Choice
+choice_of_out p rs = out_of p rs (longest p (sleepers rs))
+
+-- by whether as many frames are free as are desired
+abbrev pub choice_by : Placement → List Runner → Bool → Choice
+choice_by p rs true = brings (longest p (filter (may_come_in p) rs))
+choice_by p rs false = choice_of_out p (filter (may_go_out p) rs)
+
+-- One turn of the swapper, over the processes that hold a space, by rising pid: the one that is out longest comes in
+-- where enough frames are free, and one goes out where they aren't.
+abbrev pub swap_choice : Placement → List Runner → Choice
+swap_choice p rs = choice_by p rs (nat_le (desired_free p) (length p.free))
+
+-- Settling.
+
+abbrev pub is_of_space : ℕ → Page → Bool
+is_of_space sid (Data t v) = t == sid
+is_of_space sid (Stack t v) = t == sid
+is_of_space sid (Text image v) = false
+
+abbrev pub is_of_text : ℕ → Page → Bool
+is_of_text image (Data t v) = false
+is_of_text image (Stack t v) = false
+is_of_text image (Text i v) = i == image
+
+abbrev pub names_page : (Page → Bool) → List Moving → Bool
+names_page test [] = false
+names_page test (m ∷ ms) = test m.page || names_page test ms
+
+-- no transfer names a page of the space, nor of its text where the space is the text's only sharer
+abbrev pub is_settled : Placement → ℕ → Bool
+is_settled p sid =
+    not (names_page (is_of_space sid) (parts_of p.transfers))
+    && not ((sharers p (image_of p sid) == 1) && names_page (is_of_text (image_of p sid)) (parts_of p.transfers))
+
+-- Putting out.
+
+abbrev pub first_seated : Placement → List Page → Option Page
+first_seated p [] = None
+first_seated p (q ∷ qs) = cond (is_seated p q) (Some q) (first_seated p qs)
+
+abbrev pub put_unit_by : Placement → Page → Bool → Entry
+put_unit_by p q true = entries.Done
+put_unit_by p q false = entries.Put q (run_put p q).n
+
+abbrev pub put_out_by : Placement → ℕ → Option Page → Entry
+put_out_by p pid None = entries.SwapOut pid
+put_out_by p pid (Some q) = put_unit_by p q (is_dirty p q && is_full p)
+
+abbrev pub put_out_if : Placement → ℕ → ℕ → Bool → Entry
+put_out_if p pid sid false = entries.Done
+put_out_if p pid sid true = put_out_by p pid (first_seated p (pages_of_space p sid))
+
+-- The next unit of putting out a process and its space: `Done` while the space isn't settled, then a `Put` of its
+-- first page in a frame off the free list, data first, and last `SwapOut`.
+abbrev pub put_out_unit : Placement → ℕ → ℕ → Entry
+put_out_unit p pid sid = put_out_if p pid sid (is_settled p sid)
