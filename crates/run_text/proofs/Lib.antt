@@ -1,5 +1,6 @@
 pub mod EntryTexts
 pub mod Events
+pub mod Fronts
 pub mod HexRows
 pub mod Joining
 pub mod LineEnds

@@ -17,3 +17,4 @@ pub mod Starting
 pub mod Judging
 pub mod Finishing
 pub mod Transcribing
+pub mod Scheduling

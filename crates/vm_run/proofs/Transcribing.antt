@@ -1,5 +1,5 @@
 -- The ending of a run that began, by the words and the files.
-use Rattle.std.proofs.Common.{◌≡◌, inl, inr, ℕ, List, Option, Some, None, Result, Ok, Err, refl, sym, ◌∙◌, subst}
+use Rattle.std.proofs.Common.{◌≡◌, inl, inr, ℕ, List, Option, Some, None, Result, Ok, Err, refl, sym, ◌∙◌, ap, subst, []}
 use Rattle.vm_facts.specs.declared.entry.Entry.{Entry}
 use Rattle.io_edge.specs.Count.{Rose}
 use Rattle.io_edge.specs.FileHolding.{NamedFile, place_of, bytes_at}
@@ -11,9 +11,10 @@ use Rattle.vm_run.specs.Words.{command_of}
 use Rattle.vm_run.specs.declared.words.Command.{Command}
 use Rattle.vm_run.specs.declared.words.Command.TheVariants.{Run, Unbuilt}
 use Rattle.vm_run.specs.declared.ending.Ending.{Ending}
+use Rattle.vm_run.specs.declared.opening.Opened.{Opened}
 use Rattle.vm_run.specs.declared.ending.Ending.TheVariants.{Finished, BadWords, NotBuilt, Absent, NotImage, BadSchedule, FileFault, NoMemory, ShortDevice, OutOfFrames}
-use Rattle.vm_run.specs.Opening.{IsLoaded, word_of, judged}
-use Rattle.vm_run.specs.Transcript.{Faults, IsRunOf, IsOpenedAs, LawfulFrom, LawfulBy, EndsOpened, EndsRun, EndsBy, EndsWords, IsRunEnding, IsCaused, WritesSome, Transcribes}
+use Rattle.vm_run.specs.Opening.{IsLoaded, word_of, first_of, image_ending, device_ending, EndsSchedule, IsJudged, Says, SaysSchedule, IsScheduleEnding, IsImageEnding}
+use Rattle.vm_run.specs.Transcript.{Faults, IsRunOf, IsOpenedAs, LawfulFrom, LawfulBy, EndsOpened, EndsRun, EndsBy, EndsNamed, EndsWords, IsRunEnding, IsCaused, WritesSome, Transcribes}
 
 lawful_by : (numbers : Numbers) (image : List ℕ) (files : List NamedFile) (journal : List Entry) (A : Inputs) → IsRunOf A numbers image files → LawfulFrom A journal → LawfulBy numbers image files journal
 lawful_by numbers image files journal A of l = record { inputs = A; of = of; state = l.state; lawful = l.lawful }
@@ -27,7 +28,7 @@ ends_as numbers image files f NotBuilt journal A of e kind opens = absurd e
 ends_as numbers image files f (Absent named) journal A of e kind opens = absurd e
 ends_as numbers image files f (NotImage reason) journal A of e kind opens = absurd e
 ends_as numbers image files f (BadSchedule line) journal A of e kind opens = absurd e
-ends_as numbers image files f FileFault journal A of e kind opens = inr (lawful_by numbers image files journal A of e.0, e.1, kind)
+ends_as numbers image files f FileFault journal A of e kind opens = (lawful_by numbers image files journal A of e.0, e.1, kind)
 ends_as numbers image files f NoMemory journal A of (inl l) kind opens = inl (lawful_by numbers image files journal A of l)
 ends_as numbers image files f NoMemory journal A of (inr empty) kind opens = inr empty
 ends_as numbers image files f (ShortDevice device blocks needed) journal A of e kind opens = absurd e
@@ -68,16 +69,23 @@ forget_run numbers image files f NotBuilt journal e = absurd e
 forget_run numbers image files f (Absent named) journal e = absurd e
 forget_run numbers image files f (NotImage reason) journal e = absurd e
 forget_run numbers image files f (BadSchedule line) journal e = absurd e
-forget_run numbers image files f FileFault journal (inl before) = inr before.0
-forget_run numbers image files f FileFault journal (inr after) = inl after.0
+forget_run numbers image files f FileFault journal e = inl e.0
 forget_run numbers image files f NoMemory journal e = e
 forget_run numbers image files f (ShortDevice device blocks needed) journal e = absurd e
 forget_run numbers image files f OutOfFrames journal e = inl e
 
-forget_by : (told : Option Ending) (numbers : Numbers) (image : List ℕ) (files : List NamedFile) (f : Faults) (ending : Ending) (journal : List Entry)
-    → EndsBy told numbers image files f ending journal → EndsBy told numbers image files f NoMemory journal
-forget_by None numbers image files f ending journal e = forget_run numbers image files f ending journal e
-forget_by (Some told) numbers image files f ending journal e = (e.0, tt)
+forget_named : (numbers : Numbers) (schedule image : List ℕ) (files : List NamedFile) (zero_blocks one_blocks : ℕ) (f : Faults) (ending : Ending) (journal : List Entry)
+    → EndsNamed numbers schedule image files zero_blocks one_blocks f ending journal → EndsNamed numbers schedule image files zero_blocks one_blocks f NoMemory journal
+forget_named numbers schedule image files zero_blocks one_blocks f ending journal (inl early) = inl (early.0, tt)
+forget_named numbers schedule image files zero_blocks one_blocks f ending journal (inr j) = go j.told refl j.by_told
+  where
+    go : (told : Option Ending) → j.told ≡ told → EndsBy told numbers image files f ending journal → EndsNamed numbers schedule image files zero_blocks one_blocks f NoMemory journal
+    go None e by = inr record {
+      told = None;
+      judged = subst (λ (o : Option Ending). IsJudged numbers schedule image files zero_blocks one_blocks o) e j.judged;
+      by_told = forget_run numbers image files f ending journal by;
+    }
+    go (Some told) e by = inl (by.0, tt)
 
 -- want of memory may come in place of any ending
 pub forget : (command : Option Command) (words : List (List ℕ)) (files : List NamedFile) (zero_blocks one_blocks : ℕ) (f : Faults) (ending : Ending) (journal : List Entry)
@@ -85,7 +93,7 @@ pub forget : (command : Option Command) (words : List (List ℕ)) (files : List 
 forget None words files zero_blocks one_blocks f ending journal e = (e.0, tt)
 forget (Some Unbuilt) words files zero_blocks one_blocks f ending journal e = (e.0, tt)
 forget (Some (Run numbers)) words files zero_blocks one_blocks f ending journal e =
-    forget_by (judged numbers (word_of words 4) (word_of words 5) files zero_blocks one_blocks) numbers (word_of words 5) files f ending journal e
+    forget_named numbers (word_of words 4) (word_of words 5) files zero_blocks one_blocks f ending journal e
 
 -- a run that was written is transcribed
 pub transcribed : (words : List (List ℕ)) (holds : Option (List NamedFile)) (had_zero had_one zero_blocks one_blocks : ℕ) (f : Faults) (before after : Option (List ℕ))
@@ -114,3 +122,79 @@ transcribed words holds had_zero had_one zero_blocks one_blocks f before after o
       ends = devices NoMemory (λ files told. forget (command_of words) words files had_zero had_one f ending journal (ends files told));
       writes = written;
     }
+
+told_by_schedule : (numbers : Numbers) (schedule image : List ℕ) (files : List NamedFile) (zero_blocks one_blocks : ℕ) (f : Faults) (ending : Ending)
+    → EndsSchedule files schedule (Some ending) → EndsNamed numbers schedule image files zero_blocks one_blocks f ending []
+told_by_schedule numbers schedule image files zero_blocks one_blocks f ending says = inr record {
+  told = Some ending;
+  judged = record { lines = Some ending; by_schedule = says; told_is = refl };
+  by_told = (refl, refl);
+}
+
+-- the schedule ends the run, unless a file failed or memory was refused
+pub ends_by_schedule : (numbers : Numbers) (schedule image : List ℕ) (files : List NamedFile) (zero_blocks one_blocks : ℕ) (f : Faults) (ending : Ending)
+    → IsScheduleEnding ending → SaysSchedule files schedule f.open_before f.open_after (Err ending) → EndsNamed numbers schedule image files zero_blocks one_blocks f ending []
+ends_by_schedule numbers schedule image files zero_blocks one_blocks f Finished is says = absurd is
+ends_by_schedule numbers schedule image files zero_blocks one_blocks f BadWords is says = absurd is
+ends_by_schedule numbers schedule image files zero_blocks one_blocks f NotBuilt is says = told_by_schedule numbers schedule image files zero_blocks one_blocks f NotBuilt says
+ends_by_schedule numbers schedule image files zero_blocks one_blocks f (Absent named) is says = told_by_schedule numbers schedule image files zero_blocks one_blocks f (Absent named) says
+ends_by_schedule numbers schedule image files zero_blocks one_blocks f (NotImage reason) is says = absurd is
+ends_by_schedule numbers schedule image files zero_blocks one_blocks f (BadSchedule line) is says = told_by_schedule numbers schedule image files zero_blocks one_blocks f (BadSchedule line) says
+ends_by_schedule numbers schedule image files zero_blocks one_blocks f FileFault is says = inl (refl, says)
+ends_by_schedule numbers schedule image files zero_blocks one_blocks f NoMemory is says = inl (refl, tt)
+ends_by_schedule numbers schedule image files zero_blocks one_blocks f (ShortDevice device blocks needed) is says = absurd is
+ends_by_schedule numbers schedule image files zero_blocks one_blocks f OutOfFrames is says = absurd is
+
+-- behind a schedule that lets the run begin, by what the image and the devices say
+told_behind : (numbers : Numbers) (schedule image : List ℕ) (files : List NamedFile) (zero_blocks one_blocks : ℕ) (f : Faults) (ending : Ending)
+    → EndsSchedule files schedule None → first_of (image_ending files image) (device_ending numbers.swap zero_blocks one_blocks) ≡ Some ending
+    → EndsNamed numbers schedule image files zero_blocks one_blocks f ending []
+told_behind numbers schedule image files zero_blocks one_blocks f ending lines says = inr record {
+  told = Some ending;
+  judged = record { lines = None; by_schedule = lines; told_is = sym says };
+  by_told = (refl, refl);
+}
+
+pub ends_by_image : (numbers : Numbers) (schedule image : List ℕ) (files : List NamedFile) (zero_blocks one_blocks : ℕ) (f : Faults) (ending : Ending)
+    → EndsSchedule files schedule None → IsImageEnding ending → Says {T = Opened} (image_ending files image) f.open_before f.open_after (Err ending)
+    → EndsNamed numbers schedule image files zero_blocks one_blocks f ending []
+ends_by_image numbers schedule image files zero_blocks one_blocks f Finished lines is says = absurd is
+ends_by_image numbers schedule image files zero_blocks one_blocks f BadWords lines is says = absurd is
+ends_by_image numbers schedule image files zero_blocks one_blocks f NotBuilt lines is says = absurd is
+ends_by_image numbers schedule image files zero_blocks one_blocks f (Absent named) lines is says =
+    told_behind numbers schedule image files zero_blocks one_blocks f (Absent named) lines (ap (λ (o : Option Ending). first_of o (device_ending numbers.swap zero_blocks one_blocks)) says)
+ends_by_image numbers schedule image files zero_blocks one_blocks f (NotImage reason) lines is says =
+    told_behind numbers schedule image files zero_blocks one_blocks f (NotImage reason) lines (ap (λ (o : Option Ending). first_of o (device_ending numbers.swap zero_blocks one_blocks)) says)
+ends_by_image numbers schedule image files zero_blocks one_blocks f (BadSchedule line) lines is says = absurd is
+ends_by_image numbers schedule image files zero_blocks one_blocks f FileFault lines is says = inl (refl, says)
+ends_by_image numbers schedule image files zero_blocks one_blocks f NoMemory lines is says = absurd is
+ends_by_image numbers schedule image files zero_blocks one_blocks f (ShortDevice device blocks needed) lines is says = absurd is
+ends_by_image numbers schedule image files zero_blocks one_blocks f OutOfFrames lines is says = absurd is
+
+pub ends_by_device : (numbers : Numbers) (schedule image : List ℕ) (files : List NamedFile) (zero_blocks one_blocks : ℕ) (f : Faults) (ending : Ending)
+    → EndsSchedule files schedule None → image_ending files image ≡ None → device_ending numbers.swap zero_blocks one_blocks ≡ Some ending
+    → EndsNamed numbers schedule image files zero_blocks one_blocks f ending []
+ends_by_device numbers schedule image files zero_blocks one_blocks f ending lines none says =
+    told_behind numbers schedule image files zero_blocks one_blocks f ending lines
+    (ap (λ (o : Option Ending). first_of o (device_ending numbers.swap zero_blocks one_blocks)) none ∙ says)
+
+-- nothing ends the run before it begins
+pub ends_by_run : (numbers : Numbers) (schedule image : List ℕ) (files : List NamedFile) (zero_blocks one_blocks : ℕ) (f : Faults) (ending : Ending) (journal : List Entry)
+    → EndsSchedule files schedule None → image_ending files image ≡ None → device_ending numbers.swap zero_blocks one_blocks ≡ None
+    → EndsRun numbers image files f ending journal → EndsNamed numbers schedule image files zero_blocks one_blocks f ending journal
+ends_by_run numbers schedule image files zero_blocks one_blocks f ending journal lines no_image no_device run = inr record {
+  told = None;
+  judged = record {
+    lines = None;
+    by_schedule = lines;
+    told_is = sym (ap (λ (o : Option Ending). first_of o (device_ending numbers.swap zero_blocks one_blocks)) no_image ∙ no_device);
+  };
+  by_told = run;
+}
+
+-- a run that ended before it began has an empty journal
+pub ended_early : (numbers : Numbers) (schedule image : List ℕ) (files : List NamedFile) (zero_blocks one_blocks : ℕ) (f : Faults) (ending was : Ending) (journal : List Entry)
+    → was ≡ ending → journal ≡ [] → EndsNamed numbers schedule image files zero_blocks one_blocks f ending [] → EndsNamed numbers schedule image files zero_blocks one_blocks f was journal
+ended_early numbers schedule image files zero_blocks one_blocks f ending was journal e j ends =
+    subst (λ (x : Ending). EndsNamed numbers schedule image files zero_blocks one_blocks f x journal) (sym e)
+    (subst (λ (x : List Entry). EndsNamed numbers schedule image files zero_blocks one_blocks f ending x) (sym j) ends)

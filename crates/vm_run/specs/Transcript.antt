@@ -15,7 +15,7 @@ use Rattle.vm_run.specs.declared.words.Command.{Command}
 use Rattle.vm_run.specs.declared.words.Command.TheVariants.{Run, Unbuilt}
 use Rattle.vm_run.specs.declared.words.Numbers.{Numbers}
 use Rattle.vm_run.specs.Ending.{status_of, sink_fault, fault_line}
-use Rattle.vm_run.specs.Opening.{word_of, judged}
+use Rattle.vm_run.specs.Opening.{word_of, IsJudged}
 use Rattle.vm_run.specs.declared.ending.Ending.{Ending}
 use Rattle.vm_run.specs.declared.ending.Ending.TheVariants.{Finished, BadWords, NotBuilt, FileFault, NoMemory, OutOfFrames}
 
@@ -91,33 +91,48 @@ pub record FinishedBy (numbers : Numbers) (image : List ℕ) (files : List Named
   pub state : State
   pub finished : IsFinished inputs journal state
 
--- of a run that began: it finished, or a file failed, memory was refused or no frame was left; the journal is
--- lawful as far as it goes, and it is empty at a file's fault only where the fault was met before the run
+-- before anything was judged a file failed, or memory was refused
+abbrev pub EndsUnjudged : Faults → Ending → Type 0
+EndsUnjudged f FileFault = Rose f.open_before f.open_after
+EndsUnjudged f NoMemory = Unit {0}
+EndsUnjudged f _ = ⊥
+
+-- of a run that began: it finished, or a page's file failed, memory was refused or no frame was left; the journal is
+-- lawful as far as it goes
 abbrev pub EndsRun : Numbers → List ℕ → List NamedFile → Faults → Ending → List Entry → Type 0
 EndsRun numbers image files f Finished journal = FinishedBy numbers image files journal × NoFaults f
-EndsRun numbers image files f FileFault journal =
-    ((journal ≡ []) × Rose f.open_before f.open_after)
-    ⊎ (LawfulBy numbers image files journal × (journal ≢ []) × Rose f.page_before f.page_after)
+EndsRun numbers image files f FileFault journal = LawfulBy numbers image files journal × (journal ≢ []) × Rose f.page_before f.page_after
 EndsRun numbers image files f NoMemory journal = LawfulBy numbers image files journal ⊎ (journal ≡ [])
 EndsRun numbers image files f OutOfFrames journal = LawfulBy numbers image files journal
 EndsRun numbers image files f _ journal = ⊥
 
 -- by what was judged before the run
 abbrev pub EndsBy : Option Ending → Numbers → List ℕ → List NamedFile → Faults → Ending → List Entry → Type 0
-EndsBy (Some told) numbers image files f ending journal = (journal ≡ []) × EndsEarly told f ending
+EndsBy (Some told) numbers image files f ending journal = (journal ≡ []) × (ending ≡ told)
 EndsBy None numbers image files f ending journal = EndsRun numbers image files f ending journal
+
+-- what was judged, and that the run ended so
+pub record EndsJudged (numbers : Numbers) (schedule image : List ℕ) (files : List NamedFile) (zero_blocks one_blocks : ℕ) (f : Faults) (ending : Ending) (journal : List Entry) : Type 0 where
+  pub told : Option Ending
+  pub judged : IsJudged numbers schedule image files zero_blocks one_blocks told
+  pub by_told : EndsBy told numbers image files f ending journal
+
+-- of a run with these numbers, of a schedule and an image that are named
+abbrev pub EndsNamed : Numbers → List ℕ → List ℕ → List NamedFile → ℕ → ℕ → Faults → Ending → List Entry → Type 0
+EndsNamed numbers schedule image files zero_blocks one_blocks f ending journal =
+    ((journal ≡ []) × EndsUnjudged f ending) ⊎ EndsJudged numbers schedule image files zero_blocks one_blocks f ending journal
 
 -- by the words: the first thing met decides
 abbrev pub EndsWords : Option Command → List (List ℕ) → List NamedFile → ℕ → ℕ → Faults → Ending → List Entry → Type 0
 EndsWords None words files zero_blocks one_blocks f ending journal = (journal ≡ []) × EndsEarly BadWords f ending
 EndsWords (Some Unbuilt) words files zero_blocks one_blocks f ending journal = (journal ≡ []) × EndsEarly NotBuilt f ending
 EndsWords (Some (Run numbers)) words files zero_blocks one_blocks f ending journal =
-    EndsBy (judged numbers (word_of words 4) (word_of words 5) files zero_blocks one_blocks) numbers (word_of words 5) files f ending journal
+    EndsNamed numbers (word_of words 4) (word_of words 5) files zero_blocks one_blocks f ending journal
 
 -- the causes that hold whether or not the files are told
 abbrev pub IsCaused : Option Command → Faults → Ending → Type 0
 IsCaused command f BadWords = command ≡ None
-IsCaused command f NotBuilt = command ≡ Some Unbuilt
+IsCaused command f NotBuilt = (command ≡ Some Unbuilt) ⊎ IsRun command
 IsCaused command f FileFault = IsRun command × (Rose f.open_before f.open_after ⊎ Rose f.page_before f.page_after)
 IsCaused command f NoMemory = Unit {0}
 IsCaused command f _ = IsRun command

@@ -6,8 +6,8 @@ ghost use Rattle.run_text.specs.Text.{text_of};
 ghost use Rattle.vm_run.specs.Words.{command_of};
 ghost use Rattle.vm_run.specs.Halted.{halted};
 ghost use Rattle.vm_run.specs.Resident.{HasBytes};
-ghost use Rattle.vm_run.specs.Opening.{word_of, judged};
-ghost use Rattle.vm_run.specs.Transcript.{EndsOpened, EndsBy, EndsWords, Transcribes, Writes, WritesSome, IsCaused, IsRunEnding, IsOpenedAs};
+ghost use Rattle.vm_run.specs.Opening.{word_of};
+ghost use Rattle.vm_run.specs.Transcript.{EndsOpened, EndsNamed, EndsWords, Transcribes, Writes, WritesSome, IsCaused, IsRunEnding, IsOpenedAs};
 
 use crate::ending::{Ending, NO_MEMORY};
 use crate::journal::Journal;
@@ -106,7 +106,7 @@ fn run_named<F: Files>(
     requires swap { numbers.swap ≤ 131072 }
     requires limit { numbers.limit ≤ 1000000 }
     ensures ends { (list : List NamedFile) → F.holds files.old ≡ Some list
-        → EndsBy (judged numbers schedule.now image.now list zero_blocks one_blocks) numbers image.now list (record { open_before = F.open_faults files.old; open_after = F.open_faults files.new; page_before = F.page_faults files.old; page_after = F.page_faults files.new }) result.ending result.journal }
+        → EndsNamed numbers schedule.now image.now list zero_blocks one_blocks (record { open_before = F.open_faults files.old; open_after = F.open_faults files.new; page_before = F.page_faults files.old; page_after = F.page_faults files.new }) result.ending result.journal }
     ensures caused { IsCaused (Some (Command.Run numbers)) (record { open_before = F.open_faults files.old; open_after = F.open_faults files.new; page_before = F.page_faults files.old; page_after = F.page_faults files.new }) result.ending }
 {
     if let Err(ending) = open_schedule(alloc, files, schedule) {

@@ -1,15 +1,17 @@
-ghost use Rattle.std.specs.Prelude.{◌≡◌, ◌≤◌, ◌<◌, ℕ, List, Option, Some, Ok, Err, IfOk, IfErr, OnOk, IsErrAnd, length, min};
+ghost use Rattle.std.specs.Prelude.{◌≡◌, ◌≤◌, ◌<◌, ℕ, List, Option, Some, Ok, Err, IfOk, IfErr, OnOk, length, min};
 ghost use Rattle.io_edge.specs.Count.{Rose, Counts, OnDone};
 ghost use Rattle.io_edge.specs.FileHolding.{NamedFile, place_of, bytes_at, HasRange, HoldsRange};
 ghost use Rattle.io_edge.specs.Striping.{zero_needs, one_needs};
 ghost use Rattle.aout_image.specs.Image.{IsSound, file_length_of, image_of, Loaded};
 ghost use Rattle.vm_run.specs.Resident.{HasBytes};
-ghost use Rattle.vm_run.specs.Opening.{schedule_ending, image_ending, bytes_ending, device_ending, Says, IsBadLine, IsScheduleEnding, IsImageEnding, IsLoaded};
+ghost use Rattle.vm_run.specs.Opening.{image_ending, bytes_ending, device_ending, Says, SaysSchedule, SaysLines, IsScheduleEnding, IsReadEnding, IsImageEnding, IsLoaded};
 
 use crate::ending::{Ending, Named};
 use aout_image::{Image, Judged, read_image};
 use io_edge::{Files, Found, Moved};
+use run_text::{Schedule, read_schedule};
 use std::alloc::Global;
+use vm_facts::NoMemory;
 
 /// An image that was found and judged: its header's facts, and the number by which its file is read.
 #[derive(Clone, Copy, Debug, PartialEq, Eq, Drop)]
@@ -21,9 +23,10 @@ pub struct Opened {
 /// A schedule longer than this is read no further: a good one has at most 65,536 lines of 20 bytes.
 const SCHEDULE_BYTES: u64 = 1_310_741;
 
-/// Finds and reads the schedule, which is to be empty until there is a grammar.
+/// Finds and reads the schedule, which lets the run begin where it has no lines. Events can't be taken
+/// yet; a schedule outside the grammar is bad at its first bad line.
 pub fn open_schedule<F: Files>(alloc: Global, files: &mut F, name: &str) -> Result<(), Ending>
-    ensures says { (list : List NamedFile) → F.holds files.old ≡ Some list → Says (schedule_ending list name.now) (F.open_faults files.old) (F.open_faults files.new) result }
+    ensures says { (list : List NamedFile) → F.holds files.old ≡ Some list → SaysSchedule list name.now (F.open_faults files.old) (F.open_faults files.new) result }
     ensures fault { result ≡ Err Ending.FileFault → Rose (F.open_faults files.old) (F.open_faults files.new) }
     ensures holds { F.holds files.new ≡ F.holds files.old }
     ensures faults { F.open_faults files.old ≤ F.open_faults files.new }
@@ -35,30 +38,51 @@ pub fn open_schedule<F: Files>(alloc: Global, files: &mut F, name: &str) -> Resu
         Found::Failed => Err(Ending::FileFault),
         Found::Absent => Err(Ending::Absent(Named::Schedule)),
         Found::Is { id, len } => {
-            if len == 0 {
-                return Ok(());
-            }
-            read_schedule(alloc, files, id, len.min(SCHEDULE_BYTES) as usize)
+            let bytes = read_bytes(alloc, files, id, len.min(SCHEDULE_BYTES) as usize)?;
+            judge_lines(alloc, bytes.as_slice())
         }
     }
 }
 
-// Reads a schedule of so many bytes, at least one, which is bad at its first line.
-fn read_schedule<F: Files>(alloc: Global, files: &mut F, id: u32, len: usize) -> Result<(), Ending>
-    requires some { 0 < len }
-    requires few { len ≤ 1310741 }
+// Reads a file's bytes from its start on, as many as are asked for.
+fn read_bytes<F: Files>(
+    alloc: Global,
+    files: &mut F,
+    id: u32,
+    len: usize,
+) -> Result<Vec<u8>, Ending>
     requires range { HasRange (F.holds files.old) id 0 len }
-    ensures ending { IsErrAnd result (λ ending. IsBadLine ending (F.open_faults files.old) (F.open_faults files.new)) }
+    ensures bytes { IfOk result (λ bytes. (length bytes.items ≡ len) × HoldsRange (F.holds files.old) id 0 bytes.items) }
+    ensures fault { result ≡ Err Ending.FileFault → Rose (F.open_faults files.old) (F.open_faults files.new) }
+    ensures early { IfErr result IsReadEnding }
     ensures holds { F.holds files.new ≡ F.holds files.old }
     ensures faults { F.open_faults files.old ≤ F.open_faults files.new }
     ensures page_faults { F.page_faults files.new ≡ F.page_faults files.old }
+    ensures good { OnOk result (F.open_faults files.new ≡ F.open_faults files.old) }
 {
     let Ok(mut bytes) = vec![in alloc; 0u8; len] else {
         return Err(Ending::NoMemory);
     };
-    match files.read_at(id, 0, bytes.as_mut_slice()) {
+    match read_front(files, id, bytes.as_mut_slice()) {
         Moved::Failed => Err(Ending::FileFault),
-        Moved::Done => Err(Ending::BadSchedule(1)),
+        Moved::Done => Ok(bytes),
+    }
+}
+
+// Judges the bytes of a schedule.
+fn judge_lines(alloc: Global, bytes: &[u8]) -> Result<(), Ending>
+    ensures { SaysLines bytes.now result }
+{
+    match read_schedule(alloc, bytes) {
+        Err(NoMemory) => Err(Ending::NoMemory),
+        Ok(Schedule::BadLine(line)) => Err(Ending::BadSchedule(line)),
+        Ok(Schedule::Is(events)) => {
+            if events.is_empty() {
+                Ok(())
+            } else {
+                Err(Ending::NotBuilt)
+            }
+        }
     }
 }
 

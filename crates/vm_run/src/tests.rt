@@ -170,6 +170,76 @@ fn names_what_cannot_be_run(rt: HostRuntime) -> Result<(), Fail> {
     Ok(())
 }
 
+// Checks how a run ends whose schedule has these bytes.
+fn check_schedule<R: Abort>(
+    rt: &R,
+    alloc: Global,
+    schedule: Vec<u8>,
+    text: &str,
+    status: u8,
+) -> Result<(), Fail> {
+    let mut held = Vec::new(alloc);
+    held.push(("s".to_string(alloc)?, schedule))?;
+    held.push(("image".to_string(alloc)?, writing(alloc, &TWO_BYTES)?))?;
+    let mut files = MemFiles::new(held, Vec::new(alloc));
+    let mut zero = SureSwap::new(alloc, 256)?;
+    let mut one = SureSwap::new(alloc, 256)?;
+    let mut sink = MemSink::new(alloc, 256, Vec::new(alloc))?;
+    let words = ["run", "64", "256", "100", "s", "image"];
+    assert_eq!(rt;
+        vmrun(
+            alloc,
+            words.as_slice(),
+            &mut files,
+            &mut zero,
+            &mut one,
+            &mut sink
+        ),
+        status
+    );
+    assert_eq!(rt; sink.written(), text.as_bytes());
+    Ok(())
+}
+
+#[test]
+fn names_the_first_bad_line_of_a_schedule(rt: HostRuntime) -> Result<(), Fail> {
+    let table = [
+        ("i\n", "vmrun: not built yet\n", 13),
+        ("d 1 1000000\nh 8192\nw\nm\n", "vmrun: not built yet\n", 13),
+        ("i\nd 1\n", "vmrun: bad schedule line 2\n", 4),
+        ("m\nd 1\n", "vmrun: bad schedule line 2\n", 4),
+        ("i\nw", "vmrun: bad schedule line 2\n", 4),
+        ("\n", "vmrun: bad schedule line 1\n", 4),
+        ("h 8193\n", "vmrun: bad schedule line 1\n", 4),
+    ];
+    for (schedule, text, status) in table {
+        let bytes = Vec::from_slice(rt.alloc(), schedule.as_bytes())?;
+        check_schedule(&rt, rt.alloc(), bytes, text, status)?;
+    }
+    Ok(())
+}
+
+// As many lines `i`, and a line of so many spaces before its end.
+fn lines_of(alloc: Global, count: u32, spaces: u32) -> Result<Vec<u8>, AllocError> {
+    let mut bytes = Vec::new(alloc);
+    for _line in 0..count {
+        bytes.extend_from_slice(b"i\n")?;
+    }
+    for _space in 0..spaces {
+        bytes.push(b' ')?;
+    }
+    bytes.push(b'\n')?;
+    Ok(bytes)
+}
+
+#[test]
+fn a_schedule_has_at_most_65536_lines(rt: HostRuntime) -> Result<(), Fail> {
+    let long = lines_of(rt.alloc(), 65_536, 0)?;
+    check_schedule(&rt, rt.alloc(), long, "vmrun: bad schedule line 65537\n", 4)?;
+    let wide = lines_of(rt.alloc(), 7, 1_400_000)?;
+    check_schedule(&rt, rt.alloc(), wide, "vmrun: bad schedule line 8\n", 4)
+}
+
 #[test]
 fn tells_good_words_from_bad_ones(rt: HostRuntime) -> Result<(), Fail> {
     let good: [&[&str]; 9] = [

@@ -1,8 +1,8 @@
-//! The program: it hands the words, the current folder, two swap devices and standard output to the
+//! The program: it hands the words, the current folder, its two swap files and standard output to the
 //! call `vmrun`, and ends with its status.
 #![tactic(auto)]
 
-use io_edge::{DirFiles, OutSink, Sink, SureSwap};
+use io_edge::{DirFiles, FileSwap, OutSink, Sink};
 use std::env;
 use std::io::ErrorKind;
 use std::process::ExitCode;
@@ -40,12 +40,8 @@ fn main(rt: HostRuntime) -> ExitCode {
             return ExitCode::from(NO_MEMORY);
         }
     }
-    let (Ok(mut zero), Ok(mut one)) = (
-        SureSwap::new(alloc, SWAP_BLOCKS),
-        SureSwap::new(alloc, SWAP_BLOCKS),
-    ) else {
-        return ExitCode::from(NO_MEMORY);
-    };
+    let mut zero = FileSwap::new(&rt, "vmrun.swap0", SWAP_BLOCKS);
+    let mut one = FileSwap::new(&rt, "vmrun.swap1", SWAP_BLOCKS);
     let mut files = DirFiles::new(&rt);
     let status = vmrun(
         alloc,

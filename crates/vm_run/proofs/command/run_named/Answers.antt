@@ -1,8 +1,8 @@
-use Rattle.std.proofs.Common.{◌≡◌, Option, Some, None, refl, sym, ap, ◌∙◌, subst}
-use Rattle.vm_run.specs.declared.ending.Ending.{Ending}
-use Rattle.vm_run.specs.Opening.{schedule_ending, image_ending, device_ending, first_of, judged}
-use Rattle.vm_run.specs.Transcript.{Faults, EndsBy, IsRunEnding}
-use Rattle.vm_run.proofs.Transcribing.{run_ends, kind_by}
+use Rattle.std.proofs.Common.{◌≡◌, ℕ, Some, None, Err, refl, sym, ◌∙◌, subst}
+use Rattle.vm_run.specs.declared.opening.Opened.{Opened}
+use Rattle.vm_run.specs.Opening.{EndsSchedule, Says, image_ending, device_ending}
+use Rattle.vm_run.specs.Transcript.{Faults, IsRunEnding}
+use Rattle.vm_run.proofs.Transcribing.{run_ends, kind_by, ends_by_schedule, ends_by_image, ends_by_device, ends_by_run, ended_early}
 use Rattle.vm_run.proofs.command.run_named.Goals as goal
 
 pub returns-clause-ends : goal.returns-clause-ends
@@ -15,13 +15,9 @@ returns-clause-ends g c = λ list told.
     } in
     let found : g.F.Files.holds c.open_schedule.new.files ≡ Some list = c.open_schedule.ensures.holds ∙ told in
     let opened : g.F.Files.holds c.open_image.new.files ≡ Some list = c.open_image.ensures.holds ∙ found in
-    let no_schedule : schedule_ending list c.args.schedule.now ≡ None = c.in_default.ensures.says list told in
+    let no_schedule : EndsSchedule list c.args.schedule.now None = c.in_default.ensures.says list told in
     let no_image : image_ending list c.args.image.now ≡ None = c.in-Ok.ensures.says list found in
     let no_device : device_ending c.args.numbers.swap c.args.zero_blocks c.args.one_blocks ≡ None = sym c.judge_devices.ensures ∙ c.in_default-judge_devices.is in
-    let none : judged c.args.numbers c.args.schedule.now c.args.image.now list c.args.zero_blocks c.args.one_blocks ≡ None
-    = ap (λ (o : Option Ending). first_of o (first_of (image_ending list c.args.image.now) (device_ending c.args.numbers.swap c.args.zero_blocks c.args.one_blocks))) no_schedule
-    ∙ ap (λ (o : Option Ending). first_of o (device_ending c.args.numbers.swap c.args.zero_blocks c.args.one_blocks)) no_image
-    ∙ no_device in
     let pages : g.F.Files.page_faults c.open_image.new.files ≡ g.F.Files.page_faults c.args.files.now = c.open_image.ensures.page_faults ∙ c.open_schedule.ensures.page_faults in
     let opens : g.F.Files.open_faults c.run_opened.new.files ≡ g.F.Files.open_faults c.args.files.now
     = c.run_opened.ensures.open_faults ∙ c.in-Ok.ensures.good ∙ c.in_default.ensures.good refl in
@@ -32,7 +28,49 @@ returns-clause-ends g c = λ list told.
       page_after = g.F.Files.page_faults c.run_opened.new.files;
     } in
     let kind : IsRunEnding f c.run_opened.result.ending = kind_by after f c.run_opened.result.ending pages refl c.run_opened.ensures.kind in
-    subst (λ (o : Option Ending). EndsBy o c.args.numbers c.args.image.now list f c.run_opened.result.ending c.run_opened.result.journal) (sym none)
+    ends_by_run c.args.numbers c.args.schedule.now c.args.image.now list c.args.zero_blocks c.args.one_blocks f c.run_opened.result.ending c.run_opened.result.journal
+    no_schedule no_image no_device
     (run_ends c.args.numbers c.args.image.now list f c.run_opened.result.ending c.run_opened.result.journal c.in-Ok.opened.file c.in-Ok.opened.image
     (c.in-Ok.ensures.place list found) (c.in-Ok.ensures.loaded list found)
     (λ A o. c.run_opened.ensures.ends list opened A o) kind opens)
+
+pub returns-in-Err-clause-ends : goal.returns-in-Err-clause-ends
+returns-in-Err-clause-ends g c = λ list told.
+    let f : Faults = record {
+      open_before = g.F.Files.open_faults c.args.files.now;
+      open_after = g.F.Files.open_faults c.open_schedule.new.files;
+      page_before = g.F.Files.page_faults c.args.files.now;
+      page_after = g.F.Files.page_faults c.open_schedule.new.files;
+    } in
+    ended_early c.args.numbers c.args.schedule.now c.args.image.now list c.args.zero_blocks c.args.one_blocks f c.in-Err.ending c.ended_early.result.ending c.ended_early.result.journal
+    c.ended_early.ensures.ending c.ended_early.ensures.journal
+    (ends_by_schedule c.args.numbers c.args.schedule.now c.args.image.now list c.args.zero_blocks c.args.one_blocks f c.in-Err.ending c.in-Err.ensures.early (c.in-Err.ensures.says list told))
+
+pub returns-in-Err-open_image-clause-ends : goal.returns-in-Err-open_image-clause-ends
+returns-in-Err-open_image-clause-ends g c = λ list told.
+    let f : Faults = record {
+      open_before = g.F.Files.open_faults c.args.files.now;
+      open_after = g.F.Files.open_faults c.open_image.new.files;
+      page_before = g.F.Files.page_faults c.args.files.now;
+      page_after = g.F.Files.page_faults c.open_image.new.files;
+    } in
+    let found : g.F.Files.holds c.open_schedule.new.files ≡ Some list = c.open_schedule.ensures.holds ∙ told in
+    let no_schedule : EndsSchedule list c.args.schedule.now None = c.in_default.ensures.says list told in
+    let says : Says {T = Opened} (image_ending list c.args.image.now) f.open_before f.open_after (Err c.in-Err-open_image.ending)
+    = subst (λ (n : ℕ). Says {T = Opened} (image_ending list c.args.image.now) n f.open_after (Err c.in-Err-open_image.ending)) (c.in_default.ensures.good refl) (c.in-Err-open_image.ensures.says list found) in
+    ended_early c.args.numbers c.args.schedule.now c.args.image.now list c.args.zero_blocks c.args.one_blocks f c.in-Err-open_image.ending c.ended_early-in-Err-open_image.result.ending c.ended_early-in-Err-open_image.result.journal
+    c.ended_early-in-Err-open_image.ensures.ending c.ended_early-in-Err-open_image.ensures.journal
+    (ends_by_image c.args.numbers c.args.schedule.now c.args.image.now list c.args.zero_blocks c.args.one_blocks f c.in-Err-open_image.ending no_schedule c.in-Err-open_image.ensures.early says)
+
+pub returns-in-Some-clause-ends : goal.returns-in-Some-clause-ends
+returns-in-Some-clause-ends g c = λ list told.
+    let f : Faults = record {
+      open_before = g.F.Files.open_faults c.args.files.now;
+      open_after = g.F.Files.open_faults c.open_image.new.files;
+      page_before = g.F.Files.page_faults c.args.files.now;
+      page_after = g.F.Files.page_faults c.open_image.new.files;
+    } in
+    let found : g.F.Files.holds c.open_schedule.new.files ≡ Some list = c.open_schedule.ensures.holds ∙ told in
+    ended_early c.args.numbers c.args.schedule.now c.args.image.now list c.args.zero_blocks c.args.one_blocks f c.in-Some.ending c.ended_early-in-Some.result.ending c.ended_early-in-Some.result.journal
+    c.ended_early-in-Some.ensures.ending c.ended_early-in-Some.ensures.journal
+    (ends_by_device c.args.numbers c.args.schedule.now c.args.image.now list c.args.zero_blocks c.args.one_blocks f c.in-Some.ending (c.in_default.ensures.says list told) (c.in-Ok.ensures.says list found) (sym c.in-Some.ensures))
