@@ -7,6 +7,8 @@ use Rattle.std.specs.Str.Parse.{digits_value}
 use Rattle.vm_run.specs.declared.words.Numbers.{Numbers}
 use Rattle.vm_run.specs.declared.words.Kept.{Kept}
 use Rattle.vm_run.specs.declared.words.Command.{Command}
+use Rattle.vm_run.specs.declared.words.Tool.{Tool}
+use Rattle.vm_run.specs.declared.words.Tool.TheVariants.{Assemble, Show}
 use Rattle.vm_run.specs.declared.words.Command.TheVariants.{Run, Unbuilt}
 use Rattle.vm_run.specs.Opening.{word_of}
 
@@ -138,6 +140,14 @@ command_by None false = None
 -- the command of a command line: a run of one image without its paging entries, or one that isn't built yet
 unfoldable pub command_of : List (List ℕ) → Option Command
 command_of words = command_by (numbers_of words) (are_good words)
+
+-- the command of this name, where it is one that runs no process
+abbrev pub tool_named : List ℕ → Option Tool
+tool_named name = if bytes_eq name (codes "as") then Some Assemble else (if bytes_eq name (codes "dis") then Some Show else None)
+
+-- the command of good words, where it is one that runs no process
+unfoldable pub tool_of : List (List ℕ) → Option Tool
+tool_of words = if are_good words then tool_named (word_of words 0) else None
 
 -- it can be run
 abbrev pub IsRun : Option Command → Type 0

@@ -2,7 +2,7 @@ ghost use Rattle.std.specs.Prelude.{◌≡◌, ◌&&◌, ◌<◌, ◌≤◌, map
 ghost use Rattle.std.specs.Char.{is_ascii_digit};
 ghost use Rattle.std.specs.List.{AllWithin, list_all, list_any};
 ghost use Rattle.vm_run.specs.Opening.{word_of};
-ghost use Rattle.vm_run.specs.Words.{IsInRanges, IfRun, command_of, numbers_of, run_numbers, limits_of, number_of, in_range, is_plain, is_name, is_started, is_known, is_image, are_images, is_within, is_trace, without_trace, kept_of, kept_words, is_core, is_load, is_replay, is_source, is_shown, is_optimum, is_command, are_good};
+ghost use Rattle.vm_run.specs.Words.{IsInRanges, IfRun, command_of, numbers_of, run_numbers, limits_of, number_of, in_range, is_plain, is_name, is_started, is_known, is_image, are_images, is_within, is_trace, without_trace, kept_of, kept_words, is_core, is_load, is_replay, is_source, is_shown, is_optimum, is_command, are_good, tool_of};
 
 /// The numbers of a command line: how many page frames the machine has (64 to 4,096), how many blocks of 512 bytes the
 /// swap device has (256 to 131,072), and how many instructions may run in all (1 to 1,000,000). Source: this project's profile.
@@ -20,6 +20,31 @@ pub enum Command {
     Run { numbers: Numbers },
     /// The words are good, but what they ask for isn't built yet.
     Unbuilt,
+}
+
+/// A command that runs no process.
+#[derive(Clone, Copy, Debug, PartialEq, Eq, Drop)]
+pub enum Tool {
+    /// `as SOURCE`: an image is made of a source.
+    Assemble,
+    /// `dis IMAGE`: the instructions of an image are listed.
+    Show,
+}
+
+/// The command that the words after the program's name ask for, where they are good and it is one that runs no
+/// process.
+#[tactic(auto, unfolding(crate::specs::Words::tool_of))]
+pub fn read_tool(words: &[&str]) -> Option<Tool>
+    ensures { result ≡ tool_of (map (λ word. word.now) words.now) }
+{
+    if !are_good(words) {
+        return None;
+    }
+    match word_or_empty(words, 0) {
+        "as" => Some(Tool::Assemble),
+        "dis" => Some(Tool::Show),
+        _ => None,
+    }
 }
 
 /// Reads the words after the program's name. They are one of
