@@ -1,0 +1,5 @@
+pub mod Fronts
+pub mod Digits
+pub mod Spelled
+pub mod Rows
+pub mod Naming

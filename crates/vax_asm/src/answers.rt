@@ -1,0 +1,10 @@
+// What the calls answer.
+
+/// What a line is encoded as.
+#[derive(Clone, Copy, Debug, PartialEq, Eq)]
+pub enum Encoded {
+    /// The first `length` bytes are the instruction; zeros stand behind it.
+    Is { bytes: [u8; 24], length: u8 },
+    /// The line is no instruction of the grammar in its ranges.
+    Bad,
+}

@@ -1,0 +1,21 @@
+use super::*;
+use std::process::Abort;
+
+fn encoded(rt: &impl Abort, line: &[u8], at: u32, wanted: &[u8]) {
+    let Encoded::Is { bytes, length } = encode(line, at) else {
+        panic!(rt; "bad");
+    };
+    assert_eq!(rt; &bytes[..length as usize], wanted);
+}
+
+#[test]
+fn encodes_each_form_of_operand(rt: HostRuntime) {
+    encoded(&rt, b"nop", 0, &[0x01]);
+    encoded(&rt, b"movl $5,(r1)+", 9, &[0xD0, 0x05, 0x81]);
+    encoded(&rt, b"movl i^$0x7fe,r1", 2, &[0xD0, 0x8F, 0xFE, 0x07, 0, 0, 0x51]);
+    encoded(&rt, b"moval *$0x20,r12", 2, &[0xDE, 0x9F, 0x20, 0, 0, 0, 0x5C]);
+    encoded(&rt, b"brb 0x4", 4, &[0x11, 0xFE]);
+    encoded(&rt, b"brb -2", 0, &[0x11, 0xFC]);
+    encoded(&rt, b"clrb *w^-2(r15)[r3]", 0, &[0x94, 0x43, 0xDF, 0xFE, 0xFF]);
+    encoded(&rt, b"calls $0,*$32", 0, &[0xFB, 0, 0x9F, 32, 0, 0, 0]);
+}
