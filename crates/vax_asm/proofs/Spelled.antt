@@ -63,7 +63,7 @@ le_of a b e = grind (arith, nat_tests)
 pub IsSize : ℕ → Type 0
 IsSize size = (size ≡ 1) ⊎ (size ≡ 2) ⊎ (size ≡ 4)
 
-kind_sized : (kind : Kind) → ((slot_of kind).size ≡ 1) ⊎ ((slot_of kind).size ≡ 2) ⊎ ((slot_of kind).size ≡ 4)
+pub kind_sized : (kind : Kind) → ((slot_of kind).size ≡ 1) ⊎ ((slot_of kind).size ≡ 2) ⊎ ((slot_of kind).size ≡ 4)
 kind_sized kinds.Ab = inl refl
 kind_sized kinds.Al = inr (inr refl)
 kind_sized kinds.Bb = inl refl
@@ -187,7 +187,7 @@ displaced_other : (size reg : ℕ) (by : Number) (deferred : Bool) → (size == 
 unfolding displaced_bytes
 displaced_other size reg by deferred a b = rw (displacement_other size by (size == 1) (size == 2) refl refl a b) (rw a (rw b refl))
 
-size_is : (size n : ℕ) → (size == n) ≡ true → size ≡ n
+pub size_is : (size n : ℕ) → (size == n) ≡ true → size ≡ n
 size_is size n e = grind (arith, nat_tests)
 
 displaced_spelled : (size reg : ℕ) (by : Number) (deferred one two : Bool) (bytes : List ℕ) → (size == 1) ≡ one → (size == 2) ≡ two → reg < 16 → displaced_bytes size reg by deferred ≡ Some bytes → SpellsDisplaced (displacement_mode 1 deferred) 1 reg (as_signed by) bytes ⊎ SpellsDisplaced (displacement_mode 2 deferred) 2 reg (as_signed by) bytes ⊎ SpellsDisplaced (displacement_mode 4 deferred) 4 reg (as_signed by) bytes
@@ -249,7 +249,7 @@ leaves labels index (places.AutoIncDef reg) e = other_of reg index e
 leaves labels index (places.Absolute address) e = tt
 leaves labels index (places.Disp size reg by deferred) e = tt
 
-both : (a b : Bool) → (a && b) ≡ true → (a ≡ true) × (b ≡ true)
+pub both : (a b : Bool) → (a && b) ≡ true → (a ≡ true) × (b ≡ true)
 both true b e = (refl, e)
 both false b e = absurd (cc)
 
@@ -379,7 +379,7 @@ spells_row_place labels from row place written bytes e =
 
 -- ---- instructions
 
-three_binds : {A B C D : Type 0} (o : Option A) (p : A → Option B) (q : A → B → Option C) (f : A → B → C → D) (a : A) (b : B) (c : C) → o ≡ Some a → p a ≡ Some b → q a b ≡ Some c → (o >>= λ a. p a >>= λ b. q a b >>= λ c. Some (f a b c)) ≡ Some (f a b c)
+pub three_binds : {A B C D : Type 0} (o : Option A) (p : A → Option B) (q : A → B → Option C) (f : A → B → C → D) (a : A) (b : B) (c : C) → o ≡ Some a → p a ≡ Some b → q a b ≡ Some c → (o >>= λ a. p a >>= λ b. q a b >>= λ c. Some (f a b c)) ≡ Some (f a b c)
 three_binds o p q f a b c d e g = rw d (rw e (rw g refl))
 
 pub sentence_encodes : (labels : List Definition) (at : ℕ) (sentence : Sentence) (bytes : List ℕ) → row_for sentence.row.op ≡ Some sentence.row → sentence_bytes labels at sentence ≡ Some bytes → (instr : Instr) × (sentence_instruction labels at sentence ≡ Some instr) × IsInstruction bytes instr

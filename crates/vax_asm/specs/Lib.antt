@@ -5,3 +5,4 @@ pub mod Operands
 pub mod Mnemonics
 pub mod Sentences
 pub mod Encoding
+pub mod Showing

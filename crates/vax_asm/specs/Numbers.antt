@@ -2,7 +2,6 @@
 use Rattle.std.specs.Prelude.{⊤, IsTrue, ℕ, ◌==◌, ◌&&◌, ◌||◌, Bool, true, false, not, if◌then◌else◌, min, List, [], ◌∷◌, ◌++◌, codes, drop, Option, Some, None}
 use Rattle.std.specs.Int.{is_in_range}
 use Rattle.std.specs.Str.Parse.{digits_value}
-use Rattle.std.specs.Fmt.{digits}
 use Rattle.vax_asm.specs.Text.{◌>>=◌, Text, front_of, behind}
 use Rattle.vax_asm.specs.declared.syntax.Number.{Number}
 
@@ -47,11 +46,3 @@ signed_at minus text = do
 unfoldable pub number_at : List ℕ → Text Number
 number_at [] = None
 number_at (first ∷ rest) = if first == 45 then signed_at true rest else signed_at false (first ∷ rest)
-
--- a number as `show` writes it
-abbrev pub sign_text : Bool → List ℕ
-sign_text true = codes "-"
-sign_text false = []
-
-unfoldable pub number_text : Number → List ℕ
-number_text number = sign_text number.negative ++ (codes "0x" ++ digits 16 false number.magnitude)

@@ -8,3 +8,16 @@ pub enum Encoded {
     /// The line is no instruction of the grammar in its ranges.
     Bad,
 }
+
+/// What bytes are shown as.
+#[derive(Clone, Copy, Debug, PartialEq, Eq)]
+pub enum Shown {
+    /// The first `length` bytes of the text are the instruction's, which has `size` bytes.
+    Is {
+        text: [u8; 120],
+        length: u8,
+        size: u8,
+    },
+    /// No instruction begins so.
+    NoInstruction,
+}

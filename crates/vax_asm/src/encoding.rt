@@ -8,7 +8,7 @@ use crate::syntax::{Definition, Label, Number, Place, Sentence, Value, Written};
 use vax_code::{Access, Row, Slot};
 
 // How many numbers so many bytes hold.
-fn whole_of(size: u8) -> u64
+pub fn whole_of(size: u8) -> u64
     ensures { result ≡ whole_of size }
 {
     match size {
@@ -18,7 +18,7 @@ fn whole_of(size: u8) -> u64
     }
 }
 
-fn half_of(size: u8) -> u64
+pub fn half_of(size: u8) -> u64
     ensures { result ≡ half_of size }
 {
     match size {

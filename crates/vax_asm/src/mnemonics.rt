@@ -1,12 +1,13 @@
 // The mnemonics of the instruction table, in lower case.
-ghost use Rattle.std.specs.Prelude.{◌≡◌, find};
+ghost use Rattle.std.specs.Prelude.{◌≡◌, ◌≤◌, find, length};
 ghost use Rattle.vax_asm.specs.Mnemonics.{mnemonic, same_text, row_named};
 
 use vax_code::{Name, Row, rows};
 
 // The mnemonic of an instruction.
 pub fn mnemonic(name: Name) -> &'static [u8]
-    ensures { result.now ≡ mnemonic name }
+    ensures text { result.now ≡ mnemonic name }
+    ensures few { length result.now ≤ 6 }
 {
     match name {
         Name::Nop => b"nop",

@@ -19,3 +19,26 @@ fn encodes_each_form_of_operand(rt: HostRuntime) {
     encoded(&rt, b"clrb *w^-2(r15)[r3]", 0, &[0x94, 0x43, 0xDF, 0xFE, 0xFF]);
     encoded(&rt, b"calls $0,*$32", 0, &[0xFB, 0, 0x9F, 32, 0, 0, 0]);
 }
+
+fn shown(rt: &impl Abort, bytes: &[u8], at: u32, wanted: &[u8]) {
+    let Shown::Is { text, length, size } = show(bytes, at) else {
+        panic!(rt; "no instruction");
+    };
+    assert_eq!(rt; &text[..length as usize], wanted);
+    encoded(rt, wanted, at, &bytes[..size as usize]);
+}
+
+#[test]
+fn shows_each_form_of_operand(rt: HostRuntime) {
+    shown(&rt, &[0x01, 0xFF], 0, b"nop");
+    shown(&rt, &[0xD0, 0x05, 0x81], 9, b"movl $0x5,(r1)+");
+    shown(&rt, &[0xD0, 0x8F, 0xFE, 0x07, 0, 0, 0x51], 2, b"movl i^$0x7fe,r1");
+    shown(&rt, &[0xDE, 0x9F, 0x20, 0, 0, 0, 0x5C], 2, b"moval *$0x20,r12");
+    shown(&rt, &[0x11, 0xFE], 4, b"brb 0x4");
+    shown(&rt, &[0x11, 0xFC], 0, b"brb 0xfffffffe");
+    shown(&rt, &[0x94, 0x43, 0xDF, 0xFE, 0xFF], 0, b"clrb *w^-0x2(r15)[r3]");
+    shown(&rt, &[0xD4, 0x73], 0, b"clrl -(r3)");
+    shown(&rt, &[0xD4, 0x93], 0, b"clrl *(r3)+");
+    shown(&rt, &[0xD4, 0x63], 0, b"clrl (r3)");
+    shown(&rt, &[0xD4, 0xEA, 0, 0, 0, 0x80], 0, b"clrl l^-0x80000000(r10)");
+}
