@@ -13,13 +13,13 @@ is_digit base byte = is_in_range 48 57 byte || (base == 16) && is_in_range 97 10
 abbrev pub held : ℕ → ℕ
 held value = min value 4294967296
 
+abbrev pub numeral_of : ℕ → List ℕ → List ℕ → Text ℕ
+numeral_of base [] rest = None
+numeral_of base (first ∷ more) rest = Some (held (digits_value base (first ∷ more)), rest)
+
 -- one digit or more
 unfoldable pub numeral_at : ℕ → List ℕ → Text ℕ
-numeral_at base text = numeral (front_of (is_digit base) text)
-  where
-    numeral : List ℕ → Text ℕ
-    numeral [] = None
-    numeral (first ∷ more) = Some (held (digits_value base (first ∷ more)), behind (is_digit base) text)
+numeral_at base text = numeral_of base (front_of (is_digit base) text) (behind (is_digit base) text)
 
 -- each byte is a digit
 abbrev pub AreDigits : ℕ → List ℕ → Type 0

@@ -79,6 +79,7 @@ impl Line {
     pub fn into_parts(self) -> ([u8; 120], u8)
         ensures line { take result.1 result.0 ≡ self }
         ensures length { result.1 ≡ length self }
+        ensures few { result.1 ≤ 120 }
     {
         let bytes = self.bytes;
         let length = self.length;
