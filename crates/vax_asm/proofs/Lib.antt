@@ -9,3 +9,7 @@ pub mod Respelled
 pub mod Reread
 pub mod Resaid
 pub mod Shows
+pub mod Items
+pub mod Sizes
+pub mod Assembling
+pub mod Standing

@@ -6,3 +6,5 @@ pub mod Mnemonics
 pub mod Sentences
 pub mod Encoding
 pub mod Showing
+pub mod Lines
+pub mod Program

@@ -21,3 +21,25 @@ pub enum Shown {
     /// No instruction begins so.
     NoInstruction,
 }
+
+/// Want of memory: the allocator refused.
+#[derive(Clone, Copy, Debug, PartialEq, Eq, Drop)]
+pub struct NoMemory;
+
+/// What a source makes.
+#[derive(Drop)]
+pub struct Program {
+    /// Its bytes, from address 0 on: at most 65,536.
+    pub bytes: Vec<u8>,
+    /// How many zeros it wants behind its data.
+    pub bss: u32,
+}
+
+/// What a source is assembled to.
+#[derive(Drop)]
+pub enum Assembled {
+    /// This program.
+    Is(Program),
+    /// The number of its lowest bad line, counted from 1.
+    BadLine(u32),
+}

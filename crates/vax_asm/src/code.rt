@@ -57,7 +57,8 @@ impl Code {
     }
 
     pub fn as_slice(&self) -> &[u8]
-        ensures { result.now ≡ self.now }
+        ensures bytes { result.now ≡ self.now }
+        ensures few { length result.now ≤ 24 }
     {
         &self.bytes[..self.length as usize]
     }

@@ -58,7 +58,7 @@ fn displacement_bits(size: u8, number: Number) -> Option<u32>
 }
 
 #[tactic(auto, unfolding(crate::specs::Encoding::found))]
-fn find_definition(labels: &[Definition], label: Label) -> Option<Definition>
+pub fn find_definition(labels: &[Definition], label: Label) -> Option<Definition>
     ensures { result ≡ found labels.now label }
 {
     labels.iter().copied().find(|definition| definition.label.bytes == label.bytes)
@@ -81,7 +81,7 @@ fn number_of_value(labels: &[Definition], value: Value) -> Option<Number>
 }
 
 #[tactic(auto, unfolding(crate::specs::Encoding::bits_of_value))]
-fn bits_of_value(labels: &[Definition], size: u8, value: Value) -> Option<u32>
+pub fn bits_of_value(labels: &[Definition], size: u8, value: Value) -> Option<u32>
     ensures value { result ≡ bits_of_value labels.now size value }
     ensures fits { IfSome result (λ bits. bits < whole_of size) }
 {

@@ -7,17 +7,20 @@ mod bytes;
 mod code;
 mod encoding;
 mod line;
+mod lines;
 mod mnemonics;
 mod numbers;
 mod operands;
+mod program;
 mod sentences;
 mod showing;
 mod syntax;
 mod text;
 mod values;
 
-pub use answers::{Encoded, Shown};
+pub use answers::{Assembled, Encoded, NoMemory, Program, Shown};
 pub use assembly::{encode, show};
+pub use program::assemble;
 
 #[cfg(test)]
 mod tests;

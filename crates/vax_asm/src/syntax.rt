@@ -77,3 +77,21 @@ pub struct Definition {
     pub label: Label,
     pub address: u32,
 }
+
+/// What a line has behind its label.
+#[derive(Clone, Copy, Debug, PartialEq, Eq)]
+pub enum Statement {
+    Byte(Value),
+    Word(Value),
+    Long(Value),
+    Space(Number),
+    Bss(Number),
+    Instruction(Sentence),
+}
+
+/// A line of a source.
+#[derive(Clone, Copy, Debug, PartialEq, Eq)]
+pub struct SourceLine {
+    pub label: Option<Label>,
+    pub statement: Option<Statement>,
+}

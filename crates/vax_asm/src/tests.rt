@@ -1,5 +1,6 @@
 use super::*;
 use std::process::Abort;
+use std::alloc::Global;
 
 fn encoded(rt: &impl Abort, line: &[u8], at: u32, wanted: &[u8]) {
     let Encoded::Is { bytes, length } = encode(line, at) else {
@@ -41,4 +42,29 @@ fn shows_each_form_of_operand(rt: HostRuntime) {
     shown(&rt, &[0xD4, 0x93], 0, b"clrl *(r3)+");
     shown(&rt, &[0xD4, 0x63], 0, b"clrl (r3)");
     shown(&rt, &[0xD4, 0xEA, 0, 0, 0, 0x80], 0, b"clrl l^-0x80000000(r10)");
+}
+
+fn assembled(rt: &impl Abort, alloc: Global, source: &[u8], wanted: &[u8]) {
+    let Ok(Assembled::Is(program)) = assemble(alloc, source) else {
+        panic!(rt; "bad");
+    };
+    assert_eq!(rt; program.bytes.as_slice(), wanted);
+}
+
+fn bad(rt: &impl Abort, alloc: Global, source: &[u8], wanted: u32) {
+    let Ok(Assembled::BadLine(line)) = assemble(alloc, source) else {
+        panic!(rt; "good");
+    };
+    assert_eq!(rt; line, wanted);
+}
+
+#[test]
+fn assembles_a_branch_to_a_label(rt: HostRuntime) {
+    assembled(&rt, rt.alloc(), b".word 0\nclrl r0\nl: brb l\n", &[0x00, 0x00, 0xD4, 0x50, 0x11, 0xFE]);
+    bad(&rt, rt.alloc(), b".word 0\nclrl r0\nl: brb m\n", 3);
+    bad(&rt, rt.alloc(), b".word 0\nclrl r0\nl: brb l", 3);
+    assembled(&rt, rt.alloc(), b"", &[]);
+    bad(&rt, rt.alloc(), b"l:\nl:\n", 2);
+    bad(&rt, rt.alloc(), b".bss 1\n.bss 2\n", 2);
+    bad(&rt, rt.alloc(), b".space 65536\n.byte 0\n", 2);
 }
