@@ -1,12 +1,12 @@
 -- The lines of a source so far, laid out.
-use Rattle.std.proofs.Common.{◌≡◌, ◌≢◌, ◌⊎◌, inl, inr, ℕ, zero, suc, ◌+◌, ◌-◌, ◌*◌, ◌<◌, ◌≤◌, Bool, true, false, List, [], ◌∷◌, ◌++◌, length, take, drop, map, Option, Some, None, refl, sym, ◌∙◌, ap, subst, arith, length-append, append_assoc}
+use Rattle.std.proofs.Common.{◌≡◌, ◌⊎◌, inl, inr, ℕ, zero, suc, ◌+◌, ◌<◌, ◌≤◌, Bool, true, false, List, [], ◌∷◌, ◌++◌, length, take, map, Option, Some, None, refl, sym, ◌∙◌, ap, subst, arith, length-append, append_assoc}
 use Rattle.std.specs.Prelude.{if◌then◌else◌, is_some, ◌==◌}
 use Rattle.std.specs.Option.{unwrap_or}
 use Rattle.std.proofs.lemmas.List.{append-nil}
 use Rattle.vax_asm.specs.Text.{◌>>=◌}
 use Rattle.vax_asm.specs.Lines.{items_in, lines_in, item_of, put_before}
 use Rattle.vax_asm.specs.Encoding.{or_zero}
-use Rattle.vax_asm.specs.Program.{item_size, optional_size, address_after, item_definition, definitions, labels_of, bss_in, item_bss, first_of, bss_found, line_bytes, bytes_behind, laid, Puts, IsFirstBad}
+use Rattle.vax_asm.specs.Program.{item_size, address_after, item_definition, definitions, labels_of, bss_in, item_bss, first_of, bss_found, line_bytes, bytes_behind, laid, Puts, IsFirstBad}
 use Rattle.vax_asm.specs.declared.syntax.SourceLine.{SourceLine}
 use Rattle.vax_asm.specs.declared.syntax.Definition.{Definition}
 use Rattle.vax_asm.proofs.Spelled.{bind_some, some_same}

@@ -1,23 +1,22 @@
 -- A line that names an instruction, and its bytes.
-use Rattle.std.proofs.Common.{◌≡◌, ℕ, ◌≤◌, Bool, true, false, List, [], ◌∷◌, ◌++◌, length, take, Option, Some, None, refl, sym, ◌∙◌, ap, subst, arith}
-use Rattle.std.specs.Prelude.{if◌then◌else◌}
+use Rattle.std.proofs.Common.{◌≡◌, ℕ, true, false, List, [], ◌∷◌, length, Some, None, refl, sym, ◌∙◌, ap, subst}
 use Rattle.std.proofs.lemmas.List.{append-nil}
 use Rattle.vax_code.specs.declared.table.Row.{Row}
 use Rattle.vax_code.specs.declared.instr.Instr.{Instr}
 use Rattle.vax_code.specs.declared.instr.Decoded.TheVariants as decodings
 use Rattle.vax_code.specs.Table.{row_for}
 use Rattle.vax_code.specs.Reading.{decoded}
-use Rattle.vax_code.specs.Grammar.{IsInstruction, BeginsWith}
+use Rattle.vax_code.specs.Grammar.{IsInstruction}
 use Rattle.vax_code.proofs.Law.{is_decoded}
 use Rattle.vax_code.proofs.Lengths.{whole_length}
-use Rattle.vax_asm.specs.Text.{◌>>=◌, front_of, behind}
+use Rattle.vax_asm.specs.Text.{front_of, behind}
 use Rattle.vax_asm.specs.Values.{is_word_byte}
 use Rattle.vax_asm.specs.Mnemonics.{row_named}
 use Rattle.vax_asm.specs.Sentences.{sentence_of, operands_at, place_of_row_at, ended, is_short}
-use Rattle.vax_asm.specs.Encoding.{sentence_bytes, sentence_instruction, named_instruction, named_bytes, IsCodeOf}
+use Rattle.vax_asm.specs.Encoding.{sentence_bytes, named_instruction, named_bytes, IsCodeOf}
 use Rattle.vax_asm.specs.declared.syntax.Sentence.{Sentence}
 use Rattle.vax_asm.specs.declared.syntax.Definition.{Definition}
-use Rattle.vax_asm.proofs.Spelled.{bind_some, some_same, some_if, sentence_encodes, sentence_none}
+use Rattle.vax_asm.proofs.Spelled.{bind_some, some_same, sentence_encodes, sentence_none}
 use Rattle.vax_asm.proofs.Rows.{named_is_listed}
 
 row_of_ended : (row : Row) (s r : Sentence) (rest : List ℕ) → r.row ≡ row → ended r rest ≡ Some s → s.row ≡ row

@@ -1,17 +1,16 @@
 -- What is written is read again.
-use Rattle.std.proofs.Common.{◌≡◌, ◌≢◌, ◌⊎◌, inl, inr, ℕ, zero, suc, ◌+◌, ◌-◌, ◌*◌, ◌/◌, ◌%◌, ◌^◌, ◌<◌, ◌≤◌, Bool, true, false, not, List, [], ◌∷◌, ◌++◌, length, get_or, take, drop, Option, Some, None, refl, sym, ◌∙◌, ap, subst, arith, append_assoc, length-append, IsTrue}
-use Rattle.std.specs.Prelude.{if◌then◌else◌, nat_lt, nat_le, ◌==◌, ◌&&◌, ◌||◌, codes, min, ⊤}
+use Rattle.std.proofs.Common.{◌≡◌, ◌≢◌, ◌⊎◌, inl, inr, ℕ, zero, suc, ◌+◌, ◌-◌, ◌*◌, ◌/◌, ◌%◌, ◌<◌, ◌≤◌, Bool, true, false, List, [], ◌∷◌, ◌++◌, length, Option, Some, None, refl, sym, ◌∙◌, ap, subst, arith, append_assoc, length-append, IsTrue}
+use Rattle.std.specs.Prelude.{if◌then◌else◌, nat_lt, ◌==◌, codes, min, ⊤}
 use Rattle.std.specs.Int.{is_in_range}
 use Rattle.std.specs.Char.{digit_value}
 use Rattle.std.specs.Str.Parse.{digits_value}
 use Rattle.std.proofs.lemmas.Int.Digits.{digits_value_push}
-use Rattle.std.proofs.lemmas.List.{append-nil}
 use Rattle.std.proofs.lemmas.Bool.Decides.{nat_tests}
 use Rattle.vax_asm.specs.Text.{◌>>=◌, after, front_of, behind}
-use Rattle.vax_asm.specs.Numbers.{is_digit, AreDigits, held, numeral_of, numeral_at, magnitude_at, signed, signed_at, number_at}
-use Rattle.vax_asm.specs.Values.{is_label_start, value_number_at, value_at}
-use Rattle.vax_asm.specs.Operands.{second_digit, register_number_at, register_at, in_parentheses_at, incremented, deferred_at, decremented_at, increment_deferred_at, absolute_at, marked_size, displacement_at, displaced_at, pointer_at, place_at, index_at, indexed, addressed_at, literal_at, immediate_at, plain_register_at, specifier_at, target_at, operand_at}
-use Rattle.vax_asm.specs.Showing.{hexadecimal_digit, hexadecimal, sign_text, number_text, value_text, register_number_text, register_text, parenthesised_text, star_text, mark_of_size, displacement_text, place_text, written_text}
+use Rattle.vax_asm.specs.Numbers.{is_digit, AreDigits, numeral_of, numeral_at, magnitude_at, signed, signed_at, number_at}
+use Rattle.vax_asm.specs.Values.{value_number_at, value_at}
+use Rattle.vax_asm.specs.Operands.{second_digit, register_number_at, register_at, in_parentheses_at, incremented, deferred_at, decremented_at, increment_deferred_at, absolute_at, displacement_at, displaced_at, pointer_at, place_at, index_at, indexed, addressed_at, literal_at, immediate_at, plain_register_at, specifier_at, target_at, operand_at}
+use Rattle.vax_asm.specs.Showing.{hexadecimal_digit, hexadecimal, sign_text, number_text, value_text, register_text, parenthesised_text, star_text, displacement_text, place_text, written_text}
 use Rattle.vax_asm.specs.declared.syntax.Number.{Number}
 use Rattle.vax_asm.specs.declared.syntax.Value.{Value}
 use Rattle.vax_asm.specs.declared.syntax.Value.TheVariants as values
@@ -20,7 +19,6 @@ use Rattle.vax_asm.specs.declared.syntax.Place.TheVariants as places
 use Rattle.vax_asm.specs.declared.syntax.Written.{Written}
 use Rattle.vax_asm.specs.declared.syntax.Written.TheVariants as writtens
 use Rattle.vax_asm.proofs.Spelled.{lt_of, ge_of}
-use Rattle.vax_asm.proofs.Hexadecimal.{lt_is, ge_is}
 use Rattle.vax_asm.proofs.Respelled.{GoodNumber, GoodValue, GoodPlace, GoodSpecifier, GoodTarget, GoodOperand}
 
 -- no digit and no `+` comes next

@@ -1,6 +1,6 @@
 -- An instruction's text names the instruction.
-use Rattle.std.proofs.Common.{◌≡◌, ◌≢◌, ℕ, zero, suc, ◌+◌, ◌<◌, ◌≤◌, Bool, true, false, cond, not, List, [], ◌∷◌, ◌++◌, length, take, drop, Option, Some, None, refl, sym, ◌∙◌, ap, subst, arith, append_assoc, IsTrue}
-use Rattle.std.specs.Prelude.{if◌then◌else◌, nat_lt, nat_le, ◌==◌, ◌&&◌, find, ⊤}
+use Rattle.std.proofs.Common.{◌≡◌, ℕ, Bool, true, false, cond, List, [], ◌∷◌, ◌++◌, Option, Some, None, refl, sym, ◌∙◌, ap, subst, arith, IsTrue}
+use Rattle.std.specs.Prelude.{if◌then◌else◌, nat_lt, ◌==◌, ◌&&◌, find, ⊤}
 use Rattle.std.specs.List.{list_all}
 use Rattle.std.proofs.lemmas.List.{append-nil}
 use Rattle.std.proofs.lemmas.Bool.Decides.{nat_tests}
@@ -9,14 +9,14 @@ use Rattle.vax_code.specs.Table.{all_rows, row_for, slot_in}
 use Rattle.vax_code.specs.Operands.{is_branch}
 use Rattle.vax_asm.specs.Text.{◌>>=◌, after, front_of, behind}
 use Rattle.vax_asm.specs.Values.{is_word_byte}
-use Rattle.vax_asm.specs.Mnemonics.{mnemonic, same_text, row_named}
+use Rattle.vax_asm.specs.Mnemonics.{mnemonic, row_named}
 use Rattle.vax_asm.specs.Operands.{operand_at}
 use Rattle.vax_asm.specs.Sentences.{separator, place_of_row_at, ended, operands_at, sentence_of}
 use Rattle.vax_asm.specs.Showing.{written_text, row_place_text, sentence_text}
 use Rattle.vax_asm.specs.declared.syntax.Written.{Written}
 use Rattle.vax_asm.specs.declared.syntax.Written.TheVariants as writtens
 use Rattle.vax_asm.specs.declared.syntax.Sentence.{Sentence}
-use Rattle.vax_asm.proofs.Spelled.{some_same, both}
+use Rattle.vax_asm.proofs.Spelled.{both}
 use Rattle.vax_asm.proofs.Rows.{named_is_listed}
 use Rattle.vax_asm.proofs.Respelled.{GoodPlaceOfRow}
 use Rattle.vax_asm.proofs.Reread.{Ends, operand_read}

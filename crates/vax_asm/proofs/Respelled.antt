@@ -1,10 +1,10 @@
 -- What is shown of some bytes has these bytes again.
-use Rattle.std.proofs.Common.{◌≡◌, ◌≢◌, ◌⊎◌, inl, inr, ℕ, zero, suc, ◌+◌, ◌-◌, ◌*◌, ◌/◌, ◌%◌, ◌^◌, ◌<◌, ◌≤◌, Bool, true, false, not, List, [], ◌∷◌, ◌++◌, length, get_or, take, drop, Option, Some, None, refl, sym, ◌∙◌, ap, subst, arith, append_assoc, length-append, IsTrue}
+use Rattle.std.proofs.Common.{◌≡◌, ◌≢◌, ◌⊎◌, inl, inr, ℕ, zero, suc, ◌+◌, ◌-◌, ◌*◌, ◌/◌, ◌%◌, ◌<◌, ◌≤◌, Bool, true, false, not, List, [], ◌∷◌, ◌++◌, length, get_or, take, drop, Option, Some, None, refl, sym, ◌∙◌, ap, subst, arith, append_assoc, length-append}
 use Rattle.std.specs.Prelude.{if◌then◌else◌, nat_lt, nat_le, ◌==◌, ◌&&◌, ◌||◌}
 use Rattle.std.specs.Int.{to_le_bytes, from_le_bytes, w8, w16, w32}
 use Rattle.std.proofs.Math.Nat.{mod-eq_of_lt}
 use Rattle.std.proofs.lemmas.Nat.{le_bytes_2, le_bytes_4}
-use Rattle.std.proofs.lemmas.List.{length-take-le, take-append-drop, append-nil}
+use Rattle.std.proofs.lemmas.List.{length-take-le, take-append-drop}
 use Rattle.std.proofs.lemmas.Bool.Decides.{nat_tests}
 use Rattle.vax_code.specs.declared.table.Slot.{Slot}
 use Rattle.vax_code.specs.declared.table.Row.{Row}
@@ -15,7 +15,7 @@ use Rattle.vax_code.proofs.Spelling.{octets_front, halves as byte_halves}
 use Rattle.vax_code.proofs.Rule.{row_of_op}
 use Rattle.vax_asm.specs.Text.{◌>>=◌}
 use Rattle.vax_asm.specs.Numbers.{signed}
-use Rattle.vax_asm.specs.Encoding.{whole_of, half_of, value_bits, displacement_bits, number_of_value, bits_of_value, plain_specifier, with_number, displacement_mode, displaced_bytes, place_bytes, leaves_index, indexed_bytes, literal_bytes, immediate_bytes, distance, branch_bits, target_bytes, branch_bytes, specifier_bytes, absent_bytes, operand_bytes, sentence_bytes}
+use Rattle.vax_asm.specs.Encoding.{whole_of, half_of, value_bits, displacement_bits, number_of_value, bits_of_value, plain_specifier, with_number, displacement_mode, displaced_bytes, place_bytes, leaves_index, indexed_bytes, immediate_bytes, distance, branch_bits, target_bytes, branch_bytes, specifier_bytes, absent_bytes, operand_bytes, sentence_bytes}
 use Rattle.vax_asm.specs.Showing.{byte_shown, number_shown, plain_number, signed_number, size_of_mode, displacement_shown, absolute_shown, place_shown, indexed_shown, immediate_shown, specifier_shown, branch_target, branch_shown, operand_shown, row_place_shown, operands_shown, sentence_shown}
 use Rattle.vax_asm.specs.declared.syntax.Number.{Number}
 use Rattle.vax_asm.specs.declared.syntax.Value.{Value}
@@ -25,7 +25,7 @@ use Rattle.vax_asm.specs.declared.syntax.Place.TheVariants as places
 use Rattle.vax_asm.specs.declared.syntax.Written.{Written}
 use Rattle.vax_asm.specs.declared.syntax.Written.TheVariants as writtens
 use Rattle.vax_asm.specs.declared.syntax.Sentence.{Sentence}
-use Rattle.vax_asm.proofs.Spelled.{bind_some, some_same, some_if, some_unless, lt_of, ge_of, le_of, size_is, both, kind_sized, three_binds}
+use Rattle.vax_asm.proofs.Spelled.{bind_some, some_same, some_if, some_unless, lt_of, ge_of, size_is, both, kind_sized, three_binds}
 use Rattle.vax_asm.proofs.Hexadecimal.{lt_is, ge_is}
 
 -- ---- what is written so can be read again
@@ -641,8 +641,8 @@ operands_back at first bytes rest row sentence octets listed e =
       front = row.op ∷ (one.front ++ (two.front ++ three.front));
       split = ap (λ (n : ℕ). n ∷ bytes) (sym op) ∙ ap (λ (l : List ℕ). row.op ∷ l) (joined bytes one.front a.0.1 two.front b.0.1 three.front c.0.1 one.split two.split three.split);
       spells = three_spell at (made row a.0.0 b.0.0 c.0.0) one.front two.front three.front one.spells
-        (written_from row 1 (at + 1 + (length bytes - length a.0.1)) (at + 1 + length one.front) b.0.0 two.front from_b two.spells)
-        (written_from row 2 (at + 1 + (length bytes - length b.0.1)) (at + 1 + length one.front + length two.front) c.0.0 three.front from_c three.spells);
+          (written_from row 1 (at + 1 + (length bytes - length a.0.1)) (at + 1 + length one.front) b.0.0 two.front from_b two.spells)
+          (written_from row 2 (at + 1 + (length bytes - length b.0.1)) (at + 1 + length one.front + length two.front) c.0.0 three.front from_c three.spells);
       listed = subst (λ (n : ℕ). row_for n ≡ Some row) (sym op) listed;
       good_a = one.is_good;
       good_b = two.is_good;

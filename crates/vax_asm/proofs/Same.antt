@@ -1,10 +1,9 @@
 -- Bytes are shown exactly where they are decoded.
-use Rattle.std.proofs.Common.{◌≡◌, ◌≢◌, ℕ, ◌+◌, ◌-◌, ◌*◌, ◌/◌, ◌%◌, Bool, true, false, List, [], ◌∷◌, ◌++◌, length, take, drop, Option, Some, None, Ok, Err, refl, sym, ◌∙◌, ap, subst, arith}
+use Rattle.std.proofs.Common.{◌≡◌, ◌≢◌, ℕ, ◌+◌, ◌-◌, ◌/◌, ◌%◌, Bool, true, false, List, [], ◌∷◌, length, Option, Some, None, Ok, Err, refl, ◌∙◌, ap, subst}
 use Rattle.std.specs.Prelude.{if◌then◌else◌, nat_lt, ◌==◌, ◌&&◌, ◌||◌}
 use Rattle.vax_code.specs.declared.table.Slot.{Slot}
 use Rattle.vax_code.specs.declared.table.Row.{Row}
 use Rattle.vax_code.specs.declared.instr.Instr.{Instr}
-use Rattle.vax_code.specs.declared.instr.Operand.{Operand}
 use Rattle.vax_code.specs.declared.instr.Operand.TheVariants as operands
 use Rattle.vax_code.specs.declared.instr.Decoded.TheVariants as decodings
 use Rattle.vax_code.specs.Table.{row_for, slot_in}
@@ -126,8 +125,8 @@ same_operands : (op : ℕ) (row : Row) (from : ℕ) (bytes : List ℕ) → Same 
 unfolding operands_shown operands_at
 same_operands op row from bytes =
     same_bind (row_place_shown row 0 from bytes) (place_at row 0 bytes) _ _ (same_row_place row 0 from bytes) (λ x y rest.
-      same_bind (row_place_shown row 1 (from + (length bytes - length rest)) rest) (place_at row 1 rest) _ _ (same_row_place row 1 (from + (length bytes - length rest)) rest) (λ v w more.
-        same_bind (row_place_shown row 2 (from + (length bytes - length more)) more) (place_at row 2 more) _ _ (same_row_place row 2 (from + (length bytes - length more)) more) (λ t u last. refl)))
+    same_bind (row_place_shown row 1 (from + (length bytes - length rest)) rest) (place_at row 1 rest) _ _ (same_row_place row 1 (from + (length bytes - length rest)) rest) (λ v w more.
+    same_bind (row_place_shown row 2 (from + (length bytes - length more)) more) (place_at row 2 more) _ _ (same_row_place row 2 (from + (length bytes - length more)) more) (λ t u last. refl)))
 
 same_row : {A B : Type 0} (o : Option Row) (f : Row → Option (A × List ℕ)) (g : Row → Read B) → ((row : Row) → Same (f row) (g row)) → Same (o >>= f) (Reading.◌>>=◌ (row_or_bad o) g)
 same_row None f g h = tt

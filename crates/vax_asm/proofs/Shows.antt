@@ -1,9 +1,7 @@
 -- Showing, and encoding what is shown.
-use Rattle.std.proofs.Common.{◌≡◌, ℕ, ◌+◌, ◌-◌, ◌≤◌, Bool, true, false, List, [], ◌∷◌, ◌++◌, length, take, drop, Option, Some, None, refl, sym, ◌∙◌, ap, subst, arith, length-append}
-use Rattle.std.specs.Prelude.{nat_le}
+use Rattle.std.proofs.Common.{◌≡◌, ℕ, ◌+◌, ◌-◌, ◌≤◌, true, List, [], ◌∷◌, ◌++◌, length, take, drop, Some, refl, sym, ◌∙◌, ap, subst, arith, length-append}
 use Rattle.std.proofs.lemmas.Bool.Decides.{nat_tests}
-use Rattle.vax_code.specs.declared.instr.Instr.{Instr}
-use Rattle.vax_code.specs.Grammar.{AreOctets, BeginsWith, IsInstruction}
+use Rattle.vax_code.specs.Grammar.{AreOctets, BeginsWith}
 use Rattle.vax_code.proofs.Law.{is_decoded}
 use Rattle.vax_code.proofs.Lengths.{whole_length}
 use Rattle.vax_asm.specs.Sentences.{sentence_of, is_short}

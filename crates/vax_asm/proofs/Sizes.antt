@@ -1,6 +1,6 @@
 -- The bytes of a line are as many as its form says.
-use Rattle.std.proofs.Common.{◌≡◌, ◌≢◌, ◌⊎◌, inl, inr, ℕ, zero, suc, ◌+◌, ◌-◌, ◌<◌, ◌≤◌, Bool, true, false, not, List, [], ◌∷◌, ◌++◌, length, Option, Some, None, refl, sym, ◌∙◌, ap, subst, arith, length-append, replicate}
-use Rattle.std.specs.Prelude.{if◌then◌else◌, nat_lt, nat_le, ◌==◌, ◌&&◌, ◌||◌, is_some}
+use Rattle.std.proofs.Common.{◌≡◌, ◌⊎◌, inl, inr, ℕ, suc, ◌+◌, ◌≤◌, Bool, true, false, not, List, [], ◌∷◌, ◌++◌, length, Option, Some, None, refl, sym, ◌∙◌, ap, subst, arith, length-append, replicate}
+use Rattle.std.specs.Prelude.{if◌then◌else◌, nat_lt, nat_le, ◌==◌, ◌&&◌, is_some}
 use Rattle.std.specs.Int.{to_le_bytes}
 use Rattle.vax_code.specs.declared.table.Slot.{Slot}
 use Rattle.vax_code.specs.declared.table.Row.{Row}
@@ -154,6 +154,7 @@ sentence_long labels at s bytes e =
   where
     suc_is : (n : ℕ) → suc n ≡ 1 + n
     suc_is n = omega arith
+
     sums : (t a b c bc abc x y z : ℕ) → t ≡ 1 + abc → a ≡ x → b ≡ y → c ≡ z → abc ≡ a + bc → bc ≡ b + c → t ≡ 1 + x + y + z
     sums t a b c bc abc x y z e f g h i j = omega arith
 

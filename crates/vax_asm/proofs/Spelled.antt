@@ -1,7 +1,7 @@
 -- What is encoded is what is decoded.
-use Rattle.std.proofs.Common.{◌≡◌, ◌≢◌, ◌⊎◌, inl, inr, ℕ, ◌+◌, ◌-◌, ◌*◌, ◌%◌, ◌^◌, ◌<◌, ◌≤◌, suc, Bool, true, false, not, List, [], ◌∷◌, ◌++◌, length, Option, Some, None, refl, sym, ◌∙◌, ap, subst, arith, IsTrue, ℤ, pos, neg_ℤ}
+use Rattle.std.proofs.Common.{◌≡◌, ◌≢◌, ◌⊎◌, inl, inr, ℕ, ◌+◌, ◌-◌, ◌%◌, ◌<◌, ◌≤◌, Bool, true, false, not, List, [], ◌∷◌, ◌++◌, length, Option, Some, None, refl, sym, ◌∙◌, ap, subst, arith, IsTrue, ℤ, pos, neg_ℤ}
 use Rattle.std.specs.Prelude.{if◌then◌else◌, nat_lt, nat_le, ◌==◌, ◌&&◌, ◌||◌}
-use Rattle.std.specs.Int.{to_le_bytes, from_le_bytes, cast_signed, w8, w16, w32}
+use Rattle.std.specs.Int.{to_le_bytes, cast_signed, w8, w16, w32}
 use Rattle.std.proofs.lemmas.Nat.{from_le_bytes-to_le_bytes_2, from_le_bytes-to_le_bytes_4}
 use Rattle.std.proofs.lemmas.Bool.Decides.{nat_tests}
 use Rattle.vax_code.specs.declared.table.Slot.{Slot}
@@ -13,12 +13,11 @@ use Rattle.vax_code.specs.declared.instr.Base.TheVariants as bases
 use Rattle.vax_code.specs.declared.instr.Operand.{Operand}
 use Rattle.vax_code.specs.declared.instr.Operand.TheVariants as operands
 use Rattle.vax_code.specs.declared.instr.Instr.{Instr}
-use Rattle.vax_code.specs.declared.instr.Decoded.TheVariants as decodings
 use Rattle.vax_code.specs.Table.{slot_of, slot_in, row_for}
 use Rattle.vax_code.specs.Operands.{width_of, is_read, is_address, is_branch, operand_of, assembled}
-use Rattle.vax_code.specs.Grammar.{AreOctets, SpellsNumber, SpellsSigned, SpellsPlain, SpellsOnPc, SpellsDisplaced, SpellsBase, LeavesIndex, SpellsIndexed, SpellsSpecifier, SpellsBranch, SpellsOperand, SpellsPlace, IsInstruction, BeginsWith, specifier, spelled}
+use Rattle.vax_code.specs.Grammar.{SpellsNumber, SpellsSigned, SpellsPlain, SpellsOnPc, SpellsDisplaced, SpellsBase, LeavesIndex, SpellsIndexed, SpellsSpecifier, SpellsBranch, SpellsOperand, SpellsPlace, IsInstruction, specifier, spelled}
 use Rattle.vax_asm.specs.Text.{◌>>=◌}
-use Rattle.vax_asm.specs.Encoding.{whole_of, half_of, value_bits, displacement_bits, as_signed, number_of_value, bits_of_value, plain_specifier, with_number, displacement_mode, displaced_bytes, place_bytes, leaves_index, indexed_bytes, literal_bytes, immediate_bytes, distance, branch_bits, target_bytes, branch_bytes, specifier_bytes, absent_bytes, operand_bytes, sentence_bytes, or_zero, named_base, named_operand, sentence_instruction, named_instruction, named_bytes}
+use Rattle.vax_asm.specs.Encoding.{whole_of, half_of, value_bits, displacement_bits, as_signed, number_of_value, bits_of_value, plain_specifier, with_number, displacement_mode, displaced_bytes, place_bytes, leaves_index, indexed_bytes, literal_bytes, immediate_bytes, distance, branch_bits, target_bytes, branch_bytes, specifier_bytes, absent_bytes, operand_bytes, sentence_bytes, or_zero, named_base, named_operand, sentence_instruction}
 use Rattle.vax_asm.specs.declared.syntax.Number.{Number}
 use Rattle.vax_asm.specs.declared.syntax.Value.{Value}
 use Rattle.vax_asm.specs.declared.syntax.Place.{Place}
@@ -391,13 +390,12 @@ sentence_encodes labels at s bytes listed e =
     let split : s.row.op ∷ (a.0 ++ (b.0 ++ c.0)) ≡ bytes = some_same _ _ c.2 in
     let one : Operand = named_operand labels (at + 1) (slot_in s.row 0) s.a in
     let two : Operand = named_operand labels (at + 1 + length a.0) (slot_in s.row 1) s.b in
-    let three : Operand = named_operand labels (at + 1 + length a.0 + length b.0) (slot_in s.row 2) s.c in
-    (
+    let three : Operand = named_operand labels (at + 1 + length a.0 + length b.0) (slot_in s.row 2) s.c in (
       assembled s.row.op s.row (spelled one a.0) (spelled two b.0) (spelled three c.0),
       three_binds (operand_bytes labels (at + 1) s.row 0 s.a) (λ a. operand_bytes labels (at + 1 + length a) s.row 1 s.b) (λ a b. operand_bytes labels (at + 1 + length a + length b) s.row 2 s.c) (λ a b c. assembled s.row.op s.row
-        (spelled (named_operand labels (at + 1) (slot_in s.row 0) s.a) a)
-        (spelled (named_operand labels (at + 1 + length a) (slot_in s.row 1) s.b) b)
-        (spelled (named_operand labels (at + 1 + length a + length b) (slot_in s.row 2) s.c) c)) a.0 b.0 c.0 a.1 b.1 c.1,
+          (spelled (named_operand labels (at + 1) (slot_in s.row 0) s.a) a)
+          (spelled (named_operand labels (at + 1 + length a) (slot_in s.row 1) s.b) b)
+          (spelled (named_operand labels (at + 1 + length a + length b) (slot_in s.row 2) s.c) c)) a.0 b.0 c.0 a.1 b.1 c.1,
       record {
         op = s.row.op;
         row = s.row;
@@ -424,5 +422,5 @@ pub sentence_none : (labels : List Definition) (at : ℕ) (sentence : Sentence) 
 unfolding sentence_bytes sentence_instruction
 sentence_none labels at s e =
     none_through (operand_bytes labels (at + 1) s.row 0 s.a) _ _ (λ a f.
-      none_through (operand_bytes labels (at + 1 + length a) s.row 1 s.b) _ _ (λ b g.
-        none_through (operand_bytes labels (at + 1 + length a + length b) s.row 2 s.c) _ _ (λ c h. absurd (cc)) g) f) e
+    none_through (operand_bytes labels (at + 1 + length a) s.row 1 s.b) _ _ (λ b g.
+    none_through (operand_bytes labels (at + 1 + length a + length b) s.row 2 s.c) _ _ (λ c h. absurd (cc)) g) f) e

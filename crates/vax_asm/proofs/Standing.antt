@@ -1,30 +1,27 @@
 -- The bytes of each line stand at its address.
-use Rattle.std.proofs.Common.{◌≡◌, ◌≢◌, ℕ, zero, suc, ◌+◌, ◌-◌, ◌<◌, ◌≤◌, Bool, true, false, List, [], ◌∷◌, ◌++◌, length, take, drop, map, Option, Some, None, refl, sym, ◌∙◌, ap, subst, arith, length-append, append_assoc}
+use Rattle.std.proofs.Common.{◌≡◌, ℕ, ◌+◌, Bool, true, false, List, [], ◌∷◌, ◌++◌, length, take, drop, map, Option, Some, None, refl, sym, ◌∙◌, ap, length-append, append_assoc}
 use Rattle.std.specs.Prelude.{if◌then◌else◌, is_some, ◌==◌, codes}
 use Rattle.std.proofs.lemmas.List.{append-nil}
-use Rattle.vax_code.specs.declared.table.Row.{Row}
 use Rattle.vax_code.specs.declared.instr.Instr.{Instr}
 use Rattle.vax_code.specs.declared.instr.Decoded.TheVariants as decodings
 use Rattle.vax_code.specs.Table.{row_for}
 use Rattle.vax_code.specs.Reading.{decoded}
-use Rattle.vax_code.specs.Grammar.{IsInstruction, BeginsWith}
+use Rattle.vax_code.specs.Grammar.{BeginsWith}
 use Rattle.vax_code.proofs.Law.{is_decoded}
 use Rattle.vax_asm.specs.Text.{◌>>=◌, front_of, behind, after}
 use Rattle.vax_asm.specs.Values.{is_word_byte}
 use Rattle.vax_asm.specs.Mnemonics.{same_text}
 use Rattle.vax_asm.specs.Sentences.{sentence_of, is_short}
 use Rattle.vax_asm.specs.Encoding.{sentence_bytes, sentence_instruction}
-use Rattle.vax_asm.specs.Lines.{whole_value, whole_number, directive_by, directive_of, instruction_of, statement_of, label_before, unlabelled, labelled, behind_label, by_label, empty_line, line_by, line_of, put_before, lines_in, item_of, items_in}
-use Rattle.vax_asm.specs.Program.{item_size, address_after, definitions, labels_of, bss_found, statement_bytes, line_bytes, laid, StandsAt}
+use Rattle.vax_asm.specs.Lines.{whole_value, whole_number, directive_by, directive_of, instruction_of, statement_of, label_before, unlabelled, labelled, behind_label, by_label, empty_line, line_by, line_of, lines_in, item_of, items_in}
+use Rattle.vax_asm.specs.Program.{item_size, address_after, definitions, bss_found, statement_bytes, line_bytes, laid, StandsAt}
 use Rattle.vax_asm.specs.declared.syntax.Label.{Label}
-use Rattle.vax_asm.specs.declared.syntax.Number.{Number}
-use Rattle.vax_asm.specs.declared.syntax.Value.{Value}
 use Rattle.vax_asm.specs.declared.syntax.Sentence.{Sentence}
 use Rattle.vax_asm.specs.declared.syntax.Statement.{Statement}
 use Rattle.vax_asm.specs.declared.syntax.Statement.TheVariants as statements
 use Rattle.vax_asm.specs.declared.syntax.SourceLine.{SourceLine}
 use Rattle.vax_asm.specs.declared.syntax.Definition.{Definition}
-use Rattle.vax_asm.proofs.Spelled.{bind_some, some_same, some_if, some_unless, sentence_encodes}
+use Rattle.vax_asm.proofs.Spelled.{bind_some, some_same, sentence_encodes}
 use Rattle.vax_asm.proofs.Naming.{sentence_listed}
 use Rattle.vax_asm.proofs.Sizes.{behind_parts, line_long}
 

@@ -1,5 +1,5 @@
 -- The bytes that operands and instructions have, and the instruction that a text names.
-use Rattle.std.specs.Prelude.{◌≡◌, ◌≤◌, take, ℕ, ◌+◌, ◌-◌, ◌*◌, ◌%◌, ◌==◌, ◌&&◌, ◌||◌, Bool, true, false, not, if◌then◌else◌, nat_lt, nat_le, nat_eq, find, List, [], ◌∷◌, ◌++◌, length, Option, Some, None, ℤ, pos, neg_ℤ}
+use Rattle.std.specs.Prelude.{◌≡◌, ◌≤◌, take, ℕ, ◌+◌, ◌-◌, ◌%◌, ◌==◌, ◌&&◌, ◌||◌, Bool, true, false, not, if◌then◌else◌, nat_lt, nat_le, find, List, [], ◌∷◌, ◌++◌, length, Option, Some, None, ℤ, pos, neg_ℤ}
 use Rattle.std.specs.Int.{to_le_bytes, cast_signed, w32}
 use Rattle.vax_code.specs.declared.table.Slot.{Slot}
 use Rattle.vax_code.specs.declared.table.Row.{Row}
@@ -193,9 +193,9 @@ sentence_instruction labels at sentence = do
   b ← operand_bytes labels (at + 1 + length a) sentence.row 1 sentence.b
   c ← operand_bytes labels (at + 1 + length a + length b) sentence.row 2 sentence.c
   Some (assembled sentence.row.op sentence.row
-    (spelled (named_operand labels (at + 1) (slot_in sentence.row 0) sentence.a) a)
-    (spelled (named_operand labels (at + 1 + length a) (slot_in sentence.row 1) sentence.b) b)
-    (spelled (named_operand labels (at + 1 + length a + length b) (slot_in sentence.row 2) sentence.c) c))
+      (spelled (named_operand labels (at + 1) (slot_in sentence.row 0) sentence.a) a)
+      (spelled (named_operand labels (at + 1 + length a) (slot_in sentence.row 1) sentence.b) b)
+      (spelled (named_operand labels (at + 1 + length a + length b) (slot_in sentence.row 2) sentence.c) c))
 
 -- The instruction that a text of at most 120 bytes names at an address, by the labels that are defined; none where it
 -- is no instruction of the grammar in its ranges.

@@ -1,5 +1,5 @@
 -- The lines of a source.
-use Rattle.std.specs.Prelude.{◌≡◌, ℕ, ◌==◌, Bool, true, false, if◌then◌else◌, List, [], ◌∷◌, codes, map, Option, Some, None}
+use Rattle.std.specs.Prelude.{ℕ, ◌==◌, if◌then◌else◌, List, [], ◌∷◌, codes, map, Option, Some, None}
 use Rattle.vax_asm.specs.Text.{◌>>=◌, Text, after, front_of, behind}
 use Rattle.vax_asm.specs.Numbers.{number_at}
 use Rattle.vax_asm.specs.Values.{is_word_byte, label_at, value_at}

@@ -1,5 +1,5 @@
 -- The mnemonics of the instruction table, in lower case.
-use Rattle.std.specs.Prelude.{ℕ, ◌==◌, Bool, nat_eq, find, List, Option, codes}
+use Rattle.std.specs.Prelude.{ℕ, Bool, nat_eq, find, List, Option, codes}
 use Rattle.std.specs.Cmp.Lexicographic.{pointwise}
 use Rattle.vax_code.specs.declared.table.Name.{Name}
 use Rattle.vax_code.specs.declared.table.Name.TheVariants as names

@@ -1,5 +1,5 @@
 -- Labels, and values, which are numbers or labels.
-use Rattle.std.specs.Prelude.{ℕ, ◌+◌, ◌==◌, ◌&&◌, ◌||◌, Bool, if◌then◌else◌, nat_le, List, [], ◌∷◌, ◌++◌, length, drop, replicate, Option, Some, None}
+use Rattle.std.specs.Prelude.{ℕ, ◌==◌, ◌&&◌, ◌||◌, Bool, if◌then◌else◌, nat_le, List, [], ◌∷◌, ◌++◌, length, drop, replicate, Some, None}
 use Rattle.std.specs.Int.{is_in_range}
 use Rattle.vax_asm.specs.Text.{◌>>=◌, Text, front_of, behind}
 use Rattle.vax_asm.specs.Numbers.{number_at}

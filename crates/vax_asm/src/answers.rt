@@ -3,7 +3,7 @@
 /// What a line is encoded as.
 #[derive(Clone, Copy, Debug, PartialEq, Eq)]
 pub enum Encoded {
-    /// The first `length` bytes are the instruction; zeros stand behind it.
+    /// The first `length` bytes are the instruction.
     Is { bytes: [u8; 24], length: u8 },
     /// The line is no instruction of the grammar in its ranges.
     Bad,

@@ -149,7 +149,10 @@ fn immediate_of(slot: Slot, bytes: &[u8]) -> Option<(Written, &[u8])>
     ensures took { IfSome result (λ x. Took bytes.now x.1.now 4) }
 {
     let (number, rest) = number_of(slot.size, bytes)?;
-    Some((Written::Immediate(Value::Number(plain_number(number))), rest))
+    Some((
+        Written::Immediate(Value::Number(plain_number(number))),
+        rest,
+    ))
 }
 
 #[tactic(auto, unfolding(crate::specs::Showing::specifier_shown))]

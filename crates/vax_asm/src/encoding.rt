@@ -61,7 +61,10 @@ fn displacement_bits(size: u8, number: Number) -> Option<u32>
 pub fn find_definition(labels: &[Definition], label: Label) -> Option<Definition>
     ensures { result ≡ found labels.now label }
 {
-    labels.iter().copied().find(|definition| definition.label.bytes == label.bytes)
+    labels
+        .iter()
+        .copied()
+        .find(|definition| definition.label.bytes == label.bytes)
 }
 
 #[tactic(auto, unfolding(crate::specs::Encoding::number_of_value))]
@@ -261,7 +264,9 @@ fn specifier_bytes(labels: &[Definition], slot: Slot, written: Written) -> Optio
     match written {
         Written::Literal(number) if slot.access == Access::Read => literal_bytes(number),
         Written::Register(reg) if slot.access != Access::Address => plain_specifier(5, reg),
-        Written::Immediate(value) if slot.access == Access::Read => immediate_bytes(labels, slot, value),
+        Written::Immediate(value) if slot.access == Access::Read => immediate_bytes(
+            labels, slot, value,
+        ),
         Written::Plain(place) => place_bytes(labels, place),
         Written::Indexed { index, base } => indexed_bytes(labels, index, base),
         _ => None,

@@ -80,7 +80,13 @@ fn signed_of(minus: bool, text: &[u8]) -> Option<(Number, &[u8])>
 {
     let (magnitude, rest) = magnitude_of(text)?;
     let negative = minus && magnitude != 0;
-    Some((Number { negative, magnitude }, rest))
+    Some((
+        Number {
+            negative,
+            magnitude,
+        },
+        rest,
+    ))
 }
 
 // A number, and the text after it.

@@ -12,7 +12,10 @@ fn second_digit_of(text: &[u8]) -> Option<(u8, &[u8])>
     ensures { Gives (λ x. (x.0, x.1.now)) result (second_digit text.now) }
 {
     match text {
-        [digit, rest @ ..] if b'0' <= *digit && *digit <= b'5' => Some((10 + (*digit - b'0'), rest)),
+        [digit, rest @ ..] if b'0' <= *digit && *digit <= b'5' => Some((
+            10 + (*digit - b'0'),
+            rest,
+        )),
         _ => Some((1, text)),
     }
 }

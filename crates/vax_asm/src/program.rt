@@ -6,7 +6,9 @@ use crate::answers::{Assembled, NoMemory, Program};
 use crate::code::Code;
 use crate::encoding::{bits_of_value, find_definition, sentence_bytes};
 use crate::lines::next_item;
-use crate::syntax::{Definition, Label, Number, Place, Sentence, SourceLine, Statement, Value, Written};
+use crate::syntax::{
+    Definition, Label, Number, Place, Sentence, SourceLine, Statement, Value, Written,
+};
 use std::alloc::Global;
 use vax_code::Row;
 
@@ -95,25 +97,26 @@ fn item_size(item: &Option<SourceLine>) -> u32
     ensures few { result ≤ 65536 }
 {
     match item {
-        Some(SourceLine {
-            statement: Some(statement),
-            ..
-        }) => statement_size(statement),
+        Some(
+            SourceLine {
+                statement: Some(statement),
+                ..
+            },
+        ) => statement_size(statement),
         _ => 0,
     }
 }
 
 // Defines the label of a line.
-fn define(
-    labels: &mut Vec<Definition>,
-    at: u32,
-    item: &Option<SourceLine>,
-) -> Result<(), NoMemory>
+fn define(labels: &mut Vec<Definition>, at: u32, item: &Option<SourceLine>) -> Result<(), NoMemory>
     ensures { IfOk result (λ _. labels.new.items ≡ labels.old.items ++ item_definition at item.now) }
 {
-    if let Some(SourceLine {
-        label: Some(label), ..
-    }) = item
+    if let Some(
+        SourceLine {
+            label: Some(label),
+            ..
+        },
+    ) = item
     {
         let definition = Definition {
             label: *label,
@@ -281,11 +284,7 @@ fn bss_after(bss: Option<u32>, statement: &Option<Statement>) -> Option<u32>
 }
 
 // The program of a source, by its labels.
-fn assemble_with(
-    alloc: Global,
-    labels: &[Definition],
-    source: &[u8],
-) -> Result<Assembled, NoMemory>
+fn assemble_with(alloc: Global, labels: &[Definition], source: &[u8]) -> Result<Assembled, NoMemory>
     requires { labels.now ≡ labels_of source.now }
     ensures { IfOk result (AssemblesAs source.now) }
 {

@@ -1,4 +1,3 @@
-use Rattle.std.proofs.Common.{arith}
 use Rattle.vax_asm.proofs.Items.{open_item, ended_item}
 use Rattle.vax_asm.proofs.lines.next_item.Goals as goal
 
