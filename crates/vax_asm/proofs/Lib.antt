@@ -1,0 +1,15 @@
+pub mod Fronts
+pub mod Digits
+pub mod Spelled
+pub mod Rows
+pub mod Naming
+pub mod Hexadecimal
+pub mod Same
+pub mod Respelled
+pub mod Reread
+pub mod Resaid
+pub mod Shows
+pub mod Items
+pub mod Sizes
+pub mod Assembling
+pub mod Standing

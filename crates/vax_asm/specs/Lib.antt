@@ -1,0 +1,10 @@
+pub mod Text
+pub mod Numbers
+pub mod Values
+pub mod Operands
+pub mod Mnemonics
+pub mod Sentences
+pub mod Encoding
+pub mod Showing
+pub mod Lines
+pub mod Program

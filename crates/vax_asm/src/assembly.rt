@@ -1,0 +1,40 @@
+ghost use Rattle.std.specs.Prelude.{◌≡◌, []};
+ghost use Rattle.vax_asm.specs.Encoding.{EncodesAs};
+ghost use Rattle.vax_asm.specs.Showing.{ShowsAs};
+
+use crate::answers::{Encoded, Shown};
+use crate::bytes::sentence_at;
+use crate::encoding::sentence_bytes;
+use crate::sentences::{is_short, sentence_of};
+use crate::showing::text_of;
+
+/// The bytes of one instruction, a line without labels and without its LF, at an address.
+pub fn encode(line: &[u8], at: u32) -> Encoded
+    ensures { EncodesAs line.now at result }
+{
+    if !is_short(line) {
+        return Encoded::Bad;
+    }
+    let Some(sentence) = sentence_of(line) else {
+        return Encoded::Bad;
+    };
+    match sentence_bytes(&[], at, &sentence) {
+        Some(code) => {
+            let (bytes, length) = code.into_parts();
+            Encoded::Is { bytes, length }
+        }
+        None => Encoded::Bad,
+    }
+}
+
+/// The text of the instruction that the bytes at an address begin with.
+pub fn show(bytes: &[u8], at: u32) -> Shown
+    ensures { ShowsAs bytes.now at result }
+{
+    let Some((sentence, rest)) = sentence_at(at, bytes) else {
+        return Shown::NoInstruction;
+    };
+    let size = (bytes.len() - rest.len()) as u8;
+    let (text, length) = text_of(&sentence).into_parts();
+    Shown::Is { text, length, size }
+}

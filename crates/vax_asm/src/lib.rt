@@ -1,0 +1,33 @@
+//! The assembler and disassembler of the VAX subset: `assemble` makes the bytes of a source, `encode` those of one
+//! instruction, and `show` gives the text of the instruction that some bytes begin with.
+//!
+//! The source is this project's profile. A line is empty, begins with `#`, or is an optional `LABEL:` and an optional
+//! statement, with one space between them. Statements are `.byte X`, `.word X`, `.long X`, `.space N`, `.bss N` and the
+//! instructions of the table of `vax_code`.
+#![tactic(auto)]
+
+mod answers;
+mod assembly;
+mod bytes;
+mod code;
+mod encoding;
+mod line;
+mod lines;
+mod mnemonics;
+mod numbers;
+mod operands;
+mod program;
+mod sentences;
+mod showing;
+mod syntax;
+mod text;
+mod values;
+
+pub use answers::{Assembled, Encoded, NoMemory, Program, Shown};
+pub use assembly::{encode, show};
+pub use program::assemble;
+
+#[cfg(test)]
+mod examples;
+#[cfg(test)]
+mod tests;

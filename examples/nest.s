@@ -1,0 +1,21 @@
+# nest: Lends its space by vfork, and the child lends it on: the inner child changes a letter, which the parent writes.
+.bss 1024
+.word 0
+chmk i^$66
+blbs r1,child
+moval *$written,r12
+chmk $4
+brb exit
+child: chmk i^$66
+blbs r1,inner
+brb exit
+inner: movb i^$0x63,*$0x400
+exit: moval *$code,r12
+chmk $1
+.space 34
+written: .long 3
+.long 1
+.long 0x400
+.long 1
+code: .long 1
+.long 0
