@@ -14,3 +14,4 @@ pub mod Ending
 pub mod Opening
 pub mod Transcript
 pub mod Halted
+pub mod Command

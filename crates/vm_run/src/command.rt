@@ -3,7 +3,8 @@ ghost use Rattle.io_edge.specs.FileHolding.{NamedFile};
 ghost use Rattle.aout_image.specs.Image.{IsSound, file_length_of};
 ghost use Rattle.vm_run.specs.InterimInputs.{Inputs};
 ghost use Rattle.run_text.specs.Text.{text_of};
-ghost use Rattle.vm_run.specs.Words.{command_of};
+ghost use Rattle.vm_run.specs.Words.{command_of, tool_of};
+ghost use Rattle.vm_run.specs.Command.{Obeys};
 ghost use Rattle.vm_run.specs.Halted.{halted};
 ghost use Rattle.vm_run.specs.Resident.{HasBytes};
 ghost use Rattle.vm_run.specs.Opening.{word_of};
@@ -13,9 +14,10 @@ use crate::ending::{Ending, NO_MEMORY};
 use crate::journal::Journal;
 use crate::opening::{Opened, judge_devices, open_image, open_schedule};
 use crate::running::{Halt, Running};
-use crate::words::{Command, Numbers, read_words};
+use crate::words::{Command, Numbers, Tool, read_tool, read_words};
 use io_edge::{Files, Moved, Sink, SwapDev};
 use run_text::write_text;
+use source_commands::{assemble_file, list_file};
 use std::alloc::Global;
 
 /// A run before its text is written: how it ended, and its journal.
@@ -184,11 +186,35 @@ fn write_run<S: Sink>(alloc: Global, sink: &mut S, ran: Ran, schedule: &str, ima
     }
 }
 
-/// Runs the words of a command line, without the program's name, over files, two swap devices and an
-/// output, and answers the exit status: 0 where the run is finished; 1 bad words; 2 an absent file; 3
-/// no image; 4 a bad schedule; 5 a file fault; 8 a fault of the output; 9 want of memory; 12 a swap
-/// device that is too short; 13 words whose command isn't built yet, or out of frames, until the pager
-/// frees them. The first thing met decides, but an output that fails gives 8 whatever came before (this project's profile).
+// Runs words that aren't those of another command, and answers the status.
+fn run_command<F: Files, S: Sink>(
+    alloc: Global,
+    words: &[&str],
+    files: &mut F,
+    zero_blocks: u32,
+    one_blocks: u32,
+    sink: &mut S,
+) -> u8
+    ensures { Transcribes (map (λ word. word.now) words.now) (F.holds files.old) zero_blocks one_blocks
+        (record { open_before = F.open_faults files.old; open_after = F.open_faults files.new; page_before = F.page_faults files.old; page_after = F.page_faults files.new })
+        (S.written sink.old) (S.written sink.new) (S.faults sink.old) (S.faults sink.new) result }
+{
+    let ran = run_words(alloc, words, files, zero_blocks, one_blocks);
+    write_run(
+        alloc,
+        sink,
+        ran,
+        word_or_none(words, 4),
+        word_or_none(words, 5),
+    )
+}
+
+/// Does what the words of a command line ask for, without the program's name, over files, two swap devices and an
+/// output, and answers the exit status: 0 where the run is finished, or what another command makes was written; 1
+/// bad words; 2 an absent file; 3 no image; 4 a bad schedule; 5 a file fault; 8 a fault of the output; 9 want of
+/// memory; 12 a swap device that is too short; 13 words whose command isn't built yet, or out of frames, until the
+/// pager frees them; 17 a bad source. The first thing met decides, but an output that fails gives 8 whatever came
+/// before (this project's profile).
 pub fn vmrun<F: Files, D: SwapDev, E: SwapDev, S: Sink>(
     alloc: Global,
     words: &[&str],
@@ -197,16 +223,13 @@ pub fn vmrun<F: Files, D: SwapDev, E: SwapDev, S: Sink>(
     one: &mut E,
     sink: &mut S,
 ) -> u8
-    ensures { Transcribes (map (λ word. word.now) words.now) (F.holds files.old) (D.blocks zero.old) (E.blocks one.old)
+    ensures { Obeys (tool_of (map (λ word. word.now) words.now)) (map (λ word. word.now) words.now) (F.holds files.old) (D.blocks zero.old) (E.blocks one.old)
         (record { open_before = F.open_faults files.old; open_after = F.open_faults files.new; page_before = F.page_faults files.old; page_after = F.page_faults files.new })
         (S.written sink.old) (S.written sink.new) (S.faults sink.old) (S.faults sink.new) result }
 {
-    let ran = run_words(alloc, words, files, zero.blocks(), one.blocks());
-    write_run(
-        alloc,
-        sink,
-        ran,
-        word_or_none(words, 4),
-        word_or_none(words, 5),
-    )
+    match read_tool(words) {
+        Some(Tool::Assemble) => assemble_file(alloc, files, sink, word_or_none(words, 1)),
+        Some(Tool::Show) => list_file(alloc, files, sink, word_or_none(words, 1)),
+        None => run_command(alloc, words, files, zero.blocks(), one.blocks(), sink),
+    }
 }
