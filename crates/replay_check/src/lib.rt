@@ -5,6 +5,7 @@
 #![tactic(auto)]
 
 pub mod calling;
+pub mod deed;
 pub mod machine;
 pub mod process;
 pub mod program;

@@ -1,4 +1,8 @@
-use crate::machine::{Did, Machine};
+ghost use Rattle.std.specs.Prelude.{◌≡◌, ℕ, ◌^◌, ◌<◌, ◌≤◌, length, IfOk};
+ghost use Rattle.replay_check.specs.Images.{AreImageFiles, AreNumbers};
+
+use crate::deed::Did;
+use crate::machine::Machine;
 use crate::program::{Flat, Program, load_all};
 use std::alloc::Global;
 use vm_facts::{Entry, NoMemory, Regs};
@@ -25,12 +29,14 @@ enum Last {
     Wrote(u32, Regs),
 }
 
-struct Judge<'a> {
+#[derive(Drop)]
+pub struct Judge<'a> {
     alloc: Global,
     programs: &'a [Program],
     machine: Machine,
     last: Last,
     count: u32,
+    ghost few: { length programs.now < 2 ^ 31 },
 }
 
 fn is_reply(regs: &Regs, carry: bool, r0: u32, r1: u32) -> bool {
@@ -42,7 +48,9 @@ impl<'a> Judge<'a> {
     fn step(&mut self, pid: u32, refused: bool) -> Result<Did, NoMemory> {
         match self.machine.ready_place(pid) {
             None => Ok(Did::Nothing),
-            Some(place) => self.machine.advance(self.alloc, self.programs, place, refused),
+            Some(place) => self
+                .machine
+                .advance(self.alloc, self.programs, place, refused),
         }
     }
 
@@ -174,10 +182,11 @@ impl<'a> Judge<'a> {
             Entry::Call { .. } | Entry::Ended { .. } => 1,
             _ => 0,
         };
-        if more > INSTRUCTION_LIMIT - self.count {
+        let count = u64::from(self.count) + u64::from(more);
+        if count > u64::from(INSTRUCTION_LIMIT) {
             return None;
         }
-        Some(self.count + more)
+        Some(count as u32)
     }
 
     fn accepts(&mut self, entry: &Entry) -> Result<bool, NoMemory> {
@@ -195,19 +204,28 @@ pub fn replay(
     images: &[Flat],
     first: &[u32],
     entries: &[Entry],
-) -> Result<Verdict, NoMemory> {
+) -> Result<Verdict, NoMemory>
+    requires images { AreImageFiles images.now }
+    requires first { AreNumbers (length images.now) first.now }
+    requires entries { length entries.now < 2 ^ 32 }
+{
     let programs = load_all(alloc, images)?;
-    let mut machine = Machine::new(alloc);
-    for number in first {
-        machine.start(alloc, programs.as_slice(), *number)?;
-    }
-    let mut judge = Judge {
+    let machine = Machine::started(alloc, programs.as_slice(), first)?;
+    let judge = Judge {
         alloc,
         programs: programs.as_slice(),
         machine,
         last: Last::Other,
         count: 0,
     };
+    judge_all(judge, entries)
+}
+
+// The verdict on these entries.
+fn judge_all(judge: Judge<'_>, entries: &[Entry]) -> Result<Verdict, NoMemory>
+    requires few { length entries.now < 2 ^ 32 }
+{
+    let mut judge = judge;
     for index in 0..entries.len() {
         if !judge.accepts(&entries[index])? {
             return Ok(Verdict::BadEntry(index as u32 + 1));

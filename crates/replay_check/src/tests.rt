@@ -1,16 +1,37 @@
 // The stack page of an execve.
+ghost use Rattle.std.specs.Prelude.{◌≡◌, IfOk};
 
-use flat_model::{start_page, start_regs};
+use flat_model::{Arguments, start_page, start_regs};
+use std::alloc::{AllocError, Global};
+use std::test::Fail;
 use vm_facts::Bytes;
 
+// A string of two bytes.
+fn string(alloc: Global, text: [u8; 2]) -> Result<Bytes, AllocError>
+    ensures { IfOk result (λ b. b ≡ text) }
+{
+    Ok(Bytes::from_vec(text.to_vec(alloc)?))
+}
+
 #[test]
-fn arguments_stand_at_the_stack_pages_end<R: AllocGlobal>(rt: &R) {
+fn arguments_stand_at_the_end_of_the_stack_page(rt: HostRuntime) -> Result<(), Fail> {
     let alloc = rt.alloc();
-    let first = Vec::from_slice(alloc, b"hi").expect(rt, "memory");
-    let second = Vec::from_slice(alloc, b"ab").expect(rt, "memory");
-    let arguments = [Bytes::from_vec(first), Bytes::from_vec(second)];
-    assert_eq!(rt; start_regs(0, &arguments).r[14], 0x7fff_ebe0);
-    let page = start_page(alloc, &arguments).expect(rt, "memory");
-    assert_eq!(rt; page.as_slice().len(), 1024);
-    assert_eq!(rt; page.as_slice()[0x3e0], 2);
+    let mut arguments = Arguments::new(alloc);
+    let first = string(alloc, *b"hi")?;
+    let second = string(alloc, *b"ab")?;
+    if arguments.push(first).is_err() || arguments.push(second).is_err() {
+        return Err(Fail::from("no memory"));
+    }
+    let regs = start_regs(0, &arguments);
+    assert_eq!(rt; regs.r[14], 0x7fff_ebe0);
+    assert_eq!(rt; regs.r[15], 2);
+    let Ok(page) = start_page(alloc, &arguments) else {
+        return Err(Fail::from("no memory"));
+    };
+    let end = [
+        2u8, 0, 0, 0, 0xf4, 0xeb, 0xff, 0x7f, 0xf7, 0xeb, 0xff, 0x7f, 0, 0, 0, 0, 0, 0, 0, 0, 0x68,
+        0x69, 0, 0x61, 0x62, 0, 0, 0, 0, 0, 0, 0,
+    ];
+    assert_eq!(rt; page.as_slice().ends_with(&end), true);
+    Ok(())
 }
