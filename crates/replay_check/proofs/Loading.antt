@@ -93,5 +93,5 @@ some_below images (suc i) low high = below images i (omega arith)
 pub first_numbered : (files : List FlatFile) (first : List ℕ) → AreImageFiles files → AreNumbers (length files) first → All (λ (n : ℕ). IsSome (image_numbered (images_of files) n)) first
 first_numbered files first a b = λ i d below.
     let count = images_count files a.images in
-    let numbers = b.numbers i d below in
+    let numbers = b i d below in
     some_below (images_of files) (get_or first i d) numbers.0 (omega (arith, numbers.1, count))

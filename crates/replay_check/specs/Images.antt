@@ -75,16 +75,11 @@ abbrev pub CanAnswer : List NamedImage → Result Reply Refused → Type 0
 CanAnswer images (Ok reply) = CanReply images reply
 CanAnswer images (Err refused) = Unit {0}
 
--- the files of a run: 1 to 16 images, whose names differ and have 1 to 63 bytes
+-- the files of a run are images, fewer than 2^31
 pub record AreImageFiles (files : List FlatFile) : Type 0 where
-  pub some : 1 ≤ length files
-  pub few : length files ≤ 16
+  pub few : length files < 2 ^ 31
   pub images : All IsImageFile files
-  pub named : All (λ f. 1 ≤ length f.name) files
-  pub distinct : AllPairs (λ f g. f.name ≡ g.name → ⊥) files
 
--- the first processes: 1 to 16 numbers of so many images
-pub record AreNumbers (images : ℕ) (first : List ℕ) : Type 0 where
-  pub some : 1 ≤ length first
-  pub few : length first ≤ 16
-  pub numbers : All (λ n. (1 ≤ n) × (n ≤ images)) first
+-- the first processes have numbers of so many images
+abbrev pub AreNumbers : ℕ → List ℕ → Type 0
+AreNumbers images first = All (λ n. (1 ≤ n) × (n ≤ images)) first

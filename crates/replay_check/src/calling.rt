@@ -5,8 +5,7 @@ ghost use Rattle.user_vax.specs.Program.{run};
 ghost use Rattle.page_model.specs.Flat.{NamedImage, image_numbered};
 ghost use Rattle.page_model.specs.Change.{is_zombie_child};
 ghost use Rattle.page_model.specs.Space.{answers_of};
-ghost use Rattle.flat_model.specs.declared.calls.TheConstants.{PROCESS_LIMIT};
-ghost use Rattle.flat_model.specs.Calls.{replied, replied_both, child_by, break_reply, arguments_at, starts, path_image, string_from, string_limit, execve_of, execve_reply, wait_by, or_fault, wants_space, refused_reply, reply_of, ChangesNothing};
+ghost use Rattle.flat_model.specs.Calls.{process_limit, replied, replied_both, child_by, break_reply, arguments_at, starts, path_image, string_from, string_limit, execve_of, execve_reply, wait_by, or_fault, wants_space, refused_reply, reply_of, ChangesNothing};
 ghost use Rattle.replay_check.specs.Images.{IsPathImage, with_number, CanChange, CanReply, CanAnswer};
 
 use crate::process::{Process, with_results};
@@ -43,7 +42,7 @@ fn replied_both(regs: Regs, r0: u32, r1: u32) -> Regs
 
 // A further process, where there are fewer than may be.
 fn child_reply(processes: usize, regs: Regs, child: u32, change: Change) -> Reply
-    ensures value { result ≡ child_by (nat_lt processes PROCESS_LIMIT) regs child change }
+    ensures value { result ≡ child_by (nat_lt processes process_limit) regs child change }
     ensures sound { (images : List NamedImage) → CanChange images change → CanReply images result }
 {
     if processes < PROCESS_LIMIT {

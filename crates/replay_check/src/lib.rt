@@ -12,7 +12,7 @@ pub mod program;
 pub mod replaying;
 pub mod space;
 
-pub use program::Flat;
+pub use program::{Flat, are_images, are_numbers};
 pub use replaying::{Verdict, replay};
 
 #[cfg(test)]

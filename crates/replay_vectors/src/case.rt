@@ -1,4 +1,4 @@
-use replay_check::{Flat, Verdict, replay};
+use replay_check::{Flat, Verdict, are_images, are_numbers, replay};
 use run_text::{Transcript, read_transcript};
 use std::rt::Files;
 use std::{fs, io};
@@ -19,6 +19,9 @@ fn judged<R: AllocGlobal>(
     first: &[u32],
     entries: &[Entry],
 ) -> io::Result<String> {
+    if !are_images(images) || !are_numbers(images.len(), first) || entries.len() > 100_000 {
+        return Ok(format!(in rt.alloc(); "not to be replayed")?);
+    }
     match replay(rt.alloc(), images, first, entries) {
         Ok(Verdict::Run) => Ok(format!(in rt.alloc(); "a run of {} entries", entries.len())?),
         Ok(Verdict::BadEntry(entry)) => Ok(format!(in rt.alloc(); "no run at entry {entry}")?),
@@ -45,7 +48,10 @@ pub fn verdict<R: Files + AllocGlobal>(rt: &R, head: &str, body: &str) -> io::Re
             Some(number) => number,
             None => {
                 let bytes = fs::read(rt, file)?;
-                images.push(Flat { name: file.to_string(alloc)?, bytes })?;
+                images.push(Flat {
+                    name: file.to_string(alloc)?,
+                    bytes,
+                })?;
                 images.len() as u32
             }
         };
@@ -54,7 +60,12 @@ pub fn verdict<R: Files + AllocGlobal>(rt: &R, head: &str, body: &str) -> io::Re
         }
     }
     let text = match read_transcript(alloc, body.as_bytes()) {
-        Ok(Transcript::Is(entries)) => judged(rt, images.as_slice(), first.as_slice(), entries.as_slice())?,
+        Ok(Transcript::Is(entries)) => judged(
+            rt,
+            images.as_slice(),
+            first.as_slice(),
+            entries.as_slice(),
+        )?,
         Ok(Transcript::BadLine(line)) => format!(in alloc; "no transcript at line {line}")?,
         Err(NoMemory) => return Err(io::Error::from(io::ErrorKind::OutOfMemory)),
     };
