@@ -51,8 +51,8 @@ area_count arguments =
     let e : length (n ++ p) ≡ 4 + length p = length-append n p in
     let f : length p ≡ 4 * length arguments = pointers_count (strings_at arguments) arguments in
     let g : length (string_area arguments) ≡ length (strings_of arguments) + (in_longwords (length (strings_of arguments)) - length (strings_of arguments)) =
-        length-append (strings_of arguments) (replicate (in_longwords (length (strings_of arguments)) - length (strings_of arguments)) 0)
-        ∙ ap (λ (k : ℕ). length (strings_of arguments) + k) (length-replicate (in_longwords (length (strings_of arguments)) - length (strings_of arguments)) 0) in
+    length-append (strings_of arguments) (replicate (in_longwords (length (strings_of arguments)) - length (strings_of arguments)) 0)
+    ∙ ap (λ (k : ℕ). length (strings_of arguments) + k) (length-replicate (in_longwords (length (strings_of arguments)) - length (strings_of arguments)) 0) in
     omega (arith, a, b, c, d, e, f, g)
 
 -- a page has room for the strings
@@ -61,7 +61,7 @@ area_short arguments h = let short = strings_short arguments h.short in omega (a
 
 pub area_parts : (page : List ℕ) (arguments : List (List ℕ)) →
     page ++ word_bytes (length arguments) ++ pointers_from (strings_at arguments) arguments ++ word_bytes 0 ++ word_bytes 0 ++ strings_of arguments
-        ++ replicate (in_longwords (length (strings_of arguments)) - length (strings_of arguments)) 0 ++ word_bytes 0
+    ++ replicate (in_longwords (length (strings_of arguments)) - length (strings_of arguments)) 0 ++ word_bytes 0
     ≡ page ++ argument_area arguments
 unfolding argument_area
 area_parts page arguments = appends page (word_bytes (length arguments)) (pointers_from (strings_at arguments) arguments) (word_bytes 0) (word_bytes 0) (strings_of arguments) (replicate (in_longwords (length (strings_of arguments)) - length (strings_of arguments)) 0) (word_bytes 0)

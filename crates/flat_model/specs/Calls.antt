@@ -1,5 +1,5 @@
 -- The system calls, as computations over what the caller's memory answers.
-use Rattle.std.specs.Prelude.{ℕ, zero, suc, ◌-◌, ◌*◌, ◌/◌, ◌%◌, ◌==◌, ◌||◌, nat_lt, nat_le, Bool, true, false, min, List, [], ◌∷◌, length, filter, find, ℤ, pos, negsuc, Option, Some, None, Result, Ok, Err, if◌then◌else◌}
+use Rattle.std.specs.Prelude.{ℕ, zero, suc, ◌-◌, ◌*◌, ◌/◌, ◌%◌, ◌==◌, ◌||◌, nat_lt, nat_le, Bool, true, false, min, List, [], ◌∷◌, length, find, bytes_eq, ℤ, pos, negsuc, Option, Some, None, Result, Ok, Err, if◌then◌else◌}
 use Rattle.vm_facts.specs.Flat.{Space, Holding, Holds, Lends, Zombie, Process, FlatState}
 use Rattle.vm_facts.specs.declared.regs.Regs.{Regs}
 use Rattle.user_vax.specs.Program.{Program, Gives, Reads, ◌>>=◌}
@@ -165,13 +165,6 @@ break_reply s regs = do
   address ← argument regs 1
   Gives (break_by (nat_le (pages_up_to s address) DATA_LIMIT) regs (pages_up_to s address) (stack_pages_of s))
 
--- the same bytes
-abbrev pub same_bytes : List ℕ → List ℕ → Bool
-same_bytes [] [] = true
-same_bytes [] (b ∷ others) = false
-same_bytes (a ∷ more) [] = false
-same_bytes (a ∷ more) (b ∷ others) = if a == b then same_bytes more others else false
-
 abbrev pub numbered_by : Bool → ℕ → NamedImage → Option (ℕ × NamedImage) → Option (ℕ × NamedImage)
 numbered_by true number image more = Some (number, image)
 numbered_by false number image more = more
@@ -180,7 +173,7 @@ numbered_by false number image more = more
 unfoldable pub image_named : ℕ → List NamedImage → List ℕ → Option (ℕ × NamedImage)
 image_named number [] name = None
 image_named number (image ∷ images) name =
-    numbered_by (same_bytes image.name name) number image (image_named (suc number) images name)
+    numbered_by (bytes_eq image.name name) number image (image_named (suc number) images name)
 
 abbrev pub path_image : List NamedImage → Option (List ℕ) → Option (ℕ × NamedImage)
 path_image images None = None
@@ -208,14 +201,14 @@ status_of (Holds s) = 0
 status_of (Lends sid child) = 0
 status_of (Zombie status) = status
 
--- wait, of these children and the lowest zombie among them
-abbrev pub wait_by : List Process → Option Process → Regs → Reply
-wait_by [] zombie regs = Fails ECHILD
-wait_by (q ∷ qs) None regs = Waits
-wait_by (q ∷ qs) (Some z) regs = Does (replied_both regs z.pid (status_of z.holding)) (Reap z.pid)
+-- wait, of the first child and the lowest zombie child
+abbrev pub wait_by : Option Process → Option Process → Regs → Reply
+wait_by None zombie regs = Fails ECHILD
+wait_by (Some child) None regs = Waits
+wait_by (Some child) (Some z) regs = Does (replied_both regs z.pid (status_of z.holding)) (Reap z.pid)
 
 abbrev pub wait_reply : FlatState → ℕ → Regs → Reply
-wait_reply F pid regs = wait_by (filter (λ q. q.parent == pid) F.processes) (find (is_zombie_child pid) F.processes) regs
+wait_reply F pid regs = wait_by (find (λ q. q.parent == pid) F.processes) (find (is_zombie_child pid) F.processes) regs
 
 -- what a call of a process, which has this space, comes to; a byte that is refused is a fault
 unfoldable pub reply_of : List NamedImage → FlatState → Process → Space → SystemCall → Regs → Program Reply
@@ -257,3 +250,12 @@ refused_reply true (Fails error) = Fails error
 refused_reply true (Writes bytes) = Writes bytes
 refused_reply true Waits = Waits
 refused_reply true (Exits status) = Exits status
+
+-- the reply changes no process and no space, but by an end
+abbrev pub ChangesNothing : Result Reply Refused → Type 0
+ChangesNothing (Ok (Fails error)) = Unit {0}
+ChangesNothing (Ok (Does regs change)) = ⊥
+ChangesNothing (Ok (Writes bytes)) = Unit {0}
+ChangesNothing (Ok Waits) = Unit {0}
+ChangesNothing (Ok (Exits status)) = Unit {0}
+ChangesNothing (Err refused) = Unit {0}

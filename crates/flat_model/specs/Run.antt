@@ -1,12 +1,11 @@
 -- A run of the flat machine: the fold of its steps over the flat entries of a journal, which is none where an
 -- entry isn't the one that the step of its process gives.
-use Rattle.std.specs.Prelude.{ℕ, ◌==◌, Bool, true, false, ◌&&◌, List, [], ◌∷◌, Option, Some, None, if◌then◌else◌}
+use Rattle.std.specs.Prelude.{ℕ, ◌==◌, Bool, true, false, ◌&&◌, List, [], ◌∷◌, bytes_eq, Option, Some, None, if◌then◌else◌}
 use Rattle.vm_facts.specs.Flat.{FlatState}
 use Rattle.vm_facts.specs.declared.entry.Entry.{Entry}
 use Rattle.vm_facts.specs.declared.entry.Entry.TheVariants.{Ran, Out, Grew, Call, Refused, Sleeps, Ended}
 use Rattle.page_model.specs.Flat.{Inputs, start_state, can_step}
 use Rattle.page_model.specs.Journal.{units_of}
-use Rattle.flat_model.specs.Calls.{same_bytes}
 use Rattle.flat_model.specs.Step.{Step, flat_step}
 
 -- a flat state, and the last flat entry
@@ -62,7 +61,7 @@ same_carry _ _ = false
 -- the same flat entry
 abbrev pub same_entry : Entry → Entry → Bool
 same_entry (Ran p n) (Ran q m) = p == q && n == m
-same_entry (Out p bytes) (Out q others) = p == q && same_bytes bytes others
+same_entry (Out p bytes) (Out q others) = p == q && bytes_eq bytes others
 same_entry (Grew p n) (Grew q m) = p == q && n == m
 same_entry (Call p n c r0 r1) (Call q m d s0 s1) = p == q && (n == m && (same_carry c d && (r0 == s0 && r1 == s1)))
 same_entry (Sleeps p) (Sleeps q) = p == q

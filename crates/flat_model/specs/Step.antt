@@ -81,10 +81,15 @@ replied_step images F p call effect (Writes bytes) =
 replied_step images F p call effect Waits = step_with images F p (Sleeps p.pid ∷ []) effect.writes p.regs Sleep
 replied_step images F p call effect (Exits status) = ended_step images F p effect.writes status
 
+-- the process with what an instruction wrote in its space
+abbrev pub written_process : Process → Space → List ByteWrite → Process
+written_process p s writes = record p { holding = Holds (puts s writes) }
+
 -- the reply of a call, made behind the instruction
 abbrev pub reply_behind : List NamedImage → FlatState → Process → Space → Bool → SystemCall → Effect → Reply
 reply_behind images F p s refused call effect =
-    refused_reply refused (or_fault (run (answers_of (puts s effect.writes)) (reply_of images F p (puts s effect.writes) call effect.regs)))
+    refused_reply refused (or_fault (run (answers_of (puts s effect.writes))
+    (reply_of images (apply_writes F p.pid effect.writes) (written_process p s effect.writes) (puts s effect.writes) call effect.regs)))
 
 -- a call that isn't one of the eight ends the process by signal 12
 abbrev pub called_step : List NamedImage → FlatState → Process → Space → Bool → Effect → Option SystemCall → Step

@@ -10,10 +10,12 @@ use Rattle.user_vax.specs.declared.refused.Refused.{Refused}
 use Rattle.page_model.specs.declared.spot.Spot.{Spot}
 use Rattle.page_model.specs.declared.spot.Spot.TheVariants.{Text, Data, Stack, Below, Outside}
 use Rattle.page_model.specs.Space.{answers_of, puts, address_in}
+use Rattle.page_model.specs.Change.{apply_writes}
 use Rattle.page_model.specs.Flat.{NamedImage, Inputs, process_of, is_ready}
 use Rattle.flat_model.specs.Instruction.{instruction_in}
 use Rattle.flat_model.specs.declared.calls.SystemCall.{SystemCall}
 use Rattle.flat_model.specs.Calls.{call_of, reply_of}
+use Rattle.flat_model.specs.Step.{written_process}
 
 -- the page of a byte that is read; none where the read is refused
 abbrev pub page_read : Space → Spot → Option Page
@@ -50,7 +52,8 @@ distinct (page ∷ more) = page ∷ filter (λ other. not (same_page page other)
 abbrev pub call_accesses : List NamedImage → FlatState → Process → Space → Effect → Option SystemCall → List Access
 call_accesses images F p s effect None = []
 call_accesses images F p s effect (Some call) =
-    accesses (answers_of (puts s effect.writes)) (reply_of images F p (puts s effect.writes) call effect.regs)
+    accesses (answers_of (puts s effect.writes))
+    (reply_of images (apply_writes F p.pid effect.writes) (written_process p s effect.writes) (puts s effect.writes) call effect.regs)
 
 abbrev pub accesses_behind : List NamedImage → FlatState → Process → Space → Effect → Option ℤ → List Access
 accesses_behind images F p s effect None = []

@@ -3,7 +3,7 @@
 ghost use Rattle.std.specs.Prelude.{◌≡◌, ℕ, ◌+◌, ◌*◌, ◌^◌, ◌<◌, ◌≤◌, ◌==◌, ◌||◌, Bool, true, IfOk, Ok, min, length, All};
 ghost use Rattle.user_vax.specs.Program.{run};
 ghost use Rattle.flat_model.specs.Arguments.{IsShort};
-ghost use Rattle.flat_model.specs.Calls.{string_limit, argument_limit, argument, three_arguments, bytes_from, string_from, arguments_from, arguments_at, exit_reply, write_reply, written_to};
+ghost use Rattle.flat_model.specs.Calls.{string_limit, argument_limit, argument, three_arguments, bytes_from, string_from, arguments_from, arguments_at, exit_reply, write_reply, written_to, ChangesNothing};
 
 use crate::arguments::Arguments;
 use crate::calls::{ARGUMENT_LIMIT, EBADF, Reply, STRING_LIMIT, WRITE_LIMIT};
@@ -37,7 +37,8 @@ pub fn three_arguments<M: Memory>(memory: &M, regs: Regs) -> Asked<(u32, u32, u3
 /// The reply of exit.
 #[tactic(auto, using(user_vax::proofs::Runs::run_bind), unfolding(crate::specs::Calls::exit_reply))]
 pub fn exit_reply<M: Memory>(memory: &M, regs: Regs) -> Asked<Reply>
-    ensures { result ≡ run (M.answers memory.now) (exit_reply regs) }
+    ensures value { result ≡ run (M.answers memory.now) (exit_reply regs) }
+    ensures plain { ChangesNothing result }
 {
     let code = argument(memory, regs, 1)?;
     Ok(Reply::Exits(code % 256 * 256))
@@ -50,7 +51,8 @@ pub fn write_reply<M: Memory>(
     memory: &M,
     regs: Regs,
 ) -> Result<Asked<Reply>, NoMemory>
-    ensures { IfOk result (λ asked. asked ≡ run (M.answers memory.now) (write_reply regs)) }
+    ensures value { IfOk result (λ asked. asked ≡ run (M.answers memory.now) (write_reply regs)) }
+    ensures plain { IfOk result ChangesNothing }
 {
     match three_arguments(memory, regs) {
         Err(refused) => Ok(Err(refused)),
@@ -66,7 +68,8 @@ fn write_to<M: Memory>(
     buffer: u32,
     count: u32,
 ) -> Result<Asked<Reply>, NoMemory>
-    ensures { IfOk result (λ asked. asked ≡ run (M.answers memory.now) (written_to is_output buffer count)) }
+    ensures value { IfOk result (λ asked. asked ≡ run (M.answers memory.now) (written_to is_output buffer count)) }
+    ensures plain { IfOk result ChangesNothing }
 {
     if !is_output {
         return Ok(Ok(Reply::Fails(EBADF)));

@@ -15,20 +15,21 @@ returns-in-Ok-eq0 g c =
 pub returns-in-Err-2 : goal.returns-in-Err-2
 returns-in-Err-2 g c =
     sym (lists_string_refused (g.M.Memory.answers c.args.memory.now) argument_limit c.args.address c.loop-index.index c.loop-index.arguments c.in-Ok.pointer c.in-Err-2.refused c.loop-index.invariant.0 c.loop-index-test.true
-        (sym c.in-Ok.ensures) c.in-Ok.pointer-test.1 (sym c.in_ok-refused-in-Ok.ensures.value ∙ c.in-Err-2.is))
+    (sym c.in-Ok.ensures) c.in-Ok.pointer-test.1 (sym c.in_ok-refused-in-Ok.ensures.value ∙ c.in-Err-2.is))
 
 pub returns-in-Ok-None : goal.returns-in-Ok-None
 returns-in-Ok-None g c =
     sym (lists_long (g.M.Memory.answers c.args.memory.now) argument_limit c.args.address c.loop-index.index c.loop-index.arguments c.in-Ok.pointer c.loop-index.invariant.0 c.loop-index-test.true
-        (sym c.in-Ok.ensures) c.in-Ok.pointer-test.1 (sym c.in_ok-refused-in-Ok.ensures.value ∙ c.in-Ok-None.is ∙ ap (λ (x : Option (List ℕ)). Ok x) c.in-Ok-None.field-0-is))
+    (sym c.in-Ok.ensures) c.in-Ok.pointer-test.1 (sym c.in_ok-refused-in-Ok.ensures.value ∙ c.in-Ok-None.is ∙ ap (λ (x : Option (List ℕ)). Ok x) c.in-Ok-None.field-0-is))
 
 pub loop-index-preserved : goal.loop-index-preserved
 loop-index-preserved g c =
-    let pushed : c.push.new.self ≡ c.loop-index.arguments ++ c.in-Ok-Some.argument ∷ [] = c.in_ok-push-in-Ok-Some.ensures in
-    (subst (Lists (g.M.Memory.answers c.args.memory.now) argument_limit c.args.address (c.loop-index.index + 1)) (sym pushed)
-        (lists_more (g.M.Memory.answers c.args.memory.now) argument_limit c.args.address c.loop-index.index c.loop-index.arguments c.in-Ok.pointer c.in-Ok-Some.argument c.loop-index.invariant.0 c.loop-index-test.true
-            (sym c.in-Ok.ensures) c.in-Ok.pointer-test.1 (sym c.in_ok-refused-in-Ok.ensures.value ∙ c.in-Ok-Some.is ∙ ap (λ (x : Option (List ℕ)). Ok x) c.in-Ok-Some.field-0-is)),
-     ap length pushed ∙ length-append c.loop-index.arguments (c.in-Ok-Some.argument ∷ []) ∙ ap (λ (n : ℕ). n + 1) c.loop-index.invariant.1)
+    let pushed : c.push.new.self ≡ c.loop-index.arguments ++ c.in-Ok-Some.argument ∷ [] = c.in_ok-push-in-Ok-Some.ensures in (
+      subst (Lists (g.M.Memory.answers c.args.memory.now) argument_limit c.args.address (c.loop-index.index + 1)) (sym pushed)
+          (lists_more (g.M.Memory.answers c.args.memory.now) argument_limit c.args.address c.loop-index.index c.loop-index.arguments c.in-Ok.pointer c.in-Ok-Some.argument c.loop-index.invariant.0 c.loop-index-test.true
+          (sym c.in-Ok.ensures) c.in-Ok.pointer-test.1 (sym c.in_ok-refused-in-Ok.ensures.value ∙ c.in-Ok-Some.is ∙ ap (λ (x : Option (List ℕ)). Ok x) c.in-Ok-Some.field-0-is)),
+      ap length pushed ∙ length-append c.loop-index.arguments (c.in-Ok-Some.argument ∷ []) ∙ ap (λ (n : ℕ). n + 1) c.loop-index.invariant.1,
+    )
 
 pub returns-in-Err-read_long : goal.returns-in-Err-read_long
 returns-in-Err-read_long g c =

@@ -15,10 +15,11 @@ returns-in-Ok-eq0-clause-value g c =
 
 pub loop-index-preserved : goal.loop-index-preserved
 loop-index-preserved g c =
-    let pushed : c.push.new.self.items ≡ c.loop-index.bytes.items ++ c.in-Ok.byte ∷ [] = grind (arith, common_steps) in
-    (subst (Spells (g.M.Memory.answers c.args.memory.now) string_limit c.args.address (c.loop-index.index + 1)) (sym pushed)
-        (spells_more (g.M.Memory.answers c.args.memory.now) string_limit c.args.address c.loop-index.index c.loop-index.bytes.items c.in-Ok.byte c.loop-index.invariant.0 c.loop-index-test.true (sym c.in-Ok.ensures) c.in-Ok.byte-test.1),
-     grind (arith, common_steps))
+    let pushed : c.push.new.self.items ≡ c.loop-index.bytes.items ++ c.in-Ok.byte ∷ [] = grind (arith, common_steps) in (
+      subst (Spells (g.M.Memory.answers c.args.memory.now) string_limit c.args.address (c.loop-index.index + 1)) (sym pushed)
+          (spells_more (g.M.Memory.answers c.args.memory.now) string_limit c.args.address c.loop-index.index c.loop-index.bytes.items c.in-Ok.byte c.loop-index.invariant.0 c.loop-index-test.true (sym c.in-Ok.ensures) c.in-Ok.byte-test.1),
+      grind (arith, common_steps),
+    )
 
 pub returns-clause-value : goal.returns-clause-value
 returns-clause-value g c =
