@@ -14,7 +14,49 @@ use Rattle.flat_model.specs.declared.calls.Reply.{Reply}
 use Rattle.flat_model.specs.declared.calls.Reply.TheVariants.{Fails, Does, Writes, Waits, Exits}
 use Rattle.flat_model.specs.declared.calls.SystemCall.{SystemCall}
 use Rattle.flat_model.specs.declared.calls.SystemCall.TheVariants as calls
-use Rattle.flat_model.specs.declared.calls.TheConstants.{ENOENT, E2BIG, EBADF, ECHILD, EAGAIN, ENOMEM, EFAULT, WRITE_LIMIT, PROCESS_LIMIT, DATA_LIMIT}
+
+-- The numbers of the errors: ENOENT, E2BIG, EBADF, ECHILD, EAGAIN, ENOMEM and EFAULT.
+
+abbrev pub no_such_file : ℕ
+no_such_file = 2
+
+abbrev pub too_big : ℕ
+too_big = 7
+
+abbrev pub bad_file : ℕ
+bad_file = 9
+
+abbrev pub no_children : ℕ
+no_children = 10
+
+abbrev pub try_again : ℕ
+try_again = 11
+
+abbrev pub no_memory : ℕ
+no_memory = 12
+
+abbrev pub fault : ℕ
+fault = 14
+
+-- The limits: the bytes of one write, the processes, the pages of a data segment, the bytes of a path or an argument
+-- with its final 0, and the arguments.
+
+abbrev pub write_limit : ℕ
+write_limit = 1024
+
+abbrev pub process_limit : ℕ
+process_limit = 64
+
+abbrev pub data_limit : ℕ
+data_limit = 4096
+
+abbrev pub string_limit : ℕ
+string_limit = 64
+
+abbrev pub argument_limit : ℕ
+argument_limit = 8
+
+-- The calls by number.
 
 abbrev pub number_of : SystemCall → ℕ
 number_of calls.Exit = 1
@@ -79,13 +121,6 @@ unfoldable pub string_from : ℕ → ℕ → Program (Option (List ℕ))
 string_from zero address = Gives None
 string_from (suc left) address = Reads address (λ byte. string_after byte (string_from left (past address 1)))
 
--- the bytes of a path or an argument, its final 0 counted
-abbrev pub string_limit : ℕ
-string_limit = 64
-
-abbrev pub argument_limit : ℕ
-argument_limit = 8
-
 -- a string, and then further ones, where it is there
 abbrev pub string_before : Program (Option (List (List ℕ))) → Option (List ℕ) → Program (Option (List (List ℕ)))
 string_before more None = Gives None
@@ -131,16 +166,16 @@ exit_reply regs = argument regs 1 >>= λ code. Gives (Exits (code % 256 * 256))
 -- a further process, where there are fewer than may be
 abbrev pub child_by : Bool → Regs → ℕ → Change → Reply
 child_by true regs child change = Does (replied_both regs child 0) change
-child_by false regs child change = Fails EAGAIN
+child_by false regs child change = Fails try_again
 
 -- fork and vfork: the child is the next process
 abbrev pub child_reply : FlatState → Regs → Change → Reply
-child_reply F regs change = child_by (nat_lt (length F.processes) PROCESS_LIMIT) regs F.next_pid change
+child_reply F regs change = child_by (nat_lt (length F.processes) process_limit) regs F.next_pid change
 
 -- the bytes of a write, where the file is an output
 unfoldable pub written_to : Bool → ℕ → ℕ → Program Reply
-written_to true buffer count = bytes_from (min count WRITE_LIMIT) buffer >>= λ bytes. Gives (Writes bytes)
-written_to false buffer count = Gives (Fails EBADF)
+written_to true buffer count = bytes_from (min count write_limit) buffer >>= λ bytes. Gives (Writes bytes)
+written_to false buffer count = Gives (Fails bad_file)
 
 -- write: the file, the buffer and the count; files 1 and 2 are outputs
 unfoldable pub write_reply : Regs → Program Reply
@@ -157,13 +192,13 @@ stack_pages_of s = length s.stack_bytes / 1024
 -- a data segment of so many pages, if it may have as many
 abbrev pub break_by : Bool → Regs → ℕ → ℕ → Reply
 break_by true regs data_pages stack_pages = Does (replied regs false 0) (Resize data_pages stack_pages)
-break_by false regs data_pages stack_pages = Fails ENOMEM
+break_by false regs data_pages stack_pages = Fails no_memory
 
 -- break: the address
 unfoldable pub break_reply : Space → Regs → Program Reply
 break_reply s regs = do
   address ← argument regs 1
-  Gives (break_by (nat_le (pages_up_to s address) DATA_LIMIT) regs (pages_up_to s address) (stack_pages_of s))
+  Gives (break_by (nat_le (pages_up_to s address) data_limit) regs (pages_up_to s address) (stack_pages_of s))
 
 abbrev pub numbered_by : Bool → ℕ → NamedImage → Option (ℕ × NamedImage) → Option (ℕ × NamedImage)
 numbered_by true number image more = Some (number, image)
@@ -181,12 +216,12 @@ path_image images (Some name) = image_named 1 images name
 
 -- an image that starts with these arguments, where they are as few and as short as they must be
 abbrev pub starts : ℕ × NamedImage → Option (List (List ℕ)) → Reply
-starts found None = Fails E2BIG
+starts found None = Fails too_big
 starts found (Some arguments) = Does (start_regs found.1.image.facts.entry arguments) (Exec found.0 (start_page arguments))
 
 -- an image that is there, and then its arguments
 abbrev pub execve_of : ℕ → Option (ℕ × NamedImage) → Program Reply
-execve_of argv None = Gives (Fails ENOENT)
+execve_of argv None = Gives (Fails no_such_file)
 execve_of argv (Some found) = arguments_at argv >>= λ arguments. Gives (starts found arguments)
 
 -- execve: the path, the arguments and the environment, which isn't read
@@ -203,7 +238,7 @@ status_of (Zombie status) = status
 
 -- wait, of the first child and the lowest zombie child
 abbrev pub wait_by : Option Process → Option Process → Regs → Reply
-wait_by None zombie regs = Fails ECHILD
+wait_by None zombie regs = Fails no_children
 wait_by (Some child) None regs = Waits
 wait_by (Some child) (Some z) regs = Does (replied_both regs z.pid (status_of z.holding)) (Reap z.pid)
 
@@ -223,7 +258,7 @@ reply_of images F p s calls.Wait regs = Gives (wait_reply F p.pid regs)
 
 abbrev pub or_fault : Result Reply Refused → Reply
 or_fault (Ok reply) = reply
-or_fault (Err refused) = Fails EFAULT
+or_fault (Err refused) = Fails fault
 
 -- Space on swap that is refused.
 
@@ -239,7 +274,7 @@ wants_space Sleep = false
 wants_space (End status) = false
 
 abbrev pub unless_refused : Bool → Reply → Reply
-unless_refused true reply = Fails ENOMEM
+unless_refused true reply = Fails no_memory
 unless_refused false reply = reply
 
 -- the reply where the pieces that it wants found no place, or where they did

@@ -6,6 +6,7 @@
 
 mod arguments;
 pub mod calls;
+mod laws;
 mod reading;
 mod starting;
 
@@ -14,6 +15,7 @@ pub use calls::{
     ARGUMENT_LIMIT, DATA_LIMIT, E2BIG, EAGAIN, EBADF, ECHILD, EFAULT, ENOENT, ENOMEM,
     PROCESS_LIMIT, Reply, STRING_LIMIT, SystemCall, WRITE_LIMIT,
 };
+pub use laws::runs_go_on;
 pub use reading::{
     Asked, argument, arguments_at, exit_reply, string_from, three_arguments, write_reply,
 };
