@@ -2,3 +2,8 @@ pub mod Strings
 pub mod Gathering
 pub mod Listing
 pub mod Folds
+pub mod After
+pub mod FlatRuns
+pub mod Wanting
+pub mod StepEnds
+pub mod Acting

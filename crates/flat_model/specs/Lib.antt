@@ -5,3 +5,7 @@ pub mod Run
 pub mod Touched
 pub mod Asked
 pub mod Arguments
+pub mod State
+pub mod Wanted
+pub mod After
+pub mod Act
