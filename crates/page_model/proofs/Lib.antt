@@ -21,3 +21,6 @@ pub mod Ends
 pub mod ServeEnds
 pub mod Kept
 pub mod KeptRuns
+pub mod Blocks
+pub mod Worked
+pub mod KeptChanges

@@ -219,7 +219,7 @@ enter_space_owner p sid image facts o n = add_owner p (new_pages sid image facts
 
 -- A space that goes.
 
-removed_other : (sid t : ℕ) (ss : List SpacePages) → t ≢ sid → numbered space_number t (filter (λ (s : SpacePages). not (s.sid == sid)) ss) ≡ numbered space_number t ss
+pub removed_other : (sid t : ℕ) (ss : List SpacePages) → t ≢ sid → numbered space_number t (filter (λ (s : SpacePages). not (s.sid == sid)) ss) ≡ numbered space_number t ss
 removed_other sid t [] n = refl
 removed_other sid t (s ∷ ss) n = go (s.sid == sid) refl (removed_other sid t ss n)
   where
@@ -231,7 +231,7 @@ removed_other sid t (s ∷ ss) n = go (s.sid == sid) refl (removed_other sid t s
         equal a b e = grind (arith, nat_tests)
     go false e ih = ap (λ (o : Option SpacePages). cond (space_number s == t) (Some s) o) ih
 
-removed_same : (sid : ℕ) (ss : List SpacePages) → numbered space_number sid (filter (λ (s : SpacePages). not (s.sid == sid)) ss) ≡ None
+pub removed_same : (sid : ℕ) (ss : List SpacePages) → numbered space_number sid (filter (λ (s : SpacePages). not (s.sid == sid)) ss) ≡ None
 removed_same sid [] = refl
 removed_same sid (s ∷ ss) = go (s.sid == sid) refl (removed_same sid ss)
   where

@@ -1,0 +1,145 @@
+-- Spaces that grow, shrink, come and go keep the flat memory.
+use Rattle.std.proofs.Common.{◌≡◌, ◌≢◌, ◌⊎◌, inl, inr, ℕ, zero, suc, ◌+◌, ◌-◌, ◌<◌, ◌≤◌, ◌==◌, Bool, true, false, not, cond, List, [], ◌∷◌, ◌++◌, length, get_or, map, filter, Option, Some, None, refl, sym, ap, ◌∙◌, subst, arith}
+use Rattle.std.proofs.lemmas.Bool.{cases_eq}
+use Rattle.std.proofs.lemmas.List.{get_or_past}
+use Rattle.vm_facts.specs.declared.page.Page.{Page}
+use Rattle.vm_facts.specs.declared.page.Page.TheVariants.{Data, Stack, Text}
+use Rattle.vm_facts.specs.declared.page.PageState.{PageState}
+use Rattle.vm_facts.specs.declared.page.PageState.TheVariants.{Unfilled, Valid, Invalid, Coming, Going, OnSwap}
+use Rattle.page_model.specs.Pages.{Slot, Filling, Zeros, OfImage, no_slot, SpacePages, numbered, changed, data_in, stack_in, frame_of, number_of, beside, pages_from}
+use Rattle.page_model.specs.Placement.{Placement, Transfer, Moving, Due, space_number, filling_by, slots_of, slot_of, state_of, mark_of, filling_of, errand_at, due_at, parts_of, IsThere, unfilled}
+use Rattle.page_model.specs.Moves.{drop_at, drop_page, drop_all}
+use Rattle.page_model.specs.Place.{sized, cut_space, resize, data_count, stack_count, data_from, stack_from, remove_space, pages_of_space}
+use Rattle.page_model.specs.Conditions.{EachPage}
+use Rattle.page_model.specs.Coupled.{zeros, Bytes, bytes_in, IsUnsaved, KeepsBy, Keeps, CouplesPages}
+use Rattle.page_model.proofs.PageLaws.{mapped, changed_same, changed_other}
+use Rattle.page_model.proofs.RunLaws.{each_page_append, pages_from_each}
+use Rattle.page_model.proofs.OwnsSpaces.{drop_all_other, drop_all_length}
+use Rattle.page_model.proofs.OwnsChanges.{dropped_pages, removed_other, removed_same}
+use Rattle.page_model.proofs.Couples.{Unmoved, unmoved_keeps}
+
+-- each page that is there is as it was, or is right by itself
+pub changed_coupled : (p q : Placement) (b c : Bytes) → CouplesPages p b → ((w : Page) → IsThere q w → (IsThere p w × Unmoved p q b c w) ⊎ Keeps q c w)
+    → ((image v : ℕ) → c.file (Text image v) ≡ c.memory (Text image v)) → ((image v : ℕ) → due_at q.due (Text image v) ≡ None) → CouplesPages q c
+changed_coupled p q b c k h text due = record {
+  each = λ w there. elim (h w there) [
+    | inl u ↦ unmoved_keeps p q b c w u.1 (k.each w u.0)
+    | inr e ↦ e
+  ];
+  text = text;
+  text_due = due;
+}
+
+-- What pages that go leave.
+
+drop_rest : (p : Placement) (v : Page) → ((drop_page p v).transfers ≡ p.transfers) × ((drop_page p v).due ≡ p.due)
+drop_rest p v = go (frame_of (state_of p v))
+  where
+    go : (h : Option ℕ) → ((drop_at p v h).transfers ≡ p.transfers) × ((drop_at p v h).due ≡ p.due)
+    go None = (refl, refl)
+    go (Some f) = (refl, refl)
+
+pub drop_all_rest : (qs : List Page) (p : Placement) → ((drop_all p qs).transfers ≡ p.transfers) × ((drop_all p qs).due ≡ p.due)
+drop_all_rest [] p = (refl, refl)
+drop_all_rest (v ∷ qs) p = let a = drop_all_rest qs (drop_page p v) in let b = drop_rest p v in (a.0 ∙ b.0, a.1 ∙ b.1)
+
+-- what stands beside the page is the same
+pub record SameBytes (b c : Bytes) (w : Page) : Type 0 where
+  pub frames : c.frames ≡ b.frames
+  pub swap : c.swap w ≡ b.swap w
+  pub file : c.file w ≡ b.file w
+  pub start : c.start w ≡ b.start w
+  pub memory : c.memory w ≡ b.memory w
+
+-- a page whose slot stays, with the same transfers and nothing due
+pub still_unmoved : (p q : Placement) (b c : Bytes) (w : Page) → slot_of q w ≡ slot_of p w → q.transfers ≡ p.transfers → due_at q.due w ≡ None → due_at p.due w ≡ None → SameBytes b c w → Unmoved p q b c w
+still_unmoved p q b c w s t d e x = record {
+  slot = s;
+  due = d ∙ sym e;
+  frames = λ g h. (ap (λ (fs : List (List ℕ)). Rattle.page_model.specs.Frames.at_frame fs g []) x.frames, ap (λ (ts : List Transfer). errand_at (parts_of ts) g) t);
+  swap = x.swap;
+  file = x.file;
+  start = x.start;
+  memory = x.memory;
+  copied = inr d;
+}
+
+-- Sizes.
+
+length_sized : (n : ℕ) (xs : List Slot) → length (sized n xs) ≡ n
+length_sized zero xs = refl
+length_sized (suc n) [] = ap suc (length_sized n [])
+length_sized (suc n) (x ∷ xs) = ap suc (length_sized n xs)
+
+sized_old : (n w : ℕ) (xs : List Slot) → w < n → w < length xs → get_or (sized n xs) w no_slot ≡ get_or xs w no_slot
+sized_old zero w xs l m = absurd (omega arith)
+sized_old (suc n) w [] l m = absurd (omega arith)
+sized_old (suc n) zero (x ∷ xs) l m = refl
+sized_old (suc n) (suc w) (x ∷ xs) l m = sized_old n w xs (omega arith) (omega arith)
+
+sized_new : (n w : ℕ) (xs : List Slot) → w < n → length xs ≤ w → get_or (sized n xs) w no_slot ≡ unfilled Zeros
+sized_new zero w xs l m = absurd (omega arith)
+sized_new (suc n) zero [] l m = refl
+sized_new (suc n) (suc w) [] l m = sized_new n w [] (omega arith) (omega arith)
+sized_new (suc n) zero (x ∷ xs) l m = absurd (omega arith)
+sized_new (suc n) (suc w) (x ∷ xs) l m = sized_new n w xs (omega arith) (omega arith)
+
+-- a segment is as it was, or has another size
+abbrev Sizes : List Slot → List Slot → ℕ → Type 0
+Sizes new old w = (new ≡ old) ⊎ ((n : ℕ) × (new ≡ sized n old))
+
+abbrev cut : ℕ → ℕ → SpacePages → SpacePages
+cut d s x = record x { data_pages = sized d x.data_pages; stack_pages = sized s x.stack_pages }
+
+-- a new page, of zeros
+pub zero_keeps : (q : Placement) (c : Bytes) (w : Page) → slot_of q w ≡ unfilled Zeros → ((image v : ℕ) → w ≢ Text image v) → due_at q.due w ≡ None → zeros ≡ c.memory w → Keeps q c w
+zero_keeps q c (Data sid v) e n d z = subst (KeepsBy q c (Data sid v)) (sym (ap (λ (x : Slot). x.state) e))
+    (subst (λ (f : Filling). Rattle.page_model.specs.Coupled.KeepsUnfilled c (Data sid v) (due_at q.due (Data sid v)) f) (sym (ap (λ (x : Slot). x.filling) e)) (subst (λ (o : Option Due). Rattle.page_model.specs.Coupled.KeepsUnfilled c (Data sid v) o Zeros) (sym d) z), tt)
+zero_keeps q c (Stack sid v) e n d z = subst (KeepsBy q c (Stack sid v)) (sym (ap (λ (x : Slot). x.state) e))
+    (subst (λ (f : Filling). Rattle.page_model.specs.Coupled.KeepsUnfilled c (Stack sid v) (due_at q.due (Stack sid v)) f) (sym (ap (λ (x : Slot). x.filling) e)) (subst (λ (o : Option Due). Rattle.page_model.specs.Coupled.KeepsUnfilled c (Stack sid v) o Zeros) (sym d) z), tt)
+zero_keeps q c (Text image v) e n d z = absurd (n image v refl)
+
+-- What a new size does to a page that is there afterwards.
+abbrev Resized : Placement → Placement → Page → Type 0
+Resized p q w = (IsThere p w × (slot_of q w ≡ slot_of p w)) ⊎ ((slot_of q w ≡ unfilled Zeros) × ((image v : ℕ) → w ≢ Text image v))
+
+le_or : (a b : ℕ) → (a < b) ⊎ (b ≤ a)
+le_or a b = grind arith
+
+resized_slot : (old new : List Slot) (n w : ℕ) → new ≡ sized n old → w < length new → ((w < length old) × (get_or new w no_slot ≡ get_or old w no_slot)) ⊎ (get_or new w no_slot ≡ unfilled Zeros)
+resized_slot old new n w e l =
+    let m : w < n = (let h = ap length e ∙ length_sized n old in omega arith) in
+    elim (le_or w (length old)) [
+      | inl k ↦ inl (k, ap (λ (xs : List Slot). get_or xs w no_slot) e ∙ sized_old n w old m k)
+      | inr k ↦ inr (ap (λ (xs : List Slot). get_or xs w no_slot) e ∙ sized_new n w old m k)
+    ]
+
+data_after : (d s : ℕ) (o : Option SpacePages) → (data_in (mapped (cut d s) o) ≡ data_in o) ⊎ (data_in (mapped (cut d s) o) ≡ sized d (data_in o))
+data_after d s None = inl refl
+data_after d s (Some x) = inr refl
+
+stack_after : (d s : ℕ) (o : Option SpacePages) → (stack_in (mapped (cut d s) o) ≡ stack_in o) ⊎ (stack_in (mapped (cut d s) o) ≡ sized s (stack_in o))
+stack_after d s None = inl refl
+stack_after d s (Some x) = inr refl
+
+by_segment : (p q : Placement) (w : Page) (n : ℕ) → ((image v : ℕ) → w ≢ Text image v) → (slots_of q w ≡ slots_of p w) ⊎ (slots_of q w ≡ sized n (slots_of p w)) → IsThere q w → Resized p q w
+by_segment p q w n t (inl e) there = inl (subst (λ (k : ℕ). number_of w < k) (ap length e) there, ap (λ (xs : List Slot). get_or xs (number_of w) no_slot) e)
+by_segment p q w n t (inr e) there = elim (resized_slot (slots_of p w) (slots_of q w) n (number_of w) e there) [
+  | inl h ↦ inl h
+  | inr h ↦ inr (h, t)
+]
+
+cut_resizes : (p : Placement) (sid d s : ℕ) (w : Page) → IsThere (cut_space p sid d s) w → Resized p (cut_space p sid d s) w
+cut_resizes p sid d s (Data t v) there = by_segment p (cut_space p sid d s) (Data t v) d (λ i n h. absurd cc) (go (cases_eq t sid)) there
+  where
+    go : (t ≡ sid) ⊎ (t ≢ sid) → (slots_of (cut_space p sid d s) (Data t v) ≡ slots_of p (Data t v)) ⊎ (slots_of (cut_space p sid d s) (Data t v) ≡ sized d (slots_of p (Data t v)))
+    go (inl e) = subst (λ (x : ℕ). (slots_of (cut_space p sid d s) (Data x v) ≡ slots_of p (Data x v)) ⊎ (slots_of (cut_space p sid d s) (Data x v) ≡ sized d (slots_of p (Data x v)))) (sym e)
+        (subst (λ (o : Option SpacePages). (data_in o ≡ slots_of p (Data sid v)) ⊎ (data_in o ≡ sized d (slots_of p (Data sid v)))) (sym (changed_same space_number sid (cut d s) (λ x. refl) p.spaces)) (data_after d s (numbered space_number sid p.spaces)))
+    go (inr n) = inl (ap data_in (changed_other space_number sid t (cut d s) (λ x. refl) n p.spaces))
+cut_resizes p sid d s (Stack t v) there = by_segment p (cut_space p sid d s) (Stack t v) s (λ i n h. absurd cc) (go (cases_eq t sid)) there
+  where
+    go : (t ≡ sid) ⊎ (t ≢ sid) → (slots_of (cut_space p sid d s) (Stack t v) ≡ slots_of p (Stack t v)) ⊎ (slots_of (cut_space p sid d s) (Stack t v) ≡ sized s (slots_of p (Stack t v)))
+    go (inl e) = subst (λ (x : ℕ). (slots_of (cut_space p sid d s) (Stack x v) ≡ slots_of p (Stack x v)) ⊎ (slots_of (cut_space p sid d s) (Stack x v) ≡ sized s (slots_of p (Stack x v)))) (sym e)
+        (subst (λ (o : Option SpacePages). (stack_in o ≡ slots_of p (Stack sid v)) ⊎ (stack_in o ≡ sized s (slots_of p (Stack sid v)))) (sym (changed_same space_number sid (cut d s) (λ x. refl) p.spaces)) (stack_after d s (numbered space_number sid p.spaces)))
+    go (inr n) = inl (ap stack_in (changed_other space_number sid t (cut d s) (λ x. refl) n p.spaces))
+cut_resizes p sid d s (Text i v) there = inl (there, refl)
