@@ -62,7 +62,7 @@ turn_coupled p v f s m free ts b c o t sd k keep = local_coupled p (turn p v s m
     (λ _. subst (KeepsBy (turn p v s m free ts) c v) (sym (put_state p v s m (page_in p v f t.from))) keep)
 
 -- in its frame, with the mark that it was put with
-marked : (p : Placement) (v : Page) (f : ℕ) (s : PageState) (m : Bool) (free : List ℕ) (ts : List Transfer) (c : Bytes) → IsThere p v → IsInFrame c (is_dirty_by v m) f v → IsInFrame c (is_dirty (turn p v s m free ts) v) f v
+pub marked : (p : Placement) (v : Page) (f : ℕ) (s : PageState) (m : Bool) (free : List ℕ) (ts : List Transfer) (c : Bytes) → IsThere p v → IsInFrame c (is_dirty_by v m) f v → IsInFrame c (is_dirty (turn p v s m free ts) v) f v
 marked p v f s m free ts c there k = subst (λ (d : Bool). IsInFrame c d f v) (sym (ap (is_dirty_by v) (put_mark p v s m there))) k
 
 -- Taking a frame.

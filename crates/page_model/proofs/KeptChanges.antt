@@ -177,7 +177,7 @@ kept_apart p p0 sid d s w there = each_page_append (λ r. w ≢ r) (data_from si
     (apart_data sid d (data_count p0 sid - d) w (λ v l e. absurd (let h = data_bound p sid d s v (subst (IsThere (cut_space p sid d s)) e there) in omega arith)))
     (apart_stack sid s (stack_count p0 sid - s) w (λ v l e. absurd (let h = stack_bound p sid d s v (subst (IsThere (cut_space p sid d s)) e there) in omega arith)))
 
-due_none : (ds : List Due) (w : Page) → ds ≡ [] → due_at ds w ≡ None
+pub due_none : (ds : List Due) (w : Page) → ds ≡ [] → due_at ds w ≡ None
 due_none ds w e = ap (λ (x : List Due). due_at x w) e
 
 -- Growth and break: the pages that stay have their bytes, and the new ones have zeros.

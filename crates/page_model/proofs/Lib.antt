@@ -24,3 +24,4 @@ pub mod KeptRuns
 pub mod Blocks
 pub mod Worked
 pub mod KeptChanges
+pub mod KeptSpaces

@@ -140,14 +140,14 @@ numbered_hit n x xs e = grind (arith, nat_tests)
 numbered_miss : (n : ℕ) (x : SpacePages) (xs : List SpacePages) → space_number x ≢ n → numbered space_number n (x ∷ xs) ≡ numbered space_number n xs
 numbered_miss n x xs e = grind (arith, nat_tests)
 
-added_other : (t : ℕ) (ss : List SpacePages) (x : SpacePages) → space_number x ≢ t → numbered space_number t (ss ++ x ∷ []) ≡ numbered space_number t ss
+pub added_other : (t : ℕ) (ss : List SpacePages) (x : SpacePages) → space_number x ≢ t → numbered space_number t (ss ++ x ∷ []) ≡ numbered space_number t ss
 added_other t [] x n = numbered_miss t x [] n
 added_other t (s ∷ ss) x n = elim (cases_eq (space_number s) t) [
   | inl e ↦ numbered_hit t s (ss ++ x ∷ []) e ∙ sym (numbered_hit t s ss e)
   | inr m ↦ numbered_miss t s (ss ++ x ∷ []) m ∙ added_other t ss x n ∙ sym (numbered_miss t s ss m)
 ]
 
-added_same : (t : ℕ) (ss : List SpacePages) (x : SpacePages) → space_number x ≡ t → numbered space_number t ss ≡ None → numbered space_number t (ss ++ x ∷ []) ≡ Some x
+pub added_same : (t : ℕ) (ss : List SpacePages) (x : SpacePages) → space_number x ≡ t → numbered space_number t ss ≡ None → numbered space_number t (ss ++ x ∷ []) ≡ Some x
 added_same t [] x e n = numbered_hit t x [] e
 added_same t (s ∷ ss) x e n = elim (cases_eq (space_number s) t) [
   | inl k ↦ absurd (let h : Some s ≡ None = sym (numbered_hit t s ss k) ∙ n in cc)
