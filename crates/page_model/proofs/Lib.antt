@@ -25,3 +25,4 @@ pub mod Blocks
 pub mod Worked
 pub mod KeptChanges
 pub mod KeptSpaces
+pub mod Asides
