@@ -66,13 +66,13 @@ IsShared p (Data sid n) = Unit {0}
 IsShared p (Stack sid n) = Unit {0}
 IsShared p (Text image n) = 0 < sharers p image
 
-shared_not : {C : Type 0} (p : Placement) (v : Page) (image n : ℕ) → IsShared p v → v ≡ Text image n → sharers p image ≡ 0 → C
+pub shared_not : {C : Type 0} (p : Placement) (v : Page) (image n : ℕ) → IsShared p v → v ≡ Text image n → sharers p image ≡ 0 → C
 shared_not p v image n s e z = absurd (let k : 0 < sharers p image = subst (IsShared p) e s in omega arith)
 
 left_unfilled : (v : Page) (m : Bool) (image n : ℕ) → v ≡ Text image n → m ≡ false → left_state v m ≡ Unfilled
 left_unfilled v m image n e h = ap (λ (x : Page). left_state x m) e ∙ ap (left_state (Text image n)) h
 
-evict_aside : (p : Placement) (f : ℕ) → OwnsFrames p → TextAside p → 0 < times f p.free → TextAside (evict p f)
+pub evict_aside : (p : Placement) (f : ℕ) → OwnsFrames p → TextAside p → 0 < times f p.free → TextAside (evict p f)
 evict_aside p f o a b = go (page_of p f) refl
   where
     go : (h : Option Page) → page_of p f ≡ h → TextAside (evict_at p f h)
@@ -84,7 +84,7 @@ evict_aside p f o a b = go (page_of p f) refl
             let was : IsAside p v = subst (IsAside p) (sym k) (a i n z) in
             record { unsaved = put_mark p v (left_state v (mark_of p v)) (mark_of p v) there ∙ was.unsaved; rests = inl (put_state p v (left_state v (mark_of p v)) (mark_of p v) there ∙ left_unfilled v (mark_of p v) i n k was.unsaved) })
 
-evict_sharers : (p : Placement) (f image : ℕ) → sharers (evict p f) image ≡ sharers p image
+pub evict_sharers : (p : Placement) (f image : ℕ) → sharers (evict p f) image ≡ sharers p image
 evict_sharers p f image = go (page_of p f)
   where
     go : (h : Option Page) → sharers (evict_at p f h) image ≡ sharers p image

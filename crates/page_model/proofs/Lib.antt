@@ -26,3 +26,4 @@ pub mod Worked
 pub mod KeptChanges
 pub mod KeptSpaces
 pub mod Asides
+pub mod AsideSteps
