@@ -27,3 +27,4 @@ pub mod KeptChanges
 pub mod KeptSpaces
 pub mod Asides
 pub mod AsideSteps
+pub mod AsideChanges
