@@ -28,3 +28,4 @@ pub mod KeptSpaces
 pub mod Asides
 pub mod AsideSteps
 pub mod AsideChanges
+pub mod Sames
