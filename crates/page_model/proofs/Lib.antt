@@ -29,3 +29,4 @@ pub mod Asides
 pub mod AsideSteps
 pub mod AsideChanges
 pub mod Sames
+pub mod Registers
