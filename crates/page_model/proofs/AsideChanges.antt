@@ -1,5 +1,5 @@
 -- Spaces that grow, shrink, come and go leave text that nobody shares aside.
-use Rattle.std.proofs.Common.{◌≡◌, ◌≢◌, ◌⊎◌, inl, inr, ℕ, zero, suc, ◌+◌, ◌-◌, ◌<◌, ◌≤◌, ◌==◌, ◌&&◌, Bool, true, false, not, cond, List, [], ◌∷◌, ◌++◌, length, filter, Option, Some, None, refl, sym, ap, ◌∙◌, subst, arith}
+use Rattle.std.proofs.Common.{◌≡◌, ◌≢◌, ◌⊎◌, inl, inr, ℕ, zero, suc, ◌+◌, ◌-◌, ◌<◌, ◌≤◌, ◌==◌, ◌&&◌, Bool, true, false, not, cond, List, [], ◌∷◌, ◌++◌, length, map, filter, Option, Some, None, refl, sym, ap, ◌∙◌, subst, arith}
 use Rattle.std.proofs.lemmas.Bool.{cases_eq}
 use Rattle.std.proofs.lemmas.Bool.Decides.{nat_tests}
 use Rattle.std.proofs.lemmas.List.{get_or_past}
@@ -7,12 +7,15 @@ use Rattle.vm_facts.specs.declared.page.Page.{Page}
 use Rattle.vm_facts.specs.declared.page.Page.TheVariants.{Data, Stack, Text}
 use Rattle.vm_facts.specs.declared.page.PageState.{PageState}
 use Rattle.vm_facts.specs.declared.page.PageState.TheVariants.{Unfilled, Valid, Invalid, Coming, Going, OnSwap}
+use Rattle.page_model.specs.declared.change.Change.{Change}
+use Rattle.page_model.specs.declared.change.Change.TheVariants.{Keep, Resize, Fork, Lend, Exec, Reap, Sleep, End}
+use Rattle.page_model.specs.Flat.{NamedImage, image_numbered}
 use Rattle.page_model.specs.Pages.{Slot, no_slot, SpacePages, changed, with_data, with_stack, frame_of, number_of, pages_from}
 use Rattle.page_model.specs.Frames.{times, without}
-use Rattle.page_model.specs.Placement.{Placement, Transfer, Due, space_number, slots_of, slot_of, state_of, mark_of, sharers, sharers_in, image_of, IsThere, spaces_with, put}
+use Rattle.page_model.specs.Placement.{Placement, Transfer, Due, space_number, slots_of, slot_of, state_of, mark_of, sharers, sharers_in, image_of, IsThere, new_pages, spaces_with, put}
 use Rattle.page_model.specs.Moves.{turn, drop_at, drop_page, drop_all, leave_by, leave_page, leave_all, listed, listed_of}
-use Rattle.page_model.specs.Place.{cut_space, resize, data_count, stack_count, data_from, stack_from, remove_space, pages_of_space, pages_of_text, leave_text, leave_text_by, give_up}
-use Rattle.page_model.specs.Conditions.{EachPage, AtRest}
+use Rattle.page_model.specs.Place.{child_slot, fork_space, enter_space, enter_image, give_up_unless, place_change, cut_space, resize, data_count, stack_count, data_from, stack_from, remove_space, pages_of_space, pages_of_text, leave_text, leave_text_by, give_up}
+use Rattle.page_model.specs.Conditions.{CanForget, MayForget, EachPage, AtRest, HasImage}
 use Rattle.page_model.specs.Ownership.{IsAside, TextAside}
 use Rattle.page_model.proofs.FrameLaws.{times-append, times_head, times_tail, times_one, times_without_other}
 use Rattle.page_model.proofs.PageLaws.{page_cases, put_state, put_mark, put_other, put_length, put_sharers, sharers_changed}
@@ -85,11 +88,6 @@ pub add_aside : (p : Placement) (x : SpacePages) (due : List Due) → TextAside 
 add_aside p x due a = text_still p (record p { spaces = p.spaces ++ x ∷ []; due = due }) (λ image n. refl) (λ f b. b) (λ image z. let h = sharers-append image p.spaces (x ∷ []) in omega arith) a
 
 -- A space that goes, and its text with the last sharer.
-
--- all spaces of this number have this image
-abbrev pub HasImage : ℕ → ℕ → List SpacePages → Type 0
-HasImage sid image [] = Unit {0}
-HasImage sid image (s ∷ ss) = (s.sid ≡ sid → s.image ≡ image) × HasImage sid image ss
 
 image_changed_by : (sid image t : ℕ) (change : SpacePages → SpacePages) (b : Bool) (s : SpacePages) (ss rs : List SpacePages) → (change s).sid ≡ s.sid → (change s).image ≡ s.image → (s.sid ≡ sid → s.image ≡ image) → HasImage sid image ss → HasImage sid image rs → HasImage sid image (cond b (change s ∷ ss) (s ∷ rs))
 image_changed_by sid image t change true s ss rs a i h k g = ((λ e. i ∙ h (sym a ∙ e)), k)
@@ -280,10 +278,47 @@ leave_text_aside p image others rest = go (sharers p image) refl
       | inr d ↦ others j n d s
     ]
 
-pub give_up_aside : (p : Placement) (sid : ℕ) → TextAside p → HasImage sid (image_of p sid) p.spaces → ((n : ℕ) → AtRest (state_of p (Text (image_of p sid) n))) → TextAside (give_up p sid)
-give_up_aside p sid a h r = leave_text_aside removed (image_of p sid)
-    (λ j n d z. was j n (sym (removed_sharers sid (image_of p sid) j dropped.spaces (drop_all_image (pages_of_space p sid) p sid (image_of p sid) h) d) ∙ z))
-    (λ z n. subst AtRest (sym (ap (λ (x : Slot). x.state) (text (image_of p sid) n))) (r n))
+-- other pages of the spaces leave the same sharers behind
+filtered_by : (sid j : ℕ) (x y : SpacePages) (xs ys : List SpacePages) → y.sid ≡ x.sid → y.image ≡ x.image → sharers_in j ys ≡ sharers_in j xs
+    → sharers_in j (cond (not (y.sid == sid)) (y ∷ ys) ys) ≡ sharers_in j (cond (not (x.sid == sid)) (x ∷ xs) xs)
+filtered_by sid j x y xs ys e i h = ap (λ (k : ℕ). sharers_in j (cond (not (k == sid)) (y ∷ ys) ys)) e ∙ go (x.sid == sid)
+  where
+    go : (b : Bool) → sharers_in j (cond (not b) (y ∷ ys) ys) ≡ sharers_in j (cond (not b) (x ∷ xs) xs)
+    go true = h
+    go false = ap (λ (k : ℕ). cond (k == j) 1 0 + sharers_in j ys) i ∙ ap (λ (k : ℕ). cond (x.image == j) 1 0 + k) h
+
+abbrev rest_of : ℕ → List SpacePages → List SpacePages
+rest_of sid ss = filter (λ (s : SpacePages). not (s.sid == sid)) ss
+
+rest_changed_by : (sid j t : ℕ) (change : SpacePages → SpacePages) (b : Bool) (s : SpacePages) (ss rs : List SpacePages) → (change s).sid ≡ s.sid → (change s).image ≡ s.image → sharers_in j (rest_of sid rs) ≡ sharers_in j (rest_of sid ss)
+    → sharers_in j (rest_of sid (cond b (change s ∷ ss) (s ∷ rs))) ≡ sharers_in j (rest_of sid (s ∷ ss))
+rest_changed_by sid j t change true s ss rs a i h = filtered_by sid j s (change s) (rest_of sid ss) (rest_of sid ss) a i refl
+rest_changed_by sid j t change false s ss rs a i h = filtered_by sid j s s (rest_of sid ss) (rest_of sid rs) refl refl h
+
+rest_changed : (sid j t : ℕ) (change : SpacePages → SpacePages) → ((x : SpacePages) → (change x).sid ≡ x.sid) → ((x : SpacePages) → (change x).image ≡ x.image) → (ss : List SpacePages) → sharers_in j (rest_of sid (changed space_number t change ss)) ≡ sharers_in j (rest_of sid ss)
+rest_changed sid j t change a i [] = refl
+rest_changed sid j t change a i (s ∷ ss) = rest_changed_by sid j t change (space_number s == t) s ss (changed space_number t change ss) (a s) (i s) (rest_changed sid j t change a i ss)
+
+rest_put : (p : Placement) (v : Page) (s : PageState) (m : Bool) (sid j : ℕ) → sharers_in j (rest_of sid (spaces_with p.spaces v s m)) ≡ sharers_in j (rest_of sid p.spaces)
+rest_put p (Data t v) s m sid j = rest_changed sid j t (with_data v s m) (λ x. refl) (λ x. refl) p.spaces
+rest_put p (Stack t v) s m sid j = rest_changed sid j t (with_stack v s m) (λ x. refl) (λ x. refl) p.spaces
+rest_put p (Text t v) s m sid j = refl
+
+rest_drop : (p : Placement) (v : Page) (sid j : ℕ) → sharers_in j (rest_of sid (drop_page p v).spaces) ≡ sharers_in j (rest_of sid p.spaces)
+rest_drop p v sid j = go (frame_of (state_of p v))
+  where
+    go : (o : Option ℕ) → sharers_in j (rest_of sid (drop_at p v o).spaces) ≡ sharers_in j (rest_of sid p.spaces)
+    go None = rest_put p v Unfilled false sid j
+    go (Some g) = rest_put p v Unfilled false sid j
+
+rest_drop_all : (qs : List Page) (p : Placement) (sid j : ℕ) → sharers_in j (rest_of sid (drop_all p qs).spaces) ≡ sharers_in j (rest_of sid p.spaces)
+rest_drop_all [] p sid j = refl
+rest_drop_all (v ∷ qs) p sid j = rest_drop_all qs (drop_page p v) sid j ∙ rest_drop p v sid j
+
+pub give_up_aside : (p : Placement) (sid : ℕ) → TextAside p → CanForget p sid → TextAside (give_up p sid)
+give_up_aside p sid a c = leave_text_aside removed (image_of p sid)
+    (λ j n d z. was j n (sym (removed_sharers sid (image_of p sid) j dropped.spaces (drop_all_image (pages_of_space p sid) p sid (image_of p sid) c.image) d) ∙ z))
+    (λ z n. subst AtRest (sym (ap (λ (x : Slot). x.state) (text (image_of p sid) n))) (c.text_rests (sym (rest_drop_all (pages_of_space p sid) p sid (image_of p sid)) ∙ z) n))
   where
     dropped : Placement
     dropped = drop_all p (pages_of_space p sid)
@@ -299,3 +334,28 @@ give_up_aside p sid a h r = leave_text_aside removed (image_of p sid)
 
     was : (j n : ℕ) → sharers dropped j ≡ 0 → IsAside removed (Text j n)
     was j n z = let k : IsAside dropped (Text j n) = kept j n z in record { unsaved = k.unsaved; rests = k.rests }
+
+-- Changes.
+
+give_up_unless_aside : (borrowed : Bool) (p : Placement) (sid : ℕ) → TextAside p → (borrowed ≡ false → CanForget p sid) → TextAside (give_up_unless borrowed p sid)
+give_up_unless_aside true p sid a c = a
+give_up_unless_aside false p sid a c = give_up_aside p sid a (c refl)
+
+enter_image_aside : (p : Placement) (sid image : ℕ) (named : Option NamedImage) → TextAside p → TextAside (enter_image p sid image named)
+enter_image_aside p sid image None a = a
+enter_image_aside p sid image (Some named) a = add_aside p (new_pages sid image named.image.facts) (enter_space p sid image named.image.facts).due a
+
+pub place_change_aside : (images : List NamedImage) (p : Placement) (pid sid : ℕ) (borrowed : Bool) (next_sid at : ℕ) (change : Change) → TextAside p → MayForget images p sid borrowed next_sid change → TextAside (place_change images p pid sid borrowed next_sid at change)
+place_change_aside images p pid sid borrowed next_sid at Keep a c = a
+place_change_aside images p pid sid borrowed next_sid at (Resize d s) a c = resize_aside p sid d s a
+place_change_aside images p pid sid borrowed next_sid at (Fork child) a c = λ i n z. let k = add_aside p (record {
+  sid = next_sid;
+  image = image_of p sid;
+  data_pages = map child_slot (slots_of p (Data sid 0));
+  stack_pages = map child_slot (slots_of p (Stack sid 0));
+}) (fork_space p sid next_sid).due a i n z in record { unsaved = k.unsaved; rests = k.rests }
+place_change_aside images p pid sid borrowed next_sid at (Lend child) a c = λ i n z. let k = a i n z in record { unsaved = k.unsaved; rests = k.rests }
+place_change_aside images p pid sid borrowed next_sid at (Exec image top) a c = give_up_unless_aside borrowed (enter_image p next_sid image (image_numbered images image)) sid (enter_image_aside p next_sid image (image_numbered images image) a) c
+place_change_aside images p pid sid borrowed next_sid at (Reap child) a c = a
+place_change_aside images p pid sid borrowed next_sid at Sleep a c = a
+place_change_aside images p pid sid borrowed next_sid at (End status) a c = λ i n z. let k = give_up_unless_aside borrowed p sid a c i n z in record { unsaved = k.unsaved; rests = k.rests }

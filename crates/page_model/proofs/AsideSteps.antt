@@ -15,7 +15,7 @@ use Rattle.page_model.specs.Runs.{run_out, pages_of_run, run_in}
 use Rattle.page_model.specs.Hands.{expire, expire_of, expire_if, expire_to, sweep, sweep_of, sweep_to, sweep_by, hand_move, hand_moves}
 use Rattle.page_model.specs.Place.{filled, put_step, put_by, place_entry}
 use Rattle.page_model.specs.Serve.{source_for, read_errand}
-use Rattle.page_model.specs.Conditions.{EachPage, AllApart, CanEnter, IsSeated, HasSeat, CanPlace}
+use Rattle.page_model.specs.Conditions.{EachPage, AllApart, CanEnter, IsSeated, HasSeat, CanPlace, IsShared, EntryShared}
 use Rattle.page_model.specs.Ownership.{OwnsFrames, OwnsBlocks, OneOwner, TextAside}
 use Rattle.page_model.proofs.FrameLaws.{times_head}
 use Rattle.page_model.proofs.PageLaws.{put_length, put_sharers}
@@ -28,7 +28,7 @@ use Rattle.page_model.proofs.OwnsRuns.{begin_owner, get_enters_still, get_open_s
 use Rattle.page_model.proofs.OwnsHands.{run_out_seats, move_owner}
 use Rattle.page_model.proofs.OwnsEntries.{place_entry_owner}
 use Rattle.page_model.proofs.Stays.{Steady, steady_self, Stays, launch_run_steady, retire_steady, move_stays, done_steady}
-use Rattle.page_model.proofs.Asides.{IsBusy, IsShared, turn_aside, enter_aside, evict_aside, evict_sharers, blocks_still}
+use Rattle.page_model.proofs.Asides.{IsBusy, turn_aside, enter_aside, evict_aside, evict_sharers, blocks_still}
 
 some_free : (p : Placement) (f : ℕ) (rest : List ℕ) → p.free ≡ f ∷ rest → 0 < times f p.free
 some_free p f rest e = let h : times f p.free ≡ 1 + times f rest = ap (times f) e ∙ times_head f rest in omega arith
@@ -215,14 +215,6 @@ done_aside p o a = go p.transfers refl
     go (t ∷ ts) e = land_all_aside t.parts p t.errand ts o e a
 
 -- Entries.
-
--- the pages that take frames are of spaces, or of text that a space shares
-abbrev pub EntryShared : Placement → Entry → Type 0
-EntryShared p (entries.Zero q) = IsShared p q
-EntryShared p (entries.Copy q) = IsShared p q
-EntryShared p (entries.Get q lo n) = IsShared p q
-EntryShared p (entries.Reclaim q) = IsShared p q
-EntryShared p _ = Unit {0}
 
 beside_shared : (p : Placement) (q : Page) (w : ℕ) → IsShared p q → IsShared p (beside q w)
 beside_shared p (Data sid n) w s = tt

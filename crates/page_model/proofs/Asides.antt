@@ -13,7 +13,7 @@ use Rattle.page_model.specs.Pages.{Slot, frame_of, number_of, left_state, is_amo
 use Rattle.page_model.specs.Frames.{times, without}
 use Rattle.page_model.specs.Placement.{Placement, Transfer, Part, Errand, Writes, Reads, Source, slots_of, slot_of, state_of, mark_of, is_dirty, page_of, parts_of, moving_state, sharers, IsThere, put}
 use Rattle.page_model.specs.Moves.{evict, evict_at, enter, turn, fill, fill_at, begin, join_last, get_one, get_at, get_all, get_run, launch, launch_to, launch_all, launch_run, land, land_read, land_all, done, done_of, arrived_mark, reclaim, reclaim_to, retire, retire_to}
-use Rattle.page_model.specs.Conditions.{EachPage, AllApart, CanEnter, IsSeated, HasSeat}
+use Rattle.page_model.specs.Conditions.{EachPage, AllApart, CanEnter, IsSeated, HasSeat, IsShared}
 use Rattle.page_model.specs.Ownership.{OwnsFrames, OwnsBlocks, OneOwner, IsAside, TextAside, IsListed, owner_of, block_of, text_pieces_while, needs_blocks, needs_blocks_by}
 use Rattle.page_model.proofs.PageLaws.{page_cases, put_state, put_mark, put_sharers}
 use Rattle.page_model.proofs.Local.{Local, other_state, other_mark, none_some}
@@ -59,12 +59,6 @@ busy_shared p v image n a b e z =
 
 pub turn_aside : (p : Placement) (v : Page) (f : ℕ) (s : PageState) (m : Bool) (free : List ℕ) (ts : List Transfer) → OwnsFrames p → Turns p v f s m free ts → TextAside p → IsBusy p (state_of p v) → TextAside (turn p v s m free ts)
 turn_aside p v f s m free ts o t a b = local_aside p (turn p v s m free ts) v f o (turn_local p v f s m free ts o t) (put_sharers p v s m) a (λ i n e z. busy_shared p v i n a b e z)
-
--- a data or stack page, or text that a space shares
-abbrev pub IsShared : Placement → Page → Type 0
-IsShared p (Data sid n) = Unit {0}
-IsShared p (Stack sid n) = Unit {0}
-IsShared p (Text image n) = 0 < sharers p image
 
 pub shared_not : {C : Type 0} (p : Placement) (v : Page) (image n : ℕ) → IsShared p v → v ≡ Text image n → sharers p image ≡ 0 → C
 shared_not p v image n s e z = absurd (let k : 0 < sharers p image = subst (IsShared p) e s in omega arith)

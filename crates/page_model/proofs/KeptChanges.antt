@@ -11,7 +11,7 @@ use Rattle.page_model.specs.Placement.{Placement, Transfer, Moving, Due, space_n
 use Rattle.page_model.specs.Moves.{drop_at, drop_page, drop_all}
 use Rattle.page_model.specs.Place.{sized, cut_space, resize, data_count, stack_count, data_from, stack_from, remove_space, pages_of_space}
 use Rattle.page_model.specs.Conditions.{EachPage}
-use Rattle.page_model.specs.Coupled.{zeros, Bytes, bytes_in, IsUnsaved, KeepsBy, Keeps, CouplesPages}
+use Rattle.page_model.specs.Coupled.{zeros, Bytes, bytes_in, IsUnsaved, KeepsBy, Keeps, CouplesPages, SameBytes}
 use Rattle.page_model.proofs.PageLaws.{mapped, changed_same, changed_other}
 use Rattle.page_model.proofs.RunLaws.{each_page_append, pages_from_each}
 use Rattle.page_model.proofs.OwnsSpaces.{drop_all_other, drop_all_length}
@@ -42,14 +42,6 @@ drop_rest p v = go (frame_of (state_of p v))
 pub drop_all_rest : (qs : List Page) (p : Placement) → ((drop_all p qs).transfers ≡ p.transfers) × ((drop_all p qs).due ≡ p.due)
 drop_all_rest [] p = (refl, refl)
 drop_all_rest (v ∷ qs) p = let a = drop_all_rest qs (drop_page p v) in let b = drop_rest p v in (a.0 ∙ b.0, a.1 ∙ b.1)
-
--- what stands beside the page is the same
-pub record SameBytes (b c : Bytes) (w : Page) : Type 0 where
-  pub frames : c.frames ≡ b.frames
-  pub swap : c.swap w ≡ b.swap w
-  pub file : c.file w ≡ b.file w
-  pub start : c.start w ≡ b.start w
-  pub memory : c.memory w ≡ b.memory w
 
 -- a page whose slot stays, with the same transfers and nothing due
 pub still_unmoved : (p q : Placement) (b c : Bytes) (w : Page) → slot_of q w ≡ slot_of p w → q.transfers ≡ p.transfers → due_at q.due w ≡ None → due_at p.due w ≡ None → SameBytes b c w → Unmoved p q b c w

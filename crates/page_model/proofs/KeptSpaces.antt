@@ -15,7 +15,7 @@ use Rattle.page_model.specs.Moves.{turn, leave_by, leave_page, leave_all, listed
 use Rattle.page_model.specs.Place.{child_slot, child_slot_by, copy_due, copies_from, fork_space, enter_space, leave_text, leave_text_by, pages_of_text}
 use Rattle.page_model.specs.Conditions.{EachPage, IsSeated, IsNew}
 use Rattle.page_model.specs.Ownership.{OwnsFrames}
-use Rattle.page_model.specs.Coupled.{zeros, Bytes, bytes_in, IsInFrame, KeepsUnfilled, IsUnsaved, KeepsBy, Keeps, CouplesPages}
+use Rattle.page_model.specs.Coupled.{zeros, Bytes, bytes_in, IsInFrame, KeepsUnfilled, IsUnsaved, KeepsBy, Keeps, CouplesPages, SameBytes, Copies, FillsBy}
 use Rattle.page_model.proofs.PageLaws.{page_cases, put_state, put_mark, put_same, put_other, put_length, same_page_self, same_page_is}
 use Rattle.page_model.proofs.Steps.{page_in}
 use Rattle.page_model.proofs.Owns.{retire_turns}
@@ -24,7 +24,7 @@ use Rattle.page_model.proofs.OwnsSpaces.{remark_turns, leave_page_owner}
 use Rattle.page_model.proofs.OwnsChanges.{added_other, added_same}
 use Rattle.page_model.proofs.Couples.{Unmoved}
 use Rattle.page_model.proofs.Kept.{beside_still, turn_coupled, marked, keeps_at, seated_keeps}
-use Rattle.page_model.proofs.KeptChanges.{SameBytes, still_unmoved, changed_coupled, due_none}
+use Rattle.page_model.proofs.KeptChanges.{still_unmoved, changed_coupled, due_none}
 
 -- Text that nobody shares.
 
@@ -236,11 +236,6 @@ map_length : (xs : List Slot) → length (map child_slot xs) ≡ length xs
 map_length [] = refl
 map_length (x ∷ xs) = ap suc (map_length xs)
 
--- the child's page has the bytes that its parent's has, and the same file's
-pub record Copies (b c : Bytes) (child parent : Page) : Type 0 where
-  pub memory : c.memory child ≡ b.memory parent
-  pub file : c.file child ≡ b.file parent
-
 child_unfilled : (b c : Bytes) (child parent : Page) (x : Filling) → Copies b c child parent → KeepsUnfilled b parent None x → KeepsUnfilled c child None x
 child_unfilled b c child parent Zeros e k = k ∙ sym e.memory
 child_unfilled b c child parent OfImage e k = e.file ∙ k ∙ sym e.memory
@@ -320,11 +315,6 @@ fork_coupled p parent child b c k new none same datas stacks text = added_couple
             subst (λ (o : Option Due). KeepsUnfilled b (Stack parent v) o (filling_of p (Stack parent v))) (due_none p.due (Stack parent v) none) y.0))), tt)
 
 -- A new image.
-
--- a new page has the bytes that fill it
-abbrev pub FillsBy : Bytes → Page → Filling → Type 0
-FillsBy c q Zeros = zeros ≡ c.memory q
-FillsBy c q OfImage = c.file q ≡ c.memory q
 
 fills_keeps : (c : Bytes) (q : Page) (x : Filling) → FillsBy c q x → KeepsUnfilled c q None x
 fills_keeps c q Zeros k = k

@@ -4,12 +4,7 @@ use Rattle.std.proofs.lemmas.List.{take_at}
 use Rattle.std.specs.Prelude.{flat_map, replicate}
 use Rattle.vm_facts.specs.declared.regs.Regs.{Regs}
 use Rattle.aout_image.specs.Image.{word_bytes}
-use Rattle.page_model.specs.Kernel.{bit_of, codes_of, u_page, longwords, has_bit, regs_from, regs_in}
-
--- all are longwords
-abbrev pub AllLongwords : List ℕ → Type 0
-AllLongwords [] = Unit {0}
-AllLongwords (w ∷ ws) = (w < 2 ^ 32) × AllLongwords ws
+use Rattle.page_model.specs.Kernel.{bit_of, codes_of, u_page, longwords, has_bit, regs_from, regs_in, AllLongwords, AreRegs}
 
 word_is : (w : ℕ) → w < 2 ^ 32 → w % 2 ^ 8 + 2 ^ 8 * (w / 2 ^ 8 % 2 ^ 8) + 2 ^ 16 * (w / 2 ^ 16 % 2 ^ 8) + 2 ^ 24 * (w / 2 ^ 24 % 2 ^ 8) ≡ w
 word_is w h = omega arith
@@ -18,11 +13,6 @@ words_read : (n : ℕ) (ws rest : List ℕ) → n ≤ length ws → AllLongwords
 words_read zero ws rest l a = refl
 words_read (suc n) [] rest l a = absurd (omega arith)
 words_read (suc n) (w ∷ ws) rest l a = ap (λ (x : ℕ). x ∷ longwords n (flat_map word_bytes ws ++ rest)) (word_is w a.0) ∙ ap (λ (xs : List ℕ). w ∷ xs) (words_read n ws rest (omega arith) a.1)
-
--- sixteen registers, each a longword
-pub record AreRegs (regs : Regs) : Type 0 where
-  pub count : length regs.r ≡ 16
-  pub each : AllLongwords regs.r
 
 words_more : (ws vs : List ℕ) → AllLongwords ws → AllLongwords vs → AllLongwords (ws ++ vs)
 words_more [] vs a b = b

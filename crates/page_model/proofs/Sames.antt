@@ -14,7 +14,7 @@ use Rattle.page_model.specs.Place.{filled}
 use Rattle.page_model.specs.Swapper.{is_of_space, is_of_text, names_page, is_settled}
 use Rattle.page_model.specs.Conditions.{EachPage, AtRest, CanEnter, IsSettled}
 use Rattle.page_model.specs.Ownership.{OwnsFrames, Each, IsMoving, IsListed, seats}
-use Rattle.page_model.specs.Coupled.{Bytes, bytes_in, SamePage, with_frame, source_bytes, bytes_read, Stores, StoresAll, BytesBy, BytesAfter}
+use Rattle.page_model.specs.Coupled.{Bytes, bytes_in, SamePage, with_frame, source_bytes, bytes_read, Stores, StoresAll, BytesBy, BytesAfter, NotIn}
 use Rattle.page_model.proofs.FrameLaws.{times_head, times_tail, at_set_other}
 use Rattle.page_model.proofs.PageLaws.{page_cases, put_other, put_state}
 use Rattle.page_model.proofs.Local.{some_is, none_some}
@@ -96,10 +96,6 @@ filled_same p v f rest b bytes w o e n = record {
 }
 
 -- The end of a transfer leaves each page that isn't in it the same.
-
-abbrev pub NotIn : Page → List Part → Type 0
-NotIn w [] = Unit {0}
-NotIn w (x ∷ xs) = (w ≢ x.page) × NotIn w xs
 
 abbrev NotFrames : ℕ → List Part → Type 0
 NotFrames f [] = Unit {0}

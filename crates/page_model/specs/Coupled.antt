@@ -136,3 +136,25 @@ BytesBy b (Reads source demanded) xs c = bytes_read b source xs ≡ c
 abbrev pub BytesAfter : Bytes → List Transfer → Bytes → Type 0
 BytesAfter b [] c = b ≡ c
 BytesAfter b (t ∷ ts) c = BytesBy b t.errand t.parts c
+
+-- what stands beside the page is the same
+pub record SameBytes (b c : Bytes) (w : Page) : Type 0 where
+  pub frames : c.frames ≡ b.frames
+  pub swap : c.swap w ≡ b.swap w
+  pub file : c.file w ≡ b.file w
+  pub start : c.start w ≡ b.start w
+  pub memory : c.memory w ≡ b.memory w
+
+-- the child's page has the bytes that its parent's has, and the same file's
+pub record Copies (b c : Bytes) (child parent : Page) : Type 0 where
+  pub memory : c.memory child ≡ b.memory parent
+  pub file : c.file child ≡ b.file parent
+
+-- a new page has the bytes that fill it
+abbrev pub FillsBy : Bytes → Page → Filling → Type 0
+FillsBy c q Zeros = zeros ≡ c.memory q
+FillsBy c q OfImage = c.file q ≡ c.memory q
+
+abbrev pub NotIn : Page → List Part → Type 0
+NotIn w [] = Unit {0}
+NotIn w (x ∷ xs) = (w ≢ x.page) × NotIn w xs

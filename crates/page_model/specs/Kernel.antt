@@ -1,5 +1,5 @@
 -- The whole machine as lists, and what each of its steps does to them.
-use Rattle.std.specs.Prelude.{◌≡◌, ℕ, ◌+◌, ◌*◌, ◌≤◌, ◌==◌, Bool, true, false, cond, not, List, [], ◌∷◌, ◌++◌, length, map, filter, take, drop, replicate, flat_map, set, Option, Some, None, ◌/◌, ◌%◌, ◌^◌, suc, zero, get_or}
+use Rattle.std.specs.Prelude.{◌≡◌, ℕ, ◌+◌, ◌*◌, ◌≤◌, ◌==◌, Bool, true, false, cond, not, List, [], ◌∷◌, ◌++◌, length, map, filter, take, drop, replicate, flat_map, set, Option, Some, None, ◌/◌, ◌%◌, ◌^◌, suc, zero, get_or, ◌<◌}
 use Rattle.vm_facts.specs.Flat.{Space, Holding, Holds, Lends, Zombie, Process, FlatState}
 use Rattle.vm_facts.specs.declared.page.Page.{Page}
 use Rattle.vm_facts.specs.declared.page.Page.TheVariants.{Data, Stack, Text}
@@ -331,3 +331,13 @@ pub record Sound (size : ℕ) (k : Kernel) : Type 0 where
 
 abbrev pub IsSound : ℕ → Kernel → Type 0
 IsSound size k = k.stopped ≡ false → Sound size k
+
+-- all are longwords
+abbrev pub AllLongwords : List ℕ → Type 0
+AllLongwords [] = Unit {0}
+AllLongwords (w ∷ ws) = (w < 2 ^ 32) × AllLongwords ws
+
+-- sixteen registers, each a longword
+pub record AreRegs (regs : Regs) : Type 0 where
+  pub count : length regs.r ≡ 16
+  pub each : AllLongwords regs.r
