@@ -6,5 +6,5 @@ pub mod laws;
 pub mod spot;
 
 pub use change::Change;
-pub use laws::{forcing_ends, memory_kept, ownership_kept, serving_ends};
+pub use laws::{blocks_kept, forcing_ends, memory_kept, others_same, ownership_kept, registers_kept, serving_ends, spaces_kept};
 pub use spot::{PAGE, STACK_REACH, STACK_TOP, Spot, locate};
