@@ -1,5 +1,5 @@
 -- Spaces that grow, shrink, come and go leave text that nobody shares aside.
-use Rattle.std.proofs.Common.{◌≡◌, ◌≢◌, ◌⊎◌, inl, inr, ℕ, zero, suc, ◌+◌, ◌-◌, ◌<◌, ◌≤◌, ◌==◌, ◌&&◌, Bool, true, false, not, cond, List, [], ◌∷◌, ◌++◌, length, map, filter, Option, Some, None, refl, sym, ap, ◌∙◌, subst, arith}
+use Rattle.std.proofs.Common.{◌≡◌, ◌≢◌, ◌⊎◌, inl, inr, ℕ, zero, suc, ◌+◌, ◌-◌, ◌<◌, ◌≤◌, ◌==◌, Bool, true, false, not, cond, List, [], ◌∷◌, ◌++◌, length, map, filter, Option, Some, None, refl, sym, ap, ◌∙◌, subst, arith}
 use Rattle.std.proofs.lemmas.Bool.{cases_eq}
 use Rattle.std.proofs.lemmas.Bool.Decides.{nat_tests}
 use Rattle.std.proofs.lemmas.List.{get_or_past}
@@ -12,14 +12,13 @@ use Rattle.page_model.specs.declared.change.Change.TheVariants.{Keep, Resize, Fo
 use Rattle.page_model.specs.Flat.{NamedImage, image_numbered}
 use Rattle.page_model.specs.Pages.{Slot, no_slot, SpacePages, changed, with_data, with_stack, frame_of, number_of, pages_from}
 use Rattle.page_model.specs.Frames.{times, without}
-use Rattle.page_model.specs.Placement.{Placement, Transfer, Due, space_number, slots_of, slot_of, state_of, mark_of, sharers, sharers_in, image_of, IsThere, new_pages, spaces_with, put}
-use Rattle.page_model.specs.Moves.{turn, drop_at, drop_page, drop_all, leave_by, leave_page, leave_all, listed, listed_of}
+use Rattle.page_model.specs.Placement.{Placement, Due, space_number, slots_of, slot_of, state_of, sharers, sharers_in, image_of, IsThere, new_pages, spaces_with}
+use Rattle.page_model.specs.Moves.{drop_at, drop_page, drop_all, leave_by, leave_page, leave_all, listed, listed_of}
 use Rattle.page_model.specs.Place.{child_slot, fork_space, enter_space, enter_image, give_up_unless, place_change, cut_space, resize, data_count, stack_count, data_from, stack_from, remove_space, pages_of_space, pages_of_text, leave_text, leave_text_by, give_up}
 use Rattle.page_model.specs.Conditions.{CanForget, MayForget, EachPage, AtRest, HasImage}
 use Rattle.page_model.specs.Ownership.{IsAside, TextAside}
 use Rattle.page_model.proofs.FrameLaws.{times-append, times_head, times_tail, times_one, times_without_other}
 use Rattle.page_model.proofs.PageLaws.{page_cases, put_state, put_mark, put_other, put_length, put_sharers, sharers_changed}
-use Rattle.page_model.proofs.Steps.{page_in}
 use Rattle.page_model.proofs.RunLaws.{each_page_append, pages_from_each}
 use Rattle.page_model.proofs.OwnsSpaces.{drop_all_other}
 use Rattle.page_model.proofs.OwnsChanges.{dropped_pages}
@@ -222,10 +221,13 @@ abbrev pub CanLeave : Placement → Page → Type 0
 CanLeave p q = IsThere p q × AtRest (state_of p q)
 
 can_still : (p : Placement) (v w : Page) → CanLeave p v → CanLeave p w → CanLeave (leave_page p v) w
-can_still p v w c d = ((let h = leave_length p v w in let l = d.0 in omega arith), elim (page_cases w v) [
-  | inl e ↦ subst (λ (x : Page). AtRest (state_of (leave_page p v) x)) (sym e) (aside_rest (leave_page p v) v (leave_here p v c.0 c.1))
-  | inr n ↦ subst AtRest (sym (ap (λ (x : Slot). x.state) (leave_other p v w n))) d.1
-])
+can_still p v w c d = (
+  (let h = leave_length p v w in let l = d.0 in omega arith),
+  elim (page_cases w v) [
+    | inl e ↦ subst (λ (x : Page). AtRest (state_of (leave_page p v) x)) (sym e) (aside_rest (leave_page p v) v (leave_here p v c.0 c.1))
+    | inr n ↦ subst AtRest (sym (ap (λ (x : Slot). x.state) (leave_other p v w n))) d.1
+  ],
+)
 
 leave_all_keeps : (qs : List Page) (p : Placement) (w : Page) → EachPage (CanLeave p) qs → IsAside p w → IsAside (leave_all p qs) w
 leave_all_keeps [] p w c a = a

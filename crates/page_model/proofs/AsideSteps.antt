@@ -1,5 +1,5 @@
 -- Each paging entry keeps all of ownership: frames, blocks, and text that nobody shares.
-use Rattle.std.proofs.Common.{◌≡◌, ◌≢◌, ◌⊎◌, inl, inr, ℕ, zero, suc, ◌+◌, ◌*◌, ◌<◌, ◌≤◌, ◌&&◌, Bool, true, false, not, List, [], ◌∷◌, ◌++◌, length, Option, Some, None, refl, sym, ap, ◌∙◌, subst, arith}
+use Rattle.std.proofs.Common.{◌≡◌, ◌≢◌, inl, inr, ℕ, zero, suc, ◌+◌, ◌<◌, Bool, true, false, List, [], ◌∷◌, ◌++◌, length, Option, Some, None, refl, sym, ap, ◌∙◌, subst, arith}
 use Rattle.vm_facts.specs.declared.page.Page.{Page}
 use Rattle.vm_facts.specs.declared.page.Page.TheVariants.{Data, Stack, Text}
 use Rattle.vm_facts.specs.declared.page.PageState.{PageState}
@@ -9,9 +9,9 @@ use Rattle.vm_facts.specs.declared.entry.Entry.TheVariants as entries
 use Rattle.swap_book.specs.Holdings.{Holdings}
 use Rattle.page_model.specs.Pages.{frame_of, is_among, same_page, written_mark, number_of, beside, pages_from}
 use Rattle.page_model.specs.Frames.{times, without}
-use Rattle.page_model.specs.Placement.{Placement, Transfer, Part, Errand, Writes, Reads, Source, slots_of, state_of, mark_of, is_dirty, page_of, parts_of, moving_state, sharers, IsThere, put}
-use Rattle.page_model.specs.Moves.{evict, enter, turn, fill, fill_at, begin, join_last, get_one, get_at, get_all, get_run, launch, launch_to, launch_all, launch_run, land, land_read, land_all, done, done_of, arrived_mark, reclaim, reclaim_to, retire, retire_to}
-use Rattle.page_model.specs.Runs.{run_out, pages_of_run, run_in}
+use Rattle.page_model.specs.Placement.{Placement, Transfer, Part, Errand, Writes, Reads, Source, slots_of, state_of, mark_of, is_dirty, page_of, parts_of, moving_state, sharers, put}
+use Rattle.page_model.specs.Moves.{evict, turn, fill_at, begin, join_last, get_one, get_at, get_all, get_run, launch, launch_to, launch_all, launch_run, land, land_read, land_all, done, done_of, arrived_mark, reclaim, reclaim_to, retire, retire_to}
+use Rattle.page_model.specs.Runs.{run_out, pages_of_run}
 use Rattle.page_model.specs.Hands.{expire, expire_of, expire_if, expire_to, sweep, sweep_of, sweep_to, sweep_by, hand_move, hand_moves}
 use Rattle.page_model.specs.Place.{filled, put_step, put_by, place_entry}
 use Rattle.page_model.specs.Serve.{source_for, read_errand}
@@ -27,7 +27,7 @@ use Rattle.page_model.proofs.RunLaws.{each_page_imp, each_page_both, pages_from_
 use Rattle.page_model.proofs.OwnsRuns.{begin_owner, get_enters_still, get_open_still, launch_still, launch_open_still, clean_unmarked, written_clean, coming_clean, Landing, landing_state, land_owner, land_transfers, tail_turns, valid_turns}
 use Rattle.page_model.proofs.OwnsHands.{run_out_seats, move_owner}
 use Rattle.page_model.proofs.OwnsEntries.{place_entry_owner}
-use Rattle.page_model.proofs.Stays.{Steady, steady_self, Stays, launch_run_steady, retire_steady, move_stays, done_steady}
+use Rattle.page_model.proofs.Stays.{Steady, Stays, launch_run_steady, retire_steady, move_stays, done_steady}
 use Rattle.page_model.proofs.Asides.{IsBusy, turn_aside, enter_aside, evict_aside, evict_sharers, blocks_still}
 
 some_free : (p : Placement) (f : ℕ) (rest : List ℕ) → p.free ≡ f ∷ rest → 0 < times f p.free

@@ -1,24 +1,23 @@
 -- Text that nobody shares stays aside, and each page that needs its blocks has them.
-use Rattle.std.proofs.Common.{◌≡◌, ◌≢◌, ◌⊎◌, inl, inr, ℕ, zero, suc, ◌+◌, ◌*◌, ◌<◌, ◌≤◌, ◌&&◌, Bool, true, false, not, List, [], ◌∷◌, ◌++◌, length, Option, Some, None, IsSome, refl, sym, ap, ◌∙◌, subst, arith}
+use Rattle.std.proofs.Common.{◌≡◌, ◌⊎◌, inl, inr, ℕ, zero, suc, ◌*◌, ◌<◌, ◌≤◌, Bool, true, false, List, length, Option, Some, None, IsSome, refl, sym, ap, ◌∙◌, subst, arith}
 use Rattle.vm_facts.specs.declared.page.Page.{Page}
 use Rattle.vm_facts.specs.declared.page.Page.TheVariants.{Data, Stack, Text}
 use Rattle.vm_facts.specs.declared.page.PageState.{PageState}
 use Rattle.vm_facts.specs.declared.page.PageState.TheVariants.{Unfilled, Valid, Invalid, Coming, Going, OnSwap}
-use Rattle.swap_dmap.specs.Chunks.{pieces, text_pieces}
+use Rattle.swap_dmap.specs.Chunks.{pieces}
 use Rattle.swap_book.specs.declared.Owner.TheVariants as owners
-use Rattle.swap_book.specs.Holdings.{Holdings, lengths, block_in}
-use Rattle.swap_book.specs.Book.{IsBook, ArePlacesApart}
+use Rattle.swap_book.specs.Holdings.{Holdings}
+use Rattle.swap_book.specs.Book.{ArePlacesApart}
 use Rattle.swap_book.proofs.PlaceLaws.{places_apart_of}
 use Rattle.page_model.specs.Pages.{Slot, frame_of, number_of, left_state, is_among, same_page, written_mark}
-use Rattle.page_model.specs.Frames.{times, without}
-use Rattle.page_model.specs.Placement.{Placement, Transfer, Part, Errand, Writes, Reads, Source, slots_of, slot_of, state_of, mark_of, is_dirty, page_of, parts_of, moving_state, sharers, IsThere, put}
-use Rattle.page_model.specs.Moves.{evict, evict_at, enter, turn, fill, fill_at, begin, join_last, get_one, get_at, get_all, get_run, launch, launch_to, launch_all, launch_run, land, land_read, land_all, done, done_of, arrived_mark, reclaim, reclaim_to, retire, retire_to}
-use Rattle.page_model.specs.Conditions.{EachPage, AllApart, CanEnter, IsSeated, HasSeat, IsShared}
-use Rattle.page_model.specs.Ownership.{OwnsFrames, OwnsBlocks, OneOwner, IsAside, TextAside, IsListed, owner_of, block_of, text_pieces_while, needs_blocks, needs_blocks_by}
+use Rattle.page_model.specs.Frames.{times}
+use Rattle.page_model.specs.Placement.{Placement, Transfer, slots_of, slot_of, state_of, mark_of, page_of, sharers, IsThere}
+use Rattle.page_model.specs.Moves.{evict, evict_at, enter, turn}
+use Rattle.page_model.specs.Conditions.{IsShared}
+use Rattle.page_model.specs.Ownership.{OwnsFrames, OwnsBlocks, OneOwner, IsAside, TextAside, block_of, text_pieces_while, needs_blocks, needs_blocks_by}
 use Rattle.page_model.proofs.PageLaws.{page_cases, put_state, put_mark, put_sharers}
-use Rattle.page_model.proofs.Local.{Local, other_state, other_mark, none_some}
+use Rattle.page_model.proofs.Local.{Local, other_state, other_mark}
 use Rattle.page_model.proofs.Steps.{Turns, turn_local, Enters, enter_local, page_in, evict_local, evict_owner}
-use Rattle.page_model.proofs.OwnsServe.{state_there}
 use Rattle.page_model.proofs.Couples.{frame_apart}
 
 -- A step of one page and one frame keeps text aside, where it does so at that page.
@@ -75,8 +74,8 @@ evict_aside p f o a b = go (page_of p f) refl
         let there = page_in p v f (o.named f v e) in
         local_aside p (evict_at p f (Some v)) v f o (evict_local p f v o e) (put_sharers p v (left_state v (mark_of p v)) (mark_of p v)) a
         (λ i n k z.
-            let was : IsAside p v = subst (IsAside p) (sym k) (a i n z) in
-            record { unsaved = put_mark p v (left_state v (mark_of p v)) (mark_of p v) there ∙ was.unsaved; rests = inl (put_state p v (left_state v (mark_of p v)) (mark_of p v) there ∙ left_unfilled v (mark_of p v) i n k was.unsaved) })
+        let was : IsAside p v = subst (IsAside p) (sym k) (a i n z) in
+        record { unsaved = put_mark p v (left_state v (mark_of p v)) (mark_of p v) there ∙ was.unsaved; rests = inl (put_state p v (left_state v (mark_of p v)) (mark_of p v) there ∙ left_unfilled v (mark_of p v) i n k was.unsaved) })
 
 pub evict_sharers : (p : Placement) (f image : ℕ) → sharers (evict p f) image ≡ sharers p image
 evict_sharers p f image = go (page_of p f)

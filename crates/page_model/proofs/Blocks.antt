@@ -1,16 +1,15 @@
 -- The blocks of different pages don't meet, so a write of one page leaves all others as they are.
-use Rattle.std.proofs.Common.{◌≡◌, ◌≢◌, ◌⊎◌, inl, inr, ℕ, ◌+◌, ◌-◌, ◌*◌, ◌<◌, ◌≤◌, List, [], ◌∷◌, ◌++◌, length, take, drop, Option, Some, None, refl, sym, ap, ◌∙◌, subst, append_assoc, length-append, arith}
+use Rattle.std.proofs.Common.{◌≡◌, ◌≢◌, ◌⊎◌, inl, inr, ℕ, ◌+◌, ◌-◌, ◌*◌, ◌≤◌, List, ◌++◌, length, take, drop, Option, Some, None, refl, sym, ap, ◌∙◌, subst, append_assoc, length-append, arith}
 use Rattle.std.proofs.lemmas.List.{take_at, drop_at, drop-append-le, take-append-le, drop-take, take-take, drop-drop, length-take-le, length-drop}
 use Rattle.vm_facts.specs.declared.page.Page.{Page}
 use Rattle.vm_facts.specs.declared.page.Page.TheVariants.{Data, Stack, Text}
-use Rattle.swap_book.specs.Holdings.{Holdings, block_in}
+use Rattle.swap_book.specs.Holdings.{Holdings}
 use Rattle.swap_book.specs.Book.{IsBook, IsPlace, ArePlacesApart}
 use Rattle.swap_book.proofs.PlaceLaws.{places_apart_of}
 use Rattle.page_model.specs.Pages.{number_of}
 use Rattle.page_model.specs.Ownership.{owner_of, block_of}
 use Rattle.page_model.specs.Coupled.{Bytes, Stores}
 use Rattle.page_model.specs.Kernel.{blocks_at, put_blocks, stored_at, stored, store_at}
-use Rattle.page_model.proofs.Local.{none_some}
 
 -- Two blocks of an image, after a write of two.
 

@@ -1,13 +1,10 @@
 -- Spaces that grow, shrink, come and go keep the flat memory.
-use Rattle.std.proofs.Common.{◌≡◌, ◌≢◌, ◌⊎◌, inl, inr, ℕ, zero, suc, ◌+◌, ◌-◌, ◌<◌, ◌≤◌, ◌==◌, Bool, true, false, not, cond, List, [], ◌∷◌, ◌++◌, length, get_or, map, filter, Option, Some, None, refl, sym, ap, ◌∙◌, subst, arith}
+use Rattle.std.proofs.Common.{◌≡◌, ◌≢◌, ◌⊎◌, inl, inr, ℕ, zero, suc, ◌-◌, ◌<◌, ◌≤◌, List, [], ◌∷◌, length, get_or, Option, Some, None, refl, sym, ap, ◌∙◌, subst, arith}
 use Rattle.std.proofs.lemmas.Bool.{cases_eq}
-use Rattle.std.proofs.lemmas.List.{get_or_past}
 use Rattle.vm_facts.specs.declared.page.Page.{Page}
 use Rattle.vm_facts.specs.declared.page.Page.TheVariants.{Data, Stack, Text}
-use Rattle.vm_facts.specs.declared.page.PageState.{PageState}
-use Rattle.vm_facts.specs.declared.page.PageState.TheVariants.{Unfilled, Valid, Invalid, Coming, Going, OnSwap}
-use Rattle.page_model.specs.Pages.{Slot, Filling, Zeros, OfImage, no_slot, SpacePages, numbered, changed, data_in, stack_in, frame_of, number_of, beside, pages_from}
-use Rattle.page_model.specs.Placement.{Placement, Transfer, Moving, Due, space_number, filling_by, slots_of, slot_of, state_of, mark_of, filling_of, errand_at, due_at, parts_of, IsThere, unfilled}
+use Rattle.page_model.specs.Pages.{Slot, Filling, Zeros, no_slot, SpacePages, numbered, data_in, stack_in, frame_of, number_of}
+use Rattle.page_model.specs.Placement.{Placement, Transfer, Due, space_number, slots_of, slot_of, state_of, errand_at, due_at, parts_of, IsThere, unfilled}
 use Rattle.page_model.specs.Moves.{drop_at, drop_page, drop_all}
 use Rattle.page_model.specs.Place.{sized, cut_space, resize, data_count, stack_count, data_from, stack_from, remove_space, pages_of_space}
 use Rattle.page_model.specs.Conditions.{EachPage}
@@ -188,8 +185,11 @@ resize_coupled p sid d s b c k due same new text = changed_coupled p (resize p s
     one : (w : Page) → IsThere (resize p sid d s) w → (IsThere p w × Unmoved p (resize p sid d s) b c w) ⊎ Keeps (resize p sid d s) c w
     one w there = elim (cut_resizes dropped sid d s w there) [
       | inl h ↦ (let was : IsThere p w = (let e = drop_all_length (dropped_pages p sid d s) p w in let l = h.0 in omega arith) in
-          inl (was, still_unmoved p (resize p sid d s) b c w (h.1 ∙ drop_all_other (dropped_pages p sid d s) p w (kept_apart dropped p sid d s w there))
-          ((drop_all_rest (dropped_pages p sid d s) p).0) (due_none (resize p sid d s).due w no_due) (due_none p.due w due) (same w there was)))
+          inl (
+            was,
+            still_unmoved p (resize p sid d s) b c w (h.1 ∙ drop_all_other (dropped_pages p sid d s) p w (kept_apart dropped p sid d s w there))
+                ((drop_all_rest (dropped_pages p sid d s) p).0) (due_none (resize p sid d s).due w no_due) (due_none p.due w due) (same w there was),
+          ))
       | inr h ↦ inr (zero_keeps (resize p sid d s) c w h.0 h.1 (due_none (resize p sid d s).due w no_due) (new w there (let e = drop_all_length (dropped_pages p sid d s) p w in let l = h.2 in omega arith)))
     ]
 
@@ -227,7 +227,10 @@ removed_coupled p sid b c k due same text = changed_coupled p (remove_space drop
     one w there =
         let r = removed_there dropped sid w there in
         let was : IsThere p w = (let e = drop_all_length (pages_of_space p sid) p w in let h = ap length r.2 in omega arith) in
-        inl (was, still_unmoved p (remove_space dropped sid) b c w
-        (ap (λ (xs : List Slot). get_or xs (number_of w) no_slot) r.2 ∙ drop_all_other (pages_of_space p sid) p w (each_page_append (λ x. w ≢ x) (data_from sid 0 (data_count p sid)) (stack_from sid 0 (stack_count p sid))
-        (apart_data sid 0 (data_count p sid) w (λ v l. r.0 v)) (apart_stack sid 0 (stack_count p sid) w (λ v l. r.1 v))))
-        ((drop_all_rest (pages_of_space p sid) p).0) (due_none (remove_space dropped sid).due w no_due) (due_none p.due w due) (same w there was))
+        inl (
+          was,
+          still_unmoved p (remove_space dropped sid) b c w
+              (ap (λ (xs : List Slot). get_or xs (number_of w) no_slot) r.2 ∙ drop_all_other (pages_of_space p sid) p w (each_page_append (λ x. w ≢ x) (data_from sid 0 (data_count p sid)) (stack_from sid 0 (stack_count p sid))
+              (apart_data sid 0 (data_count p sid) w (λ v l. r.0 v)) (apart_stack sid 0 (stack_count p sid) w (λ v l. r.1 v))))
+              ((drop_all_rest (pages_of_space p sid) p).0) (due_none (remove_space dropped sid).due w no_due) (due_none p.due w due) (same w there was),
+        )

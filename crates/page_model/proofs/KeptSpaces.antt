@@ -1,22 +1,21 @@
 -- Spaces that come, and texts that nobody shares any more, keep the flat memory.
-use Rattle.std.proofs.Common.{◌≡◌, ◌≢◌, ◌⊎◌, inl, inr, ℕ, zero, suc, ◌+◌, ◌-◌, ◌<◌, ◌≤◌, ◌==◌, ◌&&◌, Bool, true, false, not, cond, List, [], ◌∷◌, ◌++◌, length, get_or, map, Option, Some, None, refl, sym, ap, ◌∙◌, subst, arith}
+use Rattle.std.proofs.Common.{◌≡◌, ◌≢◌, ◌⊎◌, inl, inr, ℕ, zero, suc, ◌+◌, ◌<◌, Bool, true, false, cond, List, [], ◌∷◌, ◌++◌, length, get_or, map, Option, Some, None, refl, sym, ap, ◌∙◌, subst, arith}
 use Rattle.std.proofs.lemmas.Bool.{cases_eq}
-use Rattle.std.proofs.lemmas.Bool.Decides.{nat_tests}
 use Rattle.vm_facts.specs.declared.page.Page.{Page}
 use Rattle.vm_facts.specs.declared.page.Page.TheVariants.{Data, Stack, Text}
 use Rattle.vm_facts.specs.declared.page.PageState.{PageState}
 use Rattle.vm_facts.specs.declared.page.PageState.TheVariants.{Unfilled, Valid, Invalid, Coming, Going, OnSwap}
 use Rattle.aout_image.specs.declared.Image.{Image}
 use Rattle.aout_image.specs.Image.{data_pages_of}
-use Rattle.page_model.specs.Pages.{Slot, Filling, Zeros, OfImage, no_slot, SpacePages, numbered, data_in, stack_in, frame_of, number_of, beside, pages_from, same_page, is_dirty_by}
+use Rattle.page_model.specs.Pages.{Slot, Filling, Zeros, OfImage, no_slot, SpacePages, data_in, stack_in, frame_of, number_of, same_page, is_dirty_by}
 use Rattle.page_model.specs.Frames.{times}
-use Rattle.page_model.specs.Placement.{Placement, Transfer, Due, Start, CopyOf, due_page, space_number, filling_by, slots_of, slot_of, state_of, mark_of, filling_of, is_dirty, due_at, image_of, sharers, IsThere, unfilled, unfilled_data, data_filling, new_pages, put}
+use Rattle.page_model.specs.Placement.{Placement, Due, Start, CopyOf, due_page, slots_of, slot_of, state_of, filling_of, is_dirty, due_at, image_of, sharers, IsThere, unfilled, unfilled_data, data_filling, new_pages, put}
 use Rattle.page_model.specs.Moves.{turn, leave_by, leave_page, leave_all, listed, listed_of}
 use Rattle.page_model.specs.Place.{child_slot, child_slot_by, copy_due, copies_from, fork_space, enter_space, leave_text, leave_text_by, pages_of_text}
-use Rattle.page_model.specs.Conditions.{EachPage, IsSeated, IsNew}
+use Rattle.page_model.specs.Conditions.{EachPage, IsNew}
 use Rattle.page_model.specs.Ownership.{OwnsFrames}
-use Rattle.page_model.specs.Coupled.{zeros, Bytes, bytes_in, IsInFrame, KeepsUnfilled, IsUnsaved, KeepsBy, Keeps, CouplesPages, SameBytes, Copies, FillsBy}
-use Rattle.page_model.proofs.PageLaws.{page_cases, put_state, put_mark, put_same, put_other, put_length, same_page_self, same_page_is}
+use Rattle.page_model.specs.Coupled.{Bytes, bytes_in, IsInFrame, KeepsUnfilled, KeepsBy, Keeps, CouplesPages, SameBytes, Copies, FillsBy}
+use Rattle.page_model.proofs.PageLaws.{page_cases, put_state, put_mark, put_other, put_length, same_page_self, same_page_is}
 use Rattle.page_model.proofs.Steps.{page_in}
 use Rattle.page_model.proofs.Owns.{retire_turns}
 use Rattle.page_model.proofs.RunLaws.{pages_from_each}
@@ -38,7 +37,9 @@ forgotten_coupled p image n b k = changed_coupled p (put p (Text image n) Unfill
           | inl e ↦ inr (subst (Keeps (put p (Text image n) Unfilled false) b) (sym e)
               (subst (KeepsBy (put p (Text image n) Unfilled false) b (Text image n)) (sym (put_state p (Text image n) Unfilled false (subst (IsThere p) e was)))
               (subst (λ (d : Option Due). KeepsUnfilled b (Text image n) d OfImage) (sym (k.text_due image n)) (k.text image n), put_mark p (Text image n) Unfilled false (subst (IsThere p) e was))))
-          | inr d ↦ inl (was, record {
+          | inr d ↦ inl (
+            was,
+            record {
               slot = put_other p (Text image n) Unfilled false w d;
               due = refl;
               frames = λ g h. (refl, refl);
@@ -47,7 +48,8 @@ forgotten_coupled p image n b k = changed_coupled p (put p (Text image n) Unfill
               start = refl;
               memory = refl;
               copied = inl (λ x. refl);
-            })
+            },
+          )
         ]
 
 leave_page_coupled : (p : Placement) (image n : ℕ) (b : Bytes) → OwnsFrames p → CouplesPages p b → CouplesPages (leave_page p (Text image n)) b
@@ -264,9 +266,10 @@ stack_numbers : (sid : ℕ) → Numbers (Stack sid)
 stack_numbers sid a b e = ap number_of e
 
 not_new : (p : Placement) (sid : ℕ) (w : Page) → IsNew p sid → IsThere p w → ((v : ℕ) → Data sid v ≢ w) × ((v : ℕ) → Stack sid v ≢ w)
-not_new p sid w n there =
-    ((λ v e. absurd (let h : v < length (slots_of p (Data sid v)) = subst (IsThere p) (sym e) there in let k = ap (λ (o : Option SpacePages). length (data_in o)) n in omega arith)),
-    (λ v e. absurd (let h : v < length (slots_of p (Stack sid v)) = subst (IsThere p) (sym e) there in let k = ap (λ (o : Option SpacePages). length (stack_in o)) n in omega arith)))
+not_new p sid w n there = (
+  (λ v e. absurd (let h : v < length (slots_of p (Data sid v)) = subst (IsThere p) (sym e) there in let k = ap (λ (o : Option SpacePages). length (data_in o)) n in omega arith)),
+  (λ v e. absurd (let h : v < length (slots_of p (Stack sid v)) = subst (IsThere p) (sym e) there in let k = ap (λ (o : Option SpacePages). length (stack_in o)) n in omega arith)),
+)
 
 pub fork_coupled : (p : Placement) (parent child : ℕ) (b c : Bytes) → CouplesPages p b → IsNew p child → p.due ≡ [] → ((w : Page) → IsThere p w → SameBytes b c w)
     → ((v : ℕ) → Copies b c (Data child v) (Data parent v)) → ((v : ℕ) → Copies b c (Stack child v) (Stack parent v))
@@ -293,26 +296,30 @@ fork_coupled p parent child b c k new none same datas stacks text = added_couple
         let within : v < length (slots_of p (Data parent 0)) = (let h = map_length (slots_of p (Data parent 0)) in omega arith) in
         let slot : slot_of q (Data child v) ≡ child_slot (slot_of p (Data parent v)) = ap (λ (o : Option SpacePages). get_or (data_in o) v no_slot) (added_same child p.spaces x refl new) ∙ map_at (slots_of p (Data parent 0)) v within in
         let due : due_at q.due (Data child v) ≡ DueOf (Data child v) (Data parent v) (state_of p (Data parent v)) =
-            due_first ds ss (Data child v) (copies_apart (Stack child) (Stack parent) (Data child v) (λ n e. absurd cc) 0 (slots_of p (Stack parent 0))) ∙ copies_start (Data child) (Data parent) (data_numbers child) (slots_of p (Data parent 0)) v within in
-        subst (KeepsBy q c (Data child v)) (sym (ap (λ (y : Slot). y.state) slot ∙ child_state (slot_of p (Data parent v)) (state_of p (Data parent v))))
-        (subst (λ (o : Option Due). KeepsUnfilled c (Data child v) o (filling_of q (Data child v))) (sym due)
-        (subst (KeepsUnfilled c (Data child v) (DueOf (Data child v) (Data parent v) (state_of p (Data parent v)))) (sym (ap (λ (y : Slot). y.filling) slot))
-        (child_keeps b c (Data child v) (Data parent v) (slot_of p (Data parent v)) (state_of p (Data parent v)) (datas v) (let z : SameBytes b c (Data parent v) = same (Data parent v) within in z.memory)
-        (λ e. let y : KeepsUnfilled b (Data parent v) (due_at p.due (Data parent v)) (filling_of p (Data parent v)) × Unit {0} = keeps_at p b (Data parent v) Unfilled k within e in
-            subst (λ (o : Option Due). KeepsUnfilled b (Data parent v) o (filling_of p (Data parent v))) (due_none p.due (Data parent v) none) y.0))), tt)
+        due_first ds ss (Data child v) (copies_apart (Stack child) (Stack parent) (Data child v) (λ n e. absurd cc) 0 (slots_of p (Stack parent 0))) ∙ copies_start (Data child) (Data parent) (data_numbers child) (slots_of p (Data parent 0)) v within in
+        subst (KeepsBy q c (Data child v)) (sym (ap (λ (y : Slot). y.state) slot ∙ child_state (slot_of p (Data parent v)) (state_of p (Data parent v)))) (
+          subst (λ (o : Option Due). KeepsUnfilled c (Data child v) o (filling_of q (Data child v))) (sym due)
+              (subst (KeepsUnfilled c (Data child v) (DueOf (Data child v) (Data parent v) (state_of p (Data parent v)))) (sym (ap (λ (y : Slot). y.filling) slot))
+              (child_keeps b c (Data child v) (Data parent v) (slot_of p (Data parent v)) (state_of p (Data parent v)) (datas v) (let z : SameBytes b c (Data parent v) = same (Data parent v) within in z.memory)
+              (λ e. let y : KeepsUnfilled b (Data parent v) (due_at p.due (Data parent v)) (filling_of p (Data parent v)) × Unit {0} = keeps_at p b (Data parent v) Unfilled k within e in
+              subst (λ (o : Option Due). KeepsUnfilled b (Data parent v) o (filling_of p (Data parent v))) (due_none p.due (Data parent v) none) y.0))),
+          tt,
+        )
 
     stack_keeps : (v : ℕ) → v < length x.stack_pages → Keeps q c (Stack child v)
     stack_keeps v l =
         let within : v < length (slots_of p (Stack parent 0)) = (let h = map_length (slots_of p (Stack parent 0)) in omega arith) in
         let slot : slot_of q (Stack child v) ≡ child_slot (slot_of p (Stack parent v)) = ap (λ (o : Option SpacePages). get_or (stack_in o) v no_slot) (added_same child p.spaces x refl new) ∙ map_at (slots_of p (Stack parent 0)) v within in
         let due : due_at q.due (Stack child v) ≡ DueOf (Stack child v) (Stack parent v) (state_of p (Stack parent v)) =
-            due_skip ds ss (Stack child v) (copies_apart (Data child) (Data parent) (Stack child v) (λ n e. absurd cc) 0 (slots_of p (Data parent 0))) ∙ copies_start (Stack child) (Stack parent) (stack_numbers child) (slots_of p (Stack parent 0)) v within in
-        subst (KeepsBy q c (Stack child v)) (sym (ap (λ (y : Slot). y.state) slot ∙ child_state (slot_of p (Stack parent v)) (state_of p (Stack parent v))))
-        (subst (λ (o : Option Due). KeepsUnfilled c (Stack child v) o (filling_of q (Stack child v))) (sym due)
-        (subst (KeepsUnfilled c (Stack child v) (DueOf (Stack child v) (Stack parent v) (state_of p (Stack parent v)))) (sym (ap (λ (y : Slot). y.filling) slot))
-        (child_keeps b c (Stack child v) (Stack parent v) (slot_of p (Stack parent v)) (state_of p (Stack parent v)) (stacks v) (let z : SameBytes b c (Stack parent v) = same (Stack parent v) within in z.memory)
-        (λ e. let y : KeepsUnfilled b (Stack parent v) (due_at p.due (Stack parent v)) (filling_of p (Stack parent v)) × Unit {0} = keeps_at p b (Stack parent v) Unfilled k within e in
-            subst (λ (o : Option Due). KeepsUnfilled b (Stack parent v) o (filling_of p (Stack parent v))) (due_none p.due (Stack parent v) none) y.0))), tt)
+        due_skip ds ss (Stack child v) (copies_apart (Data child) (Data parent) (Stack child v) (λ n e. absurd cc) 0 (slots_of p (Data parent 0))) ∙ copies_start (Stack child) (Stack parent) (stack_numbers child) (slots_of p (Stack parent 0)) v within in
+        subst (KeepsBy q c (Stack child v)) (sym (ap (λ (y : Slot). y.state) slot ∙ child_state (slot_of p (Stack parent v)) (state_of p (Stack parent v)))) (
+          subst (λ (o : Option Due). KeepsUnfilled c (Stack child v) o (filling_of q (Stack child v))) (sym due)
+              (subst (KeepsUnfilled c (Stack child v) (DueOf (Stack child v) (Stack parent v) (state_of p (Stack parent v)))) (sym (ap (λ (y : Slot). y.filling) slot))
+              (child_keeps b c (Stack child v) (Stack parent v) (slot_of p (Stack parent v)) (state_of p (Stack parent v)) (stacks v) (let z : SameBytes b c (Stack parent v) = same (Stack parent v) within in z.memory)
+              (λ e. let y : KeepsUnfilled b (Stack parent v) (due_at p.due (Stack parent v)) (filling_of p (Stack parent v)) × Unit {0} = keeps_at p b (Stack parent v) Unfilled k within e in
+              subst (λ (o : Option Due). KeepsUnfilled b (Stack parent v) o (filling_of p (Stack parent v))) (due_none p.due (Stack parent v) none) y.0))),
+          tt,
+        )
 
 -- A new image.
 
@@ -347,10 +354,12 @@ enter_coupled p sid image facts b c k new none same datas start text = added_cou
         let within : v < data_pages_of facts = (let h = unfilled_length facts 0 (data_pages_of facts) in omega arith) in
         let zero_plus : 0 + v ≡ v = omega arith in
         let slot : slot_of q (Data sid v) ≡ unfilled (data_filling facts v) = ap (λ (o : Option SpacePages). get_or (data_in o) v no_slot) (added_same sid p.spaces (new_pages sid image facts) refl new)
-            ∙ unfilled_at facts 0 (data_pages_of facts) v within ∙ ap (λ (w : ℕ). unfilled (data_filling facts w)) zero_plus in
-        subst (KeepsBy q c (Data sid v)) (sym (ap (λ (y : Slot). y.state) slot))
-        (subst (λ (o : Option Due). KeepsUnfilled c (Data sid v) o (filling_of q (Data sid v))) (sym (start_other sid (Data sid v) (λ e. absurd cc)))
-        (subst (KeepsUnfilled c (Data sid v) None) (sym (ap (λ (y : Slot). y.filling) slot)) (fills_keeps c (Data sid v) (data_filling facts v) (datas v within))), tt)
+        ∙ unfilled_at facts 0 (data_pages_of facts) v within ∙ ap (λ (w : ℕ). unfilled (data_filling facts w)) zero_plus in
+        subst (KeepsBy q c (Data sid v)) (sym (ap (λ (y : Slot). y.state) slot)) (
+          subst (λ (o : Option Due). KeepsUnfilled c (Data sid v) o (filling_of q (Data sid v))) (sym (start_other sid (Data sid v) (λ e. absurd cc)))
+              (subst (KeepsUnfilled c (Data sid v) None) (sym (ap (λ (y : Slot). y.filling) slot)) (fills_keeps c (Data sid v) (data_filling facts v) (datas v within))),
+          tt,
+        )
 
     stack_slot : (v : ℕ) → v < 1 → slot_of q (Stack sid v) ≡ unfilled Zeros
     stack_slot zero l = ap (λ (o : Option SpacePages). get_or (stack_in o) 0 no_slot) (added_same sid p.spaces (new_pages sid image facts) refl new)

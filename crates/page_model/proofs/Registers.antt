@@ -4,7 +4,7 @@ use Rattle.std.proofs.lemmas.List.{take_at}
 use Rattle.std.specs.Prelude.{flat_map, replicate}
 use Rattle.vm_facts.specs.declared.regs.Regs.{Regs}
 use Rattle.aout_image.specs.Image.{word_bytes}
-use Rattle.page_model.specs.Kernel.{bit_of, codes_of, u_page, longwords, has_bit, regs_from, regs_in, AllLongwords, AreRegs}
+use Rattle.page_model.specs.Kernel.{bit_of, codes_of, u_page, longwords, regs_from, regs_in, AllLongwords, AreRegs}
 
 word_is : (w : ℕ) → w < 2 ^ 32 → w % 2 ^ 8 + 2 ^ 8 * (w / 2 ^ 8 % 2 ^ 8) + 2 ^ 16 * (w / 2 ^ 16 % 2 ^ 8) + 2 ^ 24 * (w / 2 ^ 24 % 2 ^ 8) ≡ w
 word_is w h = omega arith
@@ -56,9 +56,9 @@ regs_back regs d s a ld ls =
     let k : AllLongwords (regs.r ++ codes_of regs ∷ d ∷ s ∷ []) = words_more regs.r (codes_of regs ∷ d ∷ s ∷ []) a.each ((let h = codes_small regs.n regs.z regs.v regs.c in omega arith), (ld, (ls, tt))) in
     let n : length (regs.r ++ codes_of regs ∷ d ∷ s ∷ []) ≡ length regs.r + 3 = length-append-3 regs.r (codes_of regs) d s in
     let r : longwords 16 (flat_map word_bytes (regs.r ++ codes_of regs ∷ d ∷ s ∷ []) ++ replicate 948 0) ≡ regs.r =
-        words_read 16 (regs.r ++ codes_of regs ∷ d ∷ s ∷ []) (replicate 948 0) (omega (arith, a.count)) k ∙ take_at regs.r (codes_of regs ∷ d ∷ s ∷ []) 16 a.count in
+    words_read 16 (regs.r ++ codes_of regs ∷ d ∷ s ∷ []) (replicate 948 0) (omega (arith, a.count)) k ∙ take_at regs.r (codes_of regs ∷ d ∷ s ∷ []) 16 a.count in
     let c : get_or (longwords 17 (flat_map word_bytes (regs.r ++ codes_of regs ∷ d ∷ s ∷ []) ++ replicate 948 0)) 16 0 ≡ codes_of regs =
-        ap (λ (xs : List ℕ). get_or xs 16 0) (words_read 17 (regs.r ++ codes_of regs ∷ d ∷ s ∷ []) (replicate 948 0) (omega (arith, a.count)) k) ∙ get_at 16 regs.r (codes_of regs) (d ∷ s ∷ []) a.count in
+    ap (λ (xs : List ℕ). get_or xs 16 0) (words_read 17 (regs.r ++ codes_of regs ∷ d ∷ s ∷ []) (replicate 948 0) (omega (arith, a.count)) k) ∙ get_at 16 regs.r (codes_of regs) (d ∷ s ∷ []) a.count in
     ap (λ (x : List ℕ). regs_from x (get_or (longwords 17 (flat_map word_bytes (regs.r ++ codes_of regs ∷ d ∷ s ∷ []) ++ replicate 948 0)) 16 0)) r
     ∙ ap (regs_from regs.r) c ∙ codes_back regs.r regs.n regs.z regs.v regs.c
   where

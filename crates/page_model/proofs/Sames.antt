@@ -1,22 +1,22 @@
 -- What a step leaves alone is the same, and what settling means.
-use Rattle.std.proofs.Common.{◌≡◌, ◌≢◌, ◌⊎◌, inl, inr, ℕ, zero, suc, ◌+◌, ◌-◌, ◌*◌, ◌/◌, ◌%◌, ◌^◌, ◌<◌, ◌≤◌, ◌==◌, ◌&&◌, ◌||◌, Bool, true, false, not, cond, List, [], ◌∷◌, ◌++◌, length, map, Option, Some, None, refl, sym, ap, ◌∙◌, subst, arith}
+use Rattle.std.proofs.Common.{◌≡◌, ◌≢◌, ◌⊎◌, inl, inr, ℕ, ◌+◌, ◌<◌, ◌==◌, ◌&&◌, ◌||◌, Bool, true, false, not, List, [], ◌∷◌, ◌++◌, map, Option, Some, None, refl, sym, ap, ◌∙◌, subst, arith}
 use Rattle.std.proofs.lemmas.Bool.{cases_eq}
 use Rattle.std.proofs.lemmas.Bool.Decides.{nat_tests}
 use Rattle.vm_facts.specs.declared.page.Page.{Page}
-use Rattle.vm_facts.specs.declared.page.Page.TheVariants.{Data, Stack, Text}
+use Rattle.vm_facts.specs.declared.page.Page.TheVariants.{Data, Stack}
 use Rattle.vm_facts.specs.declared.page.PageState.{PageState}
 use Rattle.vm_facts.specs.declared.page.PageState.TheVariants.{Unfilled, Valid, Invalid, Coming, Going, OnSwap}
-use Rattle.page_model.specs.Pages.{Slot, frame_of, left_state}
-use Rattle.page_model.specs.Frames.{times, at_frame, set_frame}
-use Rattle.page_model.specs.Placement.{Placement, Transfer, Part, Moving, Errand, Writes, Reads, Source, slot_of, state_of, mark_of, page_of, parts_of, flying, moving, moving_state, image_of, sharers, put}
-use Rattle.page_model.specs.Moves.{evict, evict_at, enter, fill, fill_at, begin, get_one, get_at, get_all, get_run, done, done_of}
+use Rattle.page_model.specs.Pages.{frame_of, left_state}
+use Rattle.page_model.specs.Frames.{times, at_frame}
+use Rattle.page_model.specs.Placement.{Placement, Transfer, Part, Moving, Errand, Writes, Reads, Source, state_of, mark_of, page_of, parts_of, flying, moving, image_of, sharers}
+use Rattle.page_model.specs.Moves.{evict, evict_at, fill_at, begin, get_one, get_at, get_all, get_run, done}
 use Rattle.page_model.specs.Place.{filled}
 use Rattle.page_model.specs.Swapper.{is_of_space, is_of_text, names_page, is_settled}
 use Rattle.page_model.specs.Conditions.{EachPage, AtRest, CanEnter, IsSettled}
 use Rattle.page_model.specs.Ownership.{OwnsFrames, Each, IsMoving, IsListed, seats}
 use Rattle.page_model.specs.Coupled.{Bytes, bytes_in, SamePage, with_frame, source_bytes, bytes_read, Stores, StoresAll, BytesBy, BytesAfter, NotIn}
 use Rattle.page_model.proofs.FrameLaws.{times_head, times_tail, at_set_other}
-use Rattle.page_model.proofs.PageLaws.{page_cases, put_other, put_state}
+use Rattle.page_model.proofs.PageLaws.{page_cases, put_state}
 use Rattle.page_model.proofs.Local.{some_is, none_some}
 use Rattle.page_model.proofs.Steps.{page_in, once_at, put_other_state, frame_of_moving, evict_owner, evict_page, left_frameless}
 use Rattle.page_model.proofs.OwnsRuns.{begin_owner}

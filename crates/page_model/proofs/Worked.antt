@@ -3,13 +3,13 @@ use Rattle.std.proofs.Common.{◌≡◌, ℕ, zero, suc, ◌+◌, Bool, true, fa
 use Rattle.vm_facts.specs.declared.page.Page.{Page}
 use Rattle.vm_facts.specs.declared.page.Page.TheVariants.{Data, Stack, Text}
 use Rattle.vm_facts.specs.declared.page.PageState.{PageState}
-use Rattle.vm_facts.specs.declared.page.PageState.TheVariants.{Unfilled, Valid, Invalid, Coming, Going, OnSwap}
-use Rattle.swap_dmap.specs.Chunks.{chunk, chunk_start, lowest, chunk_reached, counted_from, spot, text_spot}
-use Rattle.page_model.specs.Pages.{Slot, Zeros, OfImage}
+use Rattle.vm_facts.specs.declared.page.PageState.TheVariants.{Valid, Invalid, OnSwap}
+use Rattle.swap_dmap.specs.Chunks.{chunk, chunk_start, lowest, chunk_reached, counted_from, spot}
+use Rattle.page_model.specs.Pages.{Slot, Zeros}
 use Rattle.page_model.specs.Frames.{count_up}
-use Rattle.page_model.specs.Placement.{Placement, Transfer, Errand, Writes, Reads, state_of}
-use Rattle.page_model.specs.Moves.{reclaim}
-use Rattle.page_model.specs.Runs.{Run, run_in_by}
+use Rattle.page_model.specs.Placement.{Placement, Transfer, state_of}
+use Rattle.page_model.specs.Moves.{reclaim, drop_page}
+use Rattle.page_model.specs.Runs.{run_in_by}
 use Rattle.page_model.specs.Hands.{hand_move, hand_moves}
 
 slot : PageState → Bool → Slot
@@ -89,3 +89,31 @@ sizes_written p = map (λ (t : Transfer). length t.parts) p.transfers
 five_writes : sizes_written (hand_moves walked [] 66) ≡ 2 ∷ 16 ∷ 16 ∷ 1 ∷ 1 ∷ []
 unfolding walked data_slots held slot spot chunk_reached lowest chunk_start chunk counted_from sizes_written
 five_writes = refl
+
+-- A clean page in the frame at the back hand: its frame goes to the tail of the free list.
+
+tailed : Placement
+tailed = record walked {
+  spaces = record { sid = 1; image = 1; data_pages = slot (Invalid 1) false ∷ []; stack_pages = [] } ∷ [];
+  texts = [];
+  holds = Some (Data 1 0) ∷ replicate 63 None;
+  free = 2 ∷ 3 ∷ [];
+}
+
+clean_page_to_the_tail : (hand_move tailed []).free ≡ 2 ∷ 3 ∷ 1 ∷ []
+unfolding tailed walked slot
+clean_page_to_the_tail = refl
+
+-- The frame of a page that is dropped goes to the head.
+dropped_page_to_the_head : (drop_page tailed (Data 1 0)).free ≡ 1 ∷ 2 ∷ 3 ∷ []
+unfolding tailed walked slot
+dropped_page_to_the_head = refl
+
+-- a locked page is passed over
+locked_page_stays : state_of (hand_move walked (Data 1 14 ∷ [])) (Data 1 14) ≡ Valid 17
+unfolding walked data_slots held slot
+locked_page_stays = refl
+
+unlocked_page_is_invalid : state_of (hand_move walked []) (Data 1 14) ≡ Invalid 17
+unfolding walked data_slots held slot
+unlocked_page_is_invalid = refl

@@ -1,6 +1,6 @@
 -- Where the bytes of each page of a flat memory are: in its frame, on swap, in the file of its image, or nowhere,
 -- where they are zeros.
-use Rattle.std.specs.Prelude.{◌≡◌, ◌≢◌, ℕ, Bool, false, List, [], ◌∷◌, replicate, Option, Some, None}
+use Rattle.std.specs.Prelude.{◌≡◌, ◌≢◌, ℕ, Bool, true, false, List, [], ◌∷◌, replicate, Option, Some, None}
 use Rattle.vm_facts.specs.declared.page.Page.{Page}
 use Rattle.vm_facts.specs.declared.page.Page.TheVariants.{Data, Stack, Text}
 use Rattle.vm_facts.specs.declared.page.PageState.{PageState}
@@ -55,12 +55,18 @@ KeepsComing b q mark (Some Writes) = ⊥
 KeepsComing b q mark (Some (Reads FromSwap demanded)) = b.swap q ≡ b.memory q
 KeepsComing b q mark (Some (Reads FromFile demanded)) = (b.file q ≡ b.memory q) × IsFromFile q mark demanded
 
+-- of a page that is being written: text that is saved is on swap
+abbrev pub IfSaved : Bytes → Page → Bool → Type 0
+IfSaved b (Data sid v) dirty = Unit {0}
+IfSaved b (Stack sid v) dirty = Unit {0}
+IfSaved b (Text image v) saved = saved ≡ true → b.swap (Text image v) ≡ b.memory (Text image v)
+
 abbrev pub KeepsBy : Placement → Bytes → Page → PageState → Type 0
 KeepsBy p b q Unfilled = KeepsUnfilled b q (due_at p.due q) (filling_of p q) × IsUnsaved q (mark_of p q)
 KeepsBy p b q (Valid f) = IsInFrame b (is_dirty p q) f q
 KeepsBy p b q (Invalid f) = IsInFrame b (is_dirty p q) f q
 KeepsBy p b q (Coming f) = KeepsComing b q (mark_of p q) (errand_at (parts_of p.transfers) f)
-KeepsBy p b q (Going f) = bytes_in b f ≡ b.memory q
+KeepsBy p b q (Going f) = (bytes_in b f ≡ b.memory q) × IfSaved b q (mark_of p q)
 KeepsBy p b q OnSwap = b.swap q ≡ b.memory q
 
 -- the page's flat bytes are where its state says
