@@ -30,3 +30,4 @@ pub mod AsideSteps
 pub mod AsideChanges
 pub mod Sames
 pub mod Registers
+pub mod KernelLaws

@@ -16,3 +16,4 @@ pub mod Swapper
 pub mod Journal
 pub mod Change
 pub mod Kernel
+pub mod FlatStep
