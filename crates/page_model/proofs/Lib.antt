@@ -31,3 +31,4 @@ pub mod AsideChanges
 pub mod Sames
 pub mod Registers
 pub mod KernelLaws
+pub mod Units

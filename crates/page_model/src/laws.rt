@@ -15,8 +15,8 @@ ghost use Rattle.page_model.specs.Pages.{is_valid, number_of};
 ghost use Rattle.page_model.specs.Placement.{Placement, Transfer, Source, Reads, slots_of, state_of, IsThere, data_filling};
 ghost use Rattle.page_model.specs.Moves.{touch_all, touch, reclaim, done, get_run, drop_all};
 ghost use Rattle.page_model.specs.Hands.{hand_move};
-ghost use Rattle.page_model.specs.Place.{place_entry, place_step, place_change, filled, put_step, space_of_process, is_borrower, resize, fork_space, enter_space, remove_space, pages_of_space, leave_text};
-ghost use Rattle.page_model.specs.Serve.{force, serve_step, read_step, source_for};
+ghost use Rattle.page_model.specs.Place.{due_after, place_entry, place_step, place_change, filled, put_step, space_of_process, is_borrower, resize, fork_space, enter_space, remove_space, pages_of_space, leave_text};
+ghost use Rattle.page_model.specs.Serve.{force, serve_unit, serve_entry, serve_step, read_step, source_for};
 ghost use Rattle.page_model.specs.Swapper.{is_settled};
 ghost use Rattle.page_model.specs.Conditions.{EachPage, AllApart, CanEnter, HasSeat, IsNew, IsSettled, CanPlace, CanChange, EntryShared, MayForget, Spares};
 ghost use Rattle.page_model.specs.Rank.{far, rank, HandsStand, HasRoom};
@@ -96,4 +96,13 @@ pub fn forcing_ends()
 pub fn serving_ends()
     ensures falls { (p : Placement) (locked : List Page) (q : Page) → OwnsFrames p → HandsStand p → HasRoom p locked → IsThere p q → is_valid (state_of p q) ≡ false → rank (serve_step p locked q) locked q < rank p locked q }
     ensures spares { (p : Placement) (locked : List Page) (q : Page) → OwnsFrames p → IsThere p q → Spares p (serve_step p locked q) locked }
+{}
+
+/// The unit that serving asks for is its entry, whether waiting is allowed or not, and where there is none the page
+/// is valid or serving would wait; and its step is what the entry does to a placement, for a page that isn't the
+/// first that is due.
+pub fn serving_units()
+    ensures now { (p : Placement) (q : Page) → is_valid (state_of p q) ≡ false → serve_unit p q true ≡ Some (serve_entry p q) }
+    ensures unit { (p : Placement) (q : Page) (now : Bool) (e : Entry) → serve_unit p q now ≡ Some e → (is_valid (state_of p q) ≡ false) × (e ≡ serve_entry p q) }
+    ensures step { (locked : List Page) (at : ℕ) (p : Placement) (q : Page) → is_valid (state_of p q) ≡ false → due_after p.due q ≡ p.due → place_entry locked at p (serve_entry p q) ≡ serve_step p locked q }
 {}

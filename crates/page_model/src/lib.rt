@@ -16,6 +16,7 @@
 //! - `others_same`: a page that a step leaves alone has the same bytes in its frame and on swap.
 //! - `forcing_ends`: forcing a frame ends after no more moves than there are frames; locked pages stay valid.
 //! - `serving_ends`: serving a page ends; locked pages stay valid.
+//! - `serving_units`: the next unit of serving is its entry, and its step is what the entry does.
 //! - `registers_kept`: the registers that go out into a u page come back from it.
 #![tactic(auto)]
 
