@@ -1,13 +1,12 @@
 -- What the end of a transfer does to the swap image and to the frames is what the laws of coupling ask.
-use Rattle.std.proofs.Common.{◌≡◌, ◌≢◌, ℕ, ◌+◌, ◌*◌, ◌<◌, ◌≤◌, List, [], ◌∷◌, length, map, Option, Some, None, refl, sym, ap, ◌∙◌, subst, arith}
+use Rattle.std.proofs.Common.{◌≡◌, ℕ, ◌*◌, ◌≤◌, List, [], ◌∷◌, length, map, Option, Some, refl, ap, ◌∙◌, arith}
 use Rattle.vm_facts.specs.Flat.{FlatState}
-use Rattle.vm_facts.specs.declared.page.Page.{Page}
 use Rattle.swap_book.specs.Book.{IsBook}
 use Rattle.page_model.specs.Flat.{NamedImage}
 use Rattle.page_model.specs.Placement.{Part, Source, FromSwap, FromFile}
 use Rattle.page_model.specs.Ownership.{block_of}
 use Rattle.page_model.specs.Coupled.{Bytes, source_bytes, bytes_read, StoresAll}
-use Rattle.page_model.specs.Kernel.{Kernel, frame_bytes, read_into, store_at, store_all, put_blocks, beside_kernel}
+use Rattle.page_model.specs.Kernel.{Kernel, frame_bytes, read_into, store_at, store_all, beside_kernel}
 use Rattle.page_model.proofs.Blocks.{page_within, length_put, image_stores}
 
 -- the page of a part has blocks, and its frame a page's bytes
@@ -28,10 +27,11 @@ written_bytes (x ∷ xs) size k images flat image book l a =
     let c : CanStore k x = a.0 in
     let w = page_within size k.holdings x.page c.block book c.found in
     let same : length (store_at image (block_of k.holdings x.page) (frame_bytes k x.frame)) ≡ length image =
-        ap (λ (o : Option ℕ). length (store_at image o (frame_bytes k x.frame))) c.found ∙ length_put image (frame_bytes k x.frame) c.block (omega arith) c.whole in
-    (beside_kernel k images (store_at image (block_of k.holdings x.page) (frame_bytes k x.frame)) flat,
-    image_stores size k.holdings image (frame_bytes k x.frame) x.page c.block (beside_kernel k images image flat) book l c.whole c.found,
-    written_bytes xs size k images flat (store_at image (block_of k.holdings x.page) (frame_bytes k x.frame)) book (omega arith) a.1)
+    ap (λ (o : Option ℕ). length (store_at image o (frame_bytes k x.frame))) c.found ∙ length_put image (frame_bytes k x.frame) c.block (omega arith) c.whole in (
+      beside_kernel k images (store_at image (block_of k.holdings x.page) (frame_bytes k x.frame)) flat,
+      image_stores size k.holdings image (frame_bytes k x.frame) x.page c.block (beside_kernel k images image flat) book l c.whole c.found,
+      written_bytes xs size k images flat (store_at image (block_of k.holdings x.page) (frame_bytes k x.frame)) book (omega arith) a.1,
+    )
 
 -- what is read, page by page
 abbrev pub pages_read : Bytes → Source → List Part → List (List ℕ)

@@ -32,3 +32,4 @@ pub mod Sames
 pub mod Registers
 pub mod KernelLaws
 pub mod Units
+pub mod SpaceLaws

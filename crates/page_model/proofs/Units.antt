@@ -1,5 +1,5 @@
 -- The unit that serving asks for, its entry and its step say the same.
-use Rattle.std.proofs.Common.{◌≡◌, ℕ, ◌+◌, Bool, true, false, List, [], ◌∷◌, Option, Some, None, refl, sym, ap, ◌∙◌, subst}
+use Rattle.std.proofs.Common.{◌≡◌, ℕ, Bool, true, false, List, [], ◌∷◌, Some, refl, sym, ap, ◌∙◌}
 use Rattle.vm_facts.specs.declared.page.Page.{Page}
 use Rattle.vm_facts.specs.declared.page.PageState.{PageState}
 use Rattle.vm_facts.specs.declared.page.PageState.TheVariants.{Unfilled, Valid, Invalid, Coming, Going, OnSwap}
@@ -9,7 +9,7 @@ use Rattle.page_model.specs.Pages.{Filling, Zeros, OfImage, is_valid}
 use Rattle.page_model.specs.Placement.{Placement, Transfer, Due, state_of, filling_of}
 use Rattle.page_model.specs.Moves.{fill}
 use Rattle.page_model.specs.Place.{due_after, filled, place_entry}
-use Rattle.page_model.specs.Serve.{force_by, force_entry, force, read_if, read_entry_if, bring_by, bring_entry_by, feed_by, feed_entry_by, feed_unit_by, when_now, serve_by, serve_step, serve_entry, serve_entry_by, serve_unit, serve_unit_by, is_full}
+use Rattle.page_model.specs.Serve.{force_by, force_entry, read_if, read_entry_if, bring_by, bring_entry_by, feed_by, feed_entry_by, feed_unit_by, when_now, serve_by, serve_step, serve_entry, serve_entry_by, serve_unit, serve_unit_by, is_full}
 
 -- where waiting is allowed, a page that isn't valid has a next unit, and it is the entry
 pub now_unit : (p : Placement) (q : Page) → is_valid (state_of p q) ≡ false → serve_unit p q true ≡ Some (serve_entry p q)

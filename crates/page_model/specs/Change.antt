@@ -8,9 +8,18 @@ use Rattle.page_model.specs.Flat.{NamedImage, image_numbered, process_of, space_
 use Rattle.page_model.specs.declared.change.Change.{Change}
 use Rattle.page_model.specs.declared.change.Change.TheVariants.{Keep, Resize, Fork, Lend, Exec, Reap, Sleep, End}
 
+abbrev pub replaced_by : Bool → Process → Process → List Process → List Process → List Process
+replaced_by true p q more changed = p ∷ more
+replaced_by false p q more changed = q ∷ changed
+
+-- the first process with this one's number gives way to it
+unfoldable pub replaced : List Process → Process → List Process
+replaced [] p = []
+replaced (q ∷ more) p = replaced_by (q.pid == p.pid) p q more (replaced more p)
+
 -- this process in place of the one with its number
 abbrev pub with_process : FlatState → Process → FlatState
-with_process F p = record F { processes = map (λ q. if q.pid == p.pid then p else q) F.processes }
+with_process F p = record F { processes = replaced F.processes p }
 
 abbrev pub without_process : FlatState → ℕ → FlatState
 without_process F pid = record F { processes = filter (λ q. not (q.pid == pid)) F.processes }
@@ -57,24 +66,30 @@ lent F p s child = with_child (with_process F record p { holding = Lends s.sid c
 
 -- A borrowed space goes back.
 
-abbrev pub returned : ℕ → Space → Holding → Holding
-returned pid s (Holds t) = Holds t
-returned pid s (Lends sid child) = if child == pid then Holds s else Lends sid child
-returned pid s (Zombie status) = Zombie status
+-- it is what was lent to this process
+abbrev pub lends_to : ℕ → Holding → Bool
+lends_to pid (Holds s) = false
+lends_to pid (Lends sid child) = child == pid
+lends_to pid (Zombie status) = false
 
-abbrev pub with_returned : ℕ → Space → Process → Process
-with_returned pid s q = record q { holding = returned pid s q.holding }
+abbrev pub returned_by : Bool → Space → Process → List Process → List Process → List Process
+returned_by true s q more changed = record q { holding = Holds s } ∷ more
+returned_by false s q more changed = q ∷ changed
 
 -- who lent to this process has the space again, as it is
+unfoldable pub returned : ℕ → Space → List Process → List Process
+returned pid s [] = []
+returned pid s (q ∷ more) = returned_by (lends_to pid q.holding) s q more (returned pid s more)
+
 abbrev pub given_back : FlatState → ℕ → Space → FlatState
-given_back F pid s = record F { processes = map (with_returned pid s) F.processes }
+given_back F pid s = record F { processes = returned pid s F.processes }
 
 -- A new image.
 
 abbrev pub entered : FlatState → Process → Space → ℕ → Option NamedImage → List ℕ → FlatState
 entered F p s image None top = F
 entered F p s image (Some named) top =
-    record (with_process (given_back F p.pid s) record p { holding = Holds (space_with F.next_sid image named.image top) }) {
+    record (given_back (with_process F record p { holding = Holds (space_with F.next_sid image named.image top) }) p.pid s) {
       next_sid = F.next_sid + 1;
     }
 
@@ -101,13 +116,15 @@ awake pid q = record q { asleep = if q.pid == pid then false else q.asleep }
 abbrev pub woken : FlatState → ℕ → FlatState
 woken F pid = record F { processes = map (awake pid) F.processes }
 
--- with no parent the process is gone; else it is a zombie, and its parent sleeps no more
-abbrev pub left : Bool → FlatState → Process → ℕ → FlatState
-left true F p status = without_process F p.pid
-left false F p status = woken (with_process F record p { holding = Zombie status }) p.parent
+-- a zombie with no parent is gone; the parent of another one sleeps no more
+abbrev pub left : Bool → FlatState → ℕ → ℕ → FlatState
+left true F pid parent = without_process F pid
+left false F pid parent = woken F parent
 
+-- the process is a zombie, its space goes back where it was borrowed, and its children have no parent
 abbrev pub ended : FlatState → Process → Space → ℕ → FlatState
-ended F p s status = left (p.parent == 0) (orphaned (given_back F p.pid s) p.pid) p status
+ended F p s status =
+    left (p.parent == 0) (orphaned (given_back (with_process F record p { holding = Zombie status }) p.pid s) p.pid) p.pid p.parent
 
 -- All changes.
 

@@ -17,3 +17,4 @@ pub mod Journal
 pub mod Change
 pub mod Kernel
 pub mod FlatStep
+pub mod Writes

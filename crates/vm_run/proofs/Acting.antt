@@ -11,7 +11,7 @@ use Rattle.io_edge.specs.FileHolding.{NamedFile}
 use Rattle.page_model.specs.declared.spot.Spot.{Spot}
 use Rattle.page_model.specs.declared.spot.Spot.TheVariants.{Text, Data, Stack, Below, Outside}
 use Rattle.vm_run.specs.InterimInputs.{Inputs}
-use Rattle.flat_model.specs.Instruction.{instruction_in}
+use Rattle.vm_run.specs.InterimInstruction.{instruction_in}
 use Rattle.page_model.specs.Journal.{append, counted, instructions_of}
 use Rattle.vm_run.specs.InterimRun.{Point, point_after}
 use Rattle.page_model.proofs.Joins.{append_counted}

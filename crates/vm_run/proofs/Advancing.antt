@@ -18,7 +18,7 @@ use Rattle.vm_run.specs.declared.interim_calls.Reply.{Reply}
 use Rattle.vm_run.specs.declared.interim_calls.Reply.TheVariants.{Exits, Fails, Writes}
 use Rattle.vm_run.specs.declared.interim_calls.SystemCall.{SystemCall}
 use Rattle.vm_run.specs.InterimCalls.{reply_of, or_fault, call_of}
-use Rattle.flat_model.specs.Instruction.{instruction_in}
+use Rattle.vm_run.specs.InterimInstruction.{instruction_in}
 use Rattle.vm_run.specs.InterimStep.{replied, call_entry, answered, pages_down_to, lengthened}
 use Rattle.vm_run.specs.declared.running.Running.{Running}
 use Rattle.vm_run.specs.Resident.{Resident, AllWhole, resident_answers, resident_spot, IsWaiting, Wrote, Stands, longer}

@@ -14,7 +14,7 @@ use Rattle.user_vax.specs.declared.refused.Refused.TheVariants.{Miss, Below, Sig
 use Rattle.page_model.specs.Flat.{process_of}
 use Rattle.page_model.specs.Space.{answers_of, puts}
 use Rattle.vm_run.specs.declared.interim_calls.SystemCall.{SystemCall}
-use Rattle.flat_model.specs.Instruction.{instruction_in}
+use Rattle.vm_run.specs.InterimInstruction.{instruction_in}
 use Rattle.vm_run.specs.declared.interim_calls.Reply.{Reply}
 use Rattle.vm_run.specs.declared.interim_calls.Reply.TheVariants.{Exits, Fails, Writes}
 use Rattle.vm_run.specs.InterimCalls.{number_of, reply_of, or_fault, call_of}

@@ -15,7 +15,7 @@ use Rattle.vm_run.specs.declared.interim_calls.Reply.{Reply}
 use Rattle.vm_run.specs.declared.interim_calls.Reply.TheVariants.{Exits, Fails, Writes}
 use Rattle.vm_run.specs.declared.interim_calls.SystemCall.{SystemCall}
 use Rattle.vm_run.specs.InterimCalls.{reply_of, or_fault, call_of}
-use Rattle.flat_model.specs.Instruction.{instruction_in}
+use Rattle.vm_run.specs.InterimInstruction.{instruction_in}
 use Rattle.vm_run.specs.InterimStep.{Step, ended, replied, call_entry, out_entries, answered, called, went_on, stepped, flat_step, pages_down_to, lengthened}
 use Rattle.vm_run.specs.InterimRun.{Point, is_refused, step_at, due, due_of, first_if, act, behind, point_after}
 use Rattle.vm_run.specs.declared.running.Mark.{Mark}

@@ -11,7 +11,7 @@ use Rattle.user_vax.specs.declared.refused.Refused.{Refused}
 use Rattle.user_vax.specs.declared.refused.Refused.TheVariants.{Miss, Below, Signal}
 use Rattle.page_model.specs.Flat.{process_of}
 use Rattle.page_model.specs.Space.{stack_top, answers_of, puts}
-use Rattle.flat_model.specs.Instruction.{instruction_in}
+use Rattle.vm_run.specs.InterimInstruction.{instruction_in}
 use Rattle.vm_run.specs.declared.interim_calls.Reply.{Reply}
 use Rattle.vm_run.specs.declared.interim_calls.Reply.TheVariants.{Exits, Fails, Writes}
 use Rattle.vm_run.specs.InterimCalls.{number_of, reply_of, or_fault, call_of}

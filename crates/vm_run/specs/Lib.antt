@@ -1,3 +1,4 @@
+pub mod InterimInstruction
 pub mod InterimInputs
 pub mod InterimCalls
 pub mod InterimStep

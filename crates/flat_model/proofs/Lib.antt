@@ -1,0 +1,4 @@
+pub mod Strings
+pub mod Gathering
+pub mod Listing
+pub mod Folds

@@ -1,0 +1,15 @@
+use Rattle.std.proofs.Common.{ℕ, ◌+◌, List, length, drop, ap, arith}
+use Rattle.page_model.specs.Flat.{strings_of}
+use Rattle.flat_model.proofs.Strings.{item_more, strings_count, area_short}
+use Rattle.flat_model.proofs.starting.strings_len.Goals as goal
+
+pub overflow_add-len-in-loop-argument : goal.overflow_add-len-in-loop-argument
+overflow_add-len-in-loop-argument c =
+    let more = ap (λ (ys : List (List ℕ)). length (strings_of ys)) (item_more c.args.arguments.now c.loop-argument.argument-index c.argument-item.result (omega arith) c.argument-item.is) in
+    let count = strings_count c.argument-item.result (drop (c.loop-argument.argument-index + 1) c.args.arguments.now) in
+    let short = area_short c.args.arguments.now c.requires in
+    let len = ap length c.as_slice.ensures in
+    omega (arith, c.loop-argument.invariant, more, count, short, len)
+
+pub returns-clause-few : goal.returns-clause-few
+returns-clause-few c = omega (arith, c.loop-argument.invariant, area_short c.args.arguments.now c.requires)

@@ -1,0 +1,26 @@
+-- Bytes written into a space, each where it might be.
+use Rattle.std.specs.Prelude.{◌≡◌, ℕ, ◌<◌, List, [], ◌∷◌, length}
+use Rattle.vm_facts.specs.Answers.{ByteWrite}
+use Rattle.vm_facts.specs.Flat.{Space}
+use Rattle.vm_facts.specs.declared.memory.MayWrite.TheVariants as tests
+use Rattle.page_model.specs.declared.spot.Spot.{Spot}
+use Rattle.page_model.specs.declared.spot.Spot.TheVariants.{Text, Data, Stack, Below, Outside}
+use Rattle.page_model.specs.Space.{address_in, may_write_at, put}
+
+-- the spot is a byte of its segment
+abbrev pub IsWithin : Space → Spot → Type 0
+IsWithin s (Text k) = k < length s.text_bytes
+IsWithin s (Data k) = k < length s.data_bytes
+IsWithin s (Stack k) = k < length s.stack_bytes
+IsWithin s Below = Unit {0}
+IsWithin s Outside = Unit {0}
+
+-- a byte may be written
+pub record MayPut (s : Space) (address : ℕ) : Type 0 where
+  pub may : may_write_at (address_in s address) ≡ tests.May
+  pub within : IsWithin s (address_in s address)
+
+-- these bytes were written in order, each where it might be
+abbrev pub Wrote : Space → List ByteWrite → Space → Type 0
+Wrote old [] new = old ≡ new
+Wrote old (w ∷ ws) new = MayPut old w.address × Wrote (put old w) ws new

@@ -1,0 +1,17 @@
+use Rattle.std.proofs.Common.{ℕ, ◌==◌, find, sym, ap, ◌∙◌}
+use Rattle.user_vax.specs.Program.{run}
+use Rattle.page_model.specs.Space.{answers_of}
+use Rattle.page_model.specs.Change.{is_zombie_child}
+use Rattle.flat_model.specs.Calls.{or_fault, reply_of, wait_by}
+use Rattle.flat_model.specs.declared.calls.SystemCall.{SystemCall}
+use Rattle.replay_check.proofs.calling.reply.Goals as goal
+
+pub returns-in-Break-clause-sound : goal.returns-in-Break-clause-sound
+returns-in-Break-clause-sound c = c.or_fault-in-Break.ensures.sound c.args.programs.now (c.break_reply.ensures.sound c.args.programs.now)
+
+pub returns-in-Wait-clause-value : goal.returns-in-Wait-clause-value
+unfolding reply_of
+returns-in-Wait-clause-value c = λ sid.
+    c.wait_reply.ensures.value
+    ∙ ap (λ (pid : ℕ). wait_by (find (λ q. q.parent == pid) c.args.list.now) (find (is_zombie_child pid) c.args.list.now) c.args.regs) c.pid-in-Wait.ensures
+    ∙ sym (ap (λ (call : SystemCall). or_fault (run (answers_of c.args.space.now) (reply_of c.args.programs.now (record { processes = c.args.list.now; next_pid = c.args.next_pid; next_sid = sid }) c.args.process.now c.args.space.now call c.args.regs))) c.in-Wait.is)

@@ -1,0 +1,4 @@
+pub mod Sizes
+pub mod Machine
+pub mod Images
+pub mod Verdicts

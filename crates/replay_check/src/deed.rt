@@ -1,0 +1,31 @@
+use flat_model::SystemCall;
+use page_model::Change;
+use vm_facts::{Bytes, Regs};
+
+/// What a step of a process did, as its entries say.
+#[derive(Drop)]
+pub enum Did {
+    /// Nothing, since no step was to be made.
+    Nothing,
+    /// One instruction ran.
+    Ran,
+    /// The stack has so many pages.
+    Grew(u32),
+    /// The call answered with these registers.
+    Replied(SystemCall, Regs),
+    /// These bytes were written, and the call answered with these registers.
+    Wrote(Bytes, Regs),
+    /// The process waits.
+    Slept,
+    /// The process ended with this status.
+    Ended(u32),
+}
+
+/// A step behind the writes of its instruction: what it did, the registers that it leaves, and what it does
+/// to the processes and their spaces.
+#[derive(Drop)]
+pub struct Deed {
+    pub did: Did,
+    pub regs: Regs,
+    pub change: Change,
+}

@@ -1,0 +1,19 @@
+//! The judge of transcripts: the flat machine as code, over plain lists of bytes.
+//!
+//! It runs images with no frame and no swap, and says whether the entries of a journal are what the processes
+//! do, and which pages each of their instructions touches. All rules are those of `flat_model`.
+#![tactic(auto)]
+
+pub mod calling;
+pub mod deed;
+pub mod machine;
+pub mod process;
+pub mod program;
+pub mod replaying;
+pub mod space;
+
+pub use program::{Flat, are_images, are_numbers};
+pub use replaying::{Verdict, replay};
+
+#[cfg(test)]
+mod tests;

@@ -1,0 +1,494 @@
+ghost use Rattle.std.specs.Prelude.{◌≡◌, ℕ, ◌+◌, ◌-◌, ◌*◌, ◌/◌, ◌^◌, ◌<◌, ◌≤◌, ◌==◌, ◌++◌, ◌∷◌, [], List, Bool, true, false, not, length, map, filter, find, position, slice_set, slice_get, slice_index_or, Option, Some, None, IsSome, IfOk, IfSome, OnOk, IsTrue, All};
+ghost use Rattle.vm_facts.specs.Flat.{Space, Holds, Lends, Zombie, Process as Record, FlatState};
+ghost use Rattle.page_model.specs.Space.{answers_of, stack_top};
+ghost use Rattle.page_model.specs.Flat.{NamedImage, image_numbered, process_of, holds_space, space_with};
+ghost use Rattle.page_model.specs.Change.{changed, forked, lent, entered, ended, given_back, returned, orphaned, woken, left, with_process, without_process, child_of, lends_to, is_zombie_child, without_parent, awake};
+ghost use Rattle.flat_model.specs.Step.{pages_down_to, data_pages_of};
+ghost use Rattle.replay_check.specs.Images.{CanChange, CanReply};
+ghost use Rattle.replay_check.specs.Machine.{IsPlace, process_at, space_in, IsNear, IsNearStep};
+
+use crate::calling::{refused_reply, replied, reply};
+use crate::deed::{Deed, Did};
+use crate::process::{Held, Process, with_results};
+use crate::program::{Program, program_at};
+use crate::space::FlatSpace;
+use flat_model::{Arguments, Reply, SystemCall, WRITE_LIMIT, start_page, start_regs};
+use page_model::{Change, PAGE, STACK_TOP};
+use std::alloc::Global;
+use std::marker::Model;
+use user_vax::Stepped;
+use vm_facts::{Bytes, NoMemory, Regs};
+
+/// The flat machine. Contracts see its processes by rising pid, and the numbers of the next process and the
+/// next space.
+#[derive(Drop)]
+pub struct Machine {
+    list: Vec<Process>,
+    next_pid: u32,
+    next_sid: u32,
+}
+
+impl Model for Machine {
+    ghost use Rattle.vm_facts.specs.Flat.{FlatState};
+
+    ghost Value = { FlatState };
+
+    ghost view = { λ m. record { processes = m.list.items; next_pid = m.next_pid; next_sid = m.next_sid } };
+}
+
+// The next number; want of memory, where there is none.
+fn next(number: u32) -> Result<u32, NoMemory>
+    ensures { IfOk result (λ n. n ≡ number + 1) }
+{
+    match number.checked_add(1) {
+        Some(next) => Ok(next),
+        None => Err(NoMemory),
+    }
+}
+
+// The space with this number in which an image starts with this stack page 0.
+fn space_with(
+    alloc: Global,
+    programs: &[Program],
+    sid: u32,
+    image: u32,
+    top: &Bytes,
+) -> Result<FlatSpace, NoMemory>
+    requires image { IsSome (image_numbered programs.now image) }
+    requires top { length top.now ≡ 1024 }
+    ensures { IfOk result (λ s. (named : NamedImage) → image_numbered programs.now image ≡ Some named → s ≡ space_with sid image named.image top.now) }
+{
+    let program = program_at(programs, image);
+    let Ok(stack) = Vec::from_slice(alloc, top.as_slice()) else {
+        return Err(NoMemory);
+    };
+    FlatSpace::new(alloc, sid, image, program.text(), program.data(), stack)
+}
+
+// A child that goes on from its parent's registers.
+fn child_of(parent: &Process, child: u32, space: FlatSpace) -> Process
+    ensures { result ≡ child_of parent.now child space }
+{
+    Process::new(
+        child,
+        parent.pid(),
+        with_results(parent.regs(), parent.pid(), 1),
+        space,
+    )
+}
+
+fn drop_pid(list: &mut Vec<Process>, pid: u32)
+    ensures { list.new.items ≡ filter (λ q. not (q.pid == pid)) list.old.items }
+{
+    list.retain(|process| !process.is_of(pid));
+}
+
+fn drop_zombies(list: &mut Vec<Process>, pid: u32)
+    ensures { list.new.items ≡ filter (λ q. not (is_zombie_child pid q)) list.old.items }
+{
+    list.retain(|process| !process.is_zombie_child(pid));
+}
+
+fn wake_all(list: &mut Vec<Process>, pid: u32)
+    ensures { list.new.items ≡ map (awake pid) list.old.items }
+{
+    for place in 0..list.len() {
+        list[place].wake(pid);
+    }
+}
+
+fn drop_parents(list: &mut Vec<Process>, pid: u32)
+    ensures { list.new.items ≡ map (without_parent pid) list.old.items }
+{
+    for place in 0..list.len() {
+        list[place].drop_parent(pid);
+    }
+}
+
+impl Machine {
+    // One more process, which is the last.
+    fn add(&mut self, process: Process) -> Result<(), NoMemory>
+        ensures { OnOk result (self.new ≡ record self.old { processes = self.old.processes ++ process ∷ []; next_pid = self.old.next_pid + 1 }) }
+    {
+        let number = next(self.next_pid)?;
+        if self.list.push(process).is_err() {
+            return Err(NoMemory);
+        }
+        self.next_pid = number;
+        Ok(())
+    }
+
+    // Every process of this number goes.
+    fn remove(&mut self, pid: u32)
+        ensures { self.new ≡ without_process self.old pid }
+    {
+        drop_pid(&mut self.list, pid);
+    }
+
+    // The process of this number sleeps no more.
+    fn wake(&mut self, pid: u32)
+        ensures { self.new ≡ woken self.old pid }
+    {
+        wake_all(&mut self.list, pid);
+    }
+
+    fn drop_zombies(&mut self, pid: u32)
+        ensures { self.new ≡ record self.old { processes = filter (λ q. not (is_zombie_child pid q)) self.old.processes } }
+    {
+        drop_zombies(&mut self.list, pid);
+    }
+
+    fn drop_parents(&mut self, pid: u32)
+        ensures { self.new ≡ record self.old { processes = map (without_parent pid) self.old.processes } }
+    {
+        drop_parents(&mut self.list, pid);
+    }
+
+    // Zombie children of a process vanish, and the others have no parent.
+    fn orphan(&mut self, pid: u32)
+        ensures { self.new ≡ orphaned self.old pid }
+    {
+        self.drop_zombies(pid);
+        self.drop_parents(pid);
+    }
+
+    /// The machine at the start of a run, whose processes begin with these images.
+    pub fn started(alloc: Global, programs: &[Program], first: &[u32]) -> Result<Machine, NoMemory>
+        requires { All (λ number. IsSome (image_numbered programs.now number)) first.now }
+    {
+        let mut machine = Machine {
+            list: Vec::new(alloc),
+            next_pid: 1,
+            next_sid: 1,
+        };
+        for number in first {
+            let number = *number;
+            machine.start(alloc, programs, number)?;
+        }
+        Ok(machine)
+    }
+
+    // Starts a first process, of the image of this number.
+    fn start(&mut self, alloc: Global, programs: &[Program], number: u32) -> Result<(), NoMemory>
+        requires { IsSome (image_numbered programs.now number) }
+    {
+        let program = program_at(programs, number);
+        let Ok(name) = Vec::from_slice(alloc, program.name()) else {
+            return Err(NoMemory);
+        };
+        let arguments = Arguments::of(alloc, Bytes::from_vec(name))?;
+        let top = start_page(alloc, &arguments)?;
+        let sid = next(self.next_sid)?;
+        let space = space_with(alloc, programs, self.next_sid, number, &top)?;
+        let regs = start_regs(program.entry(), &arguments);
+        self.next_sid = sid;
+        self.add(Process::new(self.next_pid, 0, regs, space))
+    }
+
+    /// The place of the process of this number.
+    pub fn place_of(&self, pid: u32) -> Option<usize>
+        ensures { result ≡ position (λ q. q.pid == pid) self.now.processes }
+    {
+        self.list.iter().position(|process| process.is_of(pid))
+    }
+
+    /// The place of the process of this number, where it can step.
+    #[tactic(auto, using(crate::proofs::Lists::ready_place))]
+    pub fn ready_place(&self, pid: u32) -> Option<usize>
+        ensures { IfSome result (IsPlace self.now) }
+    {
+        let place = self.place_of(pid)?;
+        if self.list[place].is_ready() {
+            Some(place)
+        } else {
+            None
+        }
+    }
+
+    // The process at this place goes on with these registers.
+    #[tactic(auto, using(crate::proofs::Lists::with_at))]
+    fn keep(&mut self, place: usize, regs: Regs)
+        requires { IsPlace self.old place }
+        ensures { self.new ≡ with_process self.old (record (process_at self.old place) { regs = regs }) }
+    {
+        self.list[place].set_regs(regs);
+    }
+
+    // Who lent to this process has the space again.
+    fn give_back(&mut self, pid: u32, held: Held) {
+        for place in 0..self.list.len() {
+            if self.list[place].lends_to(pid) {
+                let _lent = self.list[place].exchange(held);
+                return;
+            }
+        }
+    }
+
+    fn resize(&mut self, place: usize, data_pages: u32, stack_pages: u32) -> Result<(), NoMemory>
+        requires at { IsPlace self.old place }
+        requires of_data { data_pages ≤ 4096 }
+        requires of_stack { stack_pages ≤ 512 }
+    {
+        self.list[place].resize(data_pages, stack_pages)
+    }
+
+    fn fork(&mut self, alloc: Global, place: usize, child: u32) -> Result<(), NoMemory>
+        requires { IsPlace self.old place }
+    {
+        let sid = next(self.next_sid)?;
+        let space = self.list[place].space().copy(alloc, self.next_sid)?;
+        let process = child_of(&self.list[place], child, space);
+        self.next_sid = sid;
+        self.add(process)
+    }
+
+    fn lend(&mut self, place: usize, child: u32) -> Result<(), NoMemory>
+        requires { IsPlace self.old place }
+    {
+        let sid = self.list[place].space().sid();
+        match self.list[place].exchange(Held::Lent { sid, child }) {
+            Held::Space(space) => {
+                let process = child_of(&self.list[place], child, space);
+                self.add(process)
+            }
+            Held::Lent { .. } | Held::Zombie(_) => Ok(()),
+        }
+    }
+
+    fn exec(
+        &mut self,
+        alloc: Global,
+        programs: &[Program],
+        place: usize,
+        image: u32,
+        top: &Bytes,
+    ) -> Result<(), NoMemory>
+        requires at { IsPlace self.old place }
+        requires image { IsSome (image_numbered programs.now image) }
+        requires top { length top.now ≡ 1024 }
+    {
+        let sid = next(self.next_sid)?;
+        let space = space_with(alloc, programs, self.next_sid, image, top)?;
+        self.next_sid = sid;
+        let pid = self.list[place].pid();
+        let old = self.list[place].exchange(Held::Space(space));
+        self.give_back(pid, old);
+        Ok(())
+    }
+
+    fn end(&mut self, place: usize, status: u32)
+        requires { IsPlace self.old place }
+    {
+        let pid = self.list[place].pid();
+        let parent = self.list[place].parent();
+        let old = self.list[place].exchange(Held::Zombie(status));
+        self.give_back(pid, old);
+        self.orphan(pid);
+        if parent == 0 {
+            self.remove(pid);
+        } else {
+            self.wake(parent);
+        }
+    }
+
+    // Does a change of the process at this place, which is left with these registers.
+    fn change(
+        &mut self,
+        alloc: Global,
+        programs: &[Program],
+        place: usize,
+        regs: Regs,
+        change: Change,
+    ) -> Result<(), NoMemory>
+        requires at { IsPlace self.old place }
+        requires can { CanChange programs.now change }
+    {
+        self.list[place].set_regs(regs);
+        match change {
+            Change::Keep => Ok(()),
+            Change::Resize {
+                data_pages,
+                stack_pages,
+            } => self.resize(place, data_pages, stack_pages),
+            Change::Fork { child } => self.fork(alloc, place, child),
+            Change::Lend { child } => self.lend(place, child),
+            Change::Exec { image, top } => self.exec(alloc, programs, place, image, &top),
+            Change::Reap { child } => {
+                self.remove(child);
+                Ok(())
+            }
+            Change::Sleep => {
+                self.list[place].sleep();
+                Ok(())
+            }
+            Change::End { status } => {
+                self.end(place, status);
+                Ok(())
+            }
+        }
+    }
+
+    // What the process at this place does behind its instruction, which came to this with these registers.
+    fn deed(
+        &self,
+        alloc: Global,
+        programs: &[Program],
+        place: usize,
+        stepped: Stepped,
+        regs: Regs,
+        refused: bool,
+    ) -> Result<Deed, NoMemory>
+        requires at { IsPlace self.now place }
+        requires few { length programs.now < 2 ^ 31 }
+        requires near { IsNearStep stepped }
+        ensures sound { IfOk result (λ deed. CanChange programs.now deed.change) }
+    {
+        let process = &self.list[place];
+        match stepped {
+            Stepped::Done => Ok(went_on(regs)),
+            Stepped::Call(number) => match SystemCall::numbered(number) {
+                None => Ok(ended(process, 12)),
+                Some(call) => {
+                    let list = self.list.as_slice();
+                    let reply = reply(
+                        alloc,
+                        programs,
+                        list,
+                        self.next_pid,
+                        process,
+                        process.space(),
+                        call,
+                        regs,
+                    )?;
+                    Ok(replied_deed(process, call, regs, refused_reply(refused, reply)))
+                }
+            },
+            Stepped::Below { address } => {
+                if refused {
+                    Ok(ended(process, 11))
+                } else {
+                    Ok(grown(process, address))
+                }
+            }
+            Stepped::Miss { .. } => Ok(nothing(process)),
+            Stepped::Signal(number) => Ok(ended(process, u32::from(number))),
+        }
+    }
+
+    /// One step of the process at this place, of which `refused` says whether the pieces of swap space that
+    /// it asked for found no place.
+    pub fn advance(
+        &mut self,
+        alloc: Global,
+        programs: &[Program],
+        place: usize,
+        refused: bool,
+    ) -> Result<Did, NoMemory>
+        requires at { IsPlace self.old place }
+        requires few { length programs.now < 2 ^ 31 }
+    {
+        let (stepped, regs) = self.run(place);
+        let deed = self.deed(alloc, programs, place, stepped, regs, refused)?;
+        self.change(alloc, programs, place, deed.regs, deed.change)?;
+        Ok(deed.did)
+    }
+
+    // Runs the next instruction of the process at this place over its space.
+    fn run(&mut self, place: usize) -> (Stepped, Regs)
+        requires { IsPlace self.old place }
+        ensures near { IsNearStep result.0 }
+        ensures at { IsPlace self.new place }
+    {
+        self.list[place].run()
+    }
+}
+
+// One instruction ran.
+fn went_on(regs: Regs) -> Deed
+    ensures { result ≡ record { did = Did.Ran; regs = regs; change = Change.Keep } }
+{
+    Deed {
+        did: Did::Ran,
+        regs,
+        change: Change::Keep,
+    }
+}
+
+fn nothing(process: &Process) -> Deed
+    ensures { result ≡ record { did = Did.Nothing; regs = process.now.regs; change = Change.Keep } }
+{
+    Deed {
+        did: Did::Nothing,
+        regs: process.regs(),
+        change: Change::Keep,
+    }
+}
+
+// The process ends, with the registers that it had.
+fn ended(process: &Process, status: u32) -> Deed
+    ensures { result ≡ record { did = Did.Ended status; regs = process.now.regs; change = Change.End status } }
+{
+    Deed {
+        did: Did::Ended(status),
+        regs: process.regs(),
+        change: Change::End { status },
+    }
+}
+
+// The stack grows to the page of an address, and the instruction is still to come.
+fn grown(process: &Process, address: u32) -> Deed
+    requires holds { IsTrue (holds_space process.now.holding) }
+    requires near { IsNear address }
+    ensures value { result ≡ record { did = Did.Grew (pages_down_to address); regs = process.now.regs; change = Change.Resize (data_pages_of (space_in process.now.holding)) (pages_down_to address) } }
+    ensures few { (pages_down_to address ≤ 512) × (data_pages_of (space_in process.now.holding) ≤ 4096) }
+{
+    let stack_pages = (STACK_TOP - 1 - address) / PAGE + 1;
+    let data_pages = process.space().data_pages();
+    Deed {
+        did: Did::Grew(stack_pages),
+        regs: process.regs(),
+        change: Change::Resize {
+            data_pages,
+            stack_pages,
+        },
+    }
+}
+
+// A call and its reply, from the registers that the instruction left.
+fn replied_deed(process: &Process, call: SystemCall, regs: Regs, reply: Reply) -> Deed
+    ensures sound { (images : List NamedImage) → CanReply images reply → CanChange images result.change }
+{
+    match reply {
+        Reply::Exits(status) => ended(process, status),
+        Reply::Does(after, change) => Deed {
+            did: Did::Replied(call, after),
+            regs: after,
+            change,
+        },
+        Reply::Fails(error) => answered(call, replied(regs, true, error)),
+        Reply::Writes(bytes) => {
+            let len = bytes.as_slice().len().min(WRITE_LIMIT as usize);
+            let after = replied(regs, false, len as u32);
+            Deed {
+                did: Did::Wrote(bytes, after),
+                regs: after,
+                change: Change::Keep,
+            }
+        }
+        Reply::Waits => Deed {
+            did: Did::Slept,
+            regs: process.regs(),
+            change: Change::Sleep,
+        },
+    }
+}
+
+fn answered(call: SystemCall, after: Regs) -> Deed
+    ensures { result ≡ record { did = Did.Replied call after; regs = after; change = Change.Keep } }
+{
+    Deed {
+        did: Did::Replied(call, after),
+        regs: after,
+        change: Change::Keep,
+    }
+}

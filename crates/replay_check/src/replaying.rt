@@ -1,0 +1,235 @@
+ghost use Rattle.std.specs.Prelude.{◌≡◌, ℕ, ◌^◌, ◌<◌, ◌≤◌, length, IfOk};
+ghost use Rattle.replay_check.specs.Images.{AreImageFiles, AreNumbers};
+
+use crate::deed::Did;
+use crate::machine::Machine;
+use crate::program::{Flat, Program, load_all};
+use std::alloc::Global;
+use vm_facts::{Entry, NoMemory, Regs};
+
+/// Instructions that a transcript may have.
+const INSTRUCTION_LIMIT: u32 = 1_000_000;
+
+/// What `replay` answers.
+#[derive(Clone, Copy, Debug, PartialEq, Eq, Drop)]
+pub enum Verdict {
+    /// The entries are a run of the flat machine.
+    Run,
+    /// The first so many entries are none, and fewer are one.
+    BadEntry(u32),
+}
+
+// The last flat entry, as far as it matters.
+#[derive(Clone, Copy, Debug, Drop)]
+enum Last {
+    Other,
+    // The pieces of this process found no place.
+    Refused(u32),
+    // This process wrote bytes, and these are the registers of its reply.
+    Wrote(u32, Regs),
+}
+
+#[derive(Drop)]
+pub struct Judge<'a> {
+    alloc: Global,
+    programs: &'a [Program],
+    machine: Machine,
+    last: Last,
+    count: u32,
+    ghost few: { length programs.now < 2 ^ 31 },
+}
+
+fn is_reply(regs: &Regs, carry: bool, r0: u32, r1: u32) -> bool {
+    regs.c == carry && regs.r[0] == r0 && regs.r[1] == r1
+}
+
+impl<'a> Judge<'a> {
+    // One step of a process; None where it can't step.
+    fn step(&mut self, pid: u32, refused: bool) -> Result<Did, NoMemory> {
+        match self.machine.ready_place(pid) {
+            None => Ok(Did::Nothing),
+            Some(place) => self
+                .machine
+                .advance(self.alloc, self.programs, place, refused),
+        }
+    }
+
+    fn ran(&mut self, pid: u32, count: u32) -> Result<bool, NoMemory> {
+        for _ in 0..count {
+            let Last::Other = self.last else {
+                return Ok(false);
+            };
+            let Did::Ran = self.step(pid, false)? else {
+                return Ok(false);
+            };
+        }
+        Ok(true)
+    }
+
+    fn grew(&mut self, pid: u32, pages: u32) -> Result<bool, NoMemory> {
+        let Last::Other = self.last else {
+            return Ok(false);
+        };
+        match self.step(pid, false)? {
+            Did::Grew(grown) => Ok(grown == pages),
+            _ => Ok(false),
+        }
+    }
+
+    fn slept(&mut self, pid: u32) -> Result<bool, NoMemory> {
+        let Last::Other = self.last else {
+            return Ok(false);
+        };
+        match self.step(pid, false)? {
+            Did::Slept => Ok(true),
+            _ => Ok(false),
+        }
+    }
+
+    fn wrote(&mut self, pid: u32, bytes: &[u8]) -> Result<bool, NoMemory> {
+        let Last::Other = self.last else {
+            return Ok(false);
+        };
+        match self.step(pid, false)? {
+            Did::Wrote(written, regs) => {
+                self.last = Last::Wrote(pid, regs);
+                Ok(written.as_slice() == bytes && !bytes.is_empty())
+            }
+            _ => Ok(false),
+        }
+    }
+
+    fn refused(&mut self, pid: u32) -> bool {
+        let Last::Other = self.last else {
+            return false;
+        };
+        self.last = Last::Refused(pid);
+        self.machine.ready_place(pid).is_some()
+    }
+
+    // Whether the pieces of this process found no place; None where the last entry is another process's.
+    fn take_refused(&mut self, pid: u32) -> Option<bool> {
+        match self.last {
+            Last::Other => Some(false),
+            Last::Refused(of) if of == pid => {
+                self.last = Last::Other;
+                Some(true)
+            }
+            Last::Refused(_) | Last::Wrote(_, _) => None,
+        }
+    }
+
+    fn ended(&mut self, pid: u32, status: u32) -> Result<bool, NoMemory> {
+        let Some(refused) = self.take_refused(pid) else {
+            return Ok(false);
+        };
+        match self.step(pid, refused)? {
+            Did::Ended(ended) => Ok(ended == status),
+            _ => Ok(false),
+        }
+    }
+
+    fn called(
+        &mut self,
+        pid: u32,
+        number: u32,
+        carry: bool,
+        r0: u32,
+        r1: u32,
+    ) -> Result<bool, NoMemory> {
+        if let Last::Wrote(of, regs) = self.last {
+            self.last = Last::Other;
+            return Ok(of == pid && number == 4 && is_reply(&regs, carry, r0, r1));
+        }
+        let Some(refused) = self.take_refused(pid) else {
+            return Ok(false);
+        };
+        match self.step(pid, refused)? {
+            Did::Replied(call, regs) => {
+                Ok(call.number() == number && is_reply(&regs, carry, r0, r1))
+            }
+            Did::Wrote(bytes, regs) => {
+                Ok(bytes.as_slice().is_empty() && number == 4 && is_reply(&regs, carry, r0, r1))
+            }
+            _ => Ok(false),
+        }
+    }
+
+    // Whether an entry is the next of a run.
+    fn judge(&mut self, entry: &Entry) -> Result<bool, NoMemory> {
+        match entry {
+            Entry::Ran { pid, count } => self.ran(*pid, *count),
+            Entry::Out { pid, bytes } => self.wrote(*pid, bytes.as_slice()),
+            Entry::Grew { pid, pages } => self.grew(*pid, *pages),
+            Entry::Call {
+                pid,
+                number,
+                carry,
+                r0,
+                r1,
+            } => self.called(*pid, *number, *carry, *r0, *r1),
+            Entry::Refused { pid } => Ok(self.refused(*pid)),
+            Entry::Sleeps { pid } => self.slept(*pid),
+            Entry::Ended { pid, status } => self.ended(*pid, *status),
+            _ => Ok(true),
+        }
+    }
+
+    // The instructions counted with those of an entry; None where they are too many.
+    fn counted(&self, entry: &Entry) -> Option<u32> {
+        let more = match entry {
+            Entry::Ran { count, .. } => *count,
+            Entry::Call { .. } | Entry::Ended { .. } => 1,
+            _ => 0,
+        };
+        let count = u64::from(self.count) + u64::from(more);
+        if count > u64::from(INSTRUCTION_LIMIT) {
+            return None;
+        }
+        Some(count as u32)
+    }
+
+    fn accepts(&mut self, entry: &Entry) -> Result<bool, NoMemory> {
+        let Some(count) = self.counted(entry) else {
+            return Ok(false);
+        };
+        self.count = count;
+        self.judge(entry)
+    }
+}
+
+/// Judges the entries of a journal by the flat machine, over these images, whose processes `first` are started.
+pub fn replay(
+    alloc: Global,
+    images: &[Flat],
+    first: &[u32],
+    entries: &[Entry],
+) -> Result<Verdict, NoMemory>
+    requires images { AreImageFiles images.now }
+    requires first { AreNumbers (length images.now) first.now }
+    requires entries { length entries.now < 2 ^ 32 }
+{
+    let programs = load_all(alloc, images)?;
+    let machine = Machine::started(alloc, programs.as_slice(), first)?;
+    let judge = Judge {
+        alloc,
+        programs: programs.as_slice(),
+        machine,
+        last: Last::Other,
+        count: 0,
+    };
+    judge_all(judge, entries)
+}
+
+// The verdict on these entries.
+fn judge_all(judge: Judge<'_>, entries: &[Entry]) -> Result<Verdict, NoMemory>
+    requires few { length entries.now < 2 ^ 32 }
+{
+    let mut judge = judge;
+    for index in 0..entries.len() {
+        if !judge.accepts(&entries[index])? {
+            return Ok(Verdict::BadEntry(index as u32 + 1));
+        }
+    }
+    Ok(Verdict::Run)
+}
