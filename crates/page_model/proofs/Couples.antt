@@ -1,13 +1,13 @@
 -- A step that changes one page and one frame keeps the flat memory, where it does so at that page.
 use Rattle.std.proofs.Common.{◌≡◌, ◌≢◌, ◌⊎◌, inl, inr, ℕ, Bool, List, [], Option, Some, None, refl, sym, ap, ◌∙◌, subst, arith}
 use Rattle.vm_facts.specs.declared.page.Page.{Page}
-use Rattle.vm_facts.specs.declared.page.Page.TheVariants.{Text}
+use Rattle.vm_facts.specs.declared.page.Page.TheVariants.{Data, Stack, Text}
 use Rattle.vm_facts.specs.declared.page.PageState.{PageState}
 use Rattle.vm_facts.specs.declared.page.PageState.TheVariants.{Unfilled, Valid, Invalid, Coming, Going, OnSwap}
 use Rattle.page_model.specs.Pages.{Slot, Filling, Zeros, OfImage, frame_of, is_dirty_by}
 use Rattle.page_model.specs.Placement.{Placement, Errand, Writes, Reads, FromSwap, FromFile, Due, Start, CopyOf, filling_by, slot_of, state_of, mark_of, is_dirty, filling_of, page_of, errand_at, due_at, parts_of, IsThere}
 use Rattle.page_model.specs.Ownership.{OwnsFrames}
-use Rattle.page_model.specs.Coupled.{Bytes, bytes_in, IsInFrame, KeepsUnfilled, IsUnsaved, KeepsComing, KeepsBy, Keeps, CouplesPages, SamePage}
+use Rattle.page_model.specs.Coupled.{Bytes, bytes_in, IsInFrame, KeepsUnfilled, IsUnsaved, KeepsComing, IfSaved, KeepsBy, Keeps, CouplesPages, SamePage}
 use Rattle.page_model.proofs.PageLaws.{page_cases}
 use Rattle.page_model.proofs.Local.{Local, other_state, some_is}
 
@@ -59,6 +59,11 @@ filling_same p q b c w u = ap (λ (x : Slot). filling_by w x.filling) u.slot
 in_frame_same : (p q : Placement) (b c : Bytes) (w : Page) (f : ℕ) → Unmoved p q b c w → frame_of (state_of p w) ≡ Some f → IsInFrame b (is_dirty p w) f w → IsInFrame c (is_dirty q w) f w
 in_frame_same p q b c w f u e k = record { here = (u.frames f e).0 ∙ k.here ∙ sym u.memory; there = λ h. u.swap ∙ k.there (sym (ap (is_dirty_by w) (mark_same p q b c w u)) ∙ h) ∙ sym u.memory }
 
+saved_same : (b c : Bytes) (w : Page) (m : Bool) → c.swap w ≡ b.swap w → c.memory w ≡ b.memory w → IfSaved b w m → IfSaved c w m
+saved_same b c (Data sid v) m s e k = tt
+saved_same b c (Stack sid v) m s e k = tt
+saved_same b c (Text image v) m s e k = λ h. s ∙ k h ∙ sym e
+
 keeps_same : (p q : Placement) (b c : Bytes) (w : Page) (s : PageState) → state_of p w ≡ s → Unmoved p q b c w → KeepsBy p b w s → KeepsBy q c w s
 keeps_same p q b c w Unfilled e u k = (
   unfilled_same b c w (due_at q.due w) (filling_of q w) u.file u.start u.memory u.copied
@@ -69,7 +74,7 @@ keeps_same p q b c w (Valid f) e u k = in_frame_same p q b c w f u (ap frame_of 
 keeps_same p q b c w (Invalid f) e u k = in_frame_same p q b c w f u (ap frame_of e) k
 keeps_same p q b c w (Coming f) e u k = coming_same b c w (mark_of q w) (errand_at (parts_of q.transfers) f) u.file u.swap u.memory
     (subst (KeepsComing b w (mark_of q w)) (sym (u.frames f (ap frame_of e)).1) (subst (λ (m : Bool). KeepsComing b w m (errand_at (parts_of p.transfers) f)) (sym (mark_same p q b c w u)) k))
-keeps_same p q b c w (Going f) e u k = (u.frames f (ap frame_of e)).0 ∙ k ∙ sym u.memory
+keeps_same p q b c w (Going f) e u k = ((u.frames f (ap frame_of e)).0 ∙ k.0 ∙ sym u.memory, subst (IfSaved c w) (sym (mark_same p q b c w u)) (saved_same b c w (mark_of p w) u.swap u.memory k.1))
 keeps_same p q b c w OnSwap e u k = u.swap ∙ k ∙ sym u.memory
 
 pub unmoved_keeps : (p q : Placement) (b c : Bytes) (w : Page) → Unmoved p q b c w → Keeps p b w → Keeps q c w

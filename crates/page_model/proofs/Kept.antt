@@ -12,7 +12,7 @@ use Rattle.page_model.specs.Place.{filled, due_after}
 use Rattle.page_model.specs.Hands.{expire, expire_of, expire_if, expire_to}
 use Rattle.page_model.specs.Conditions.{CanEnter, IsSeated}
 use Rattle.page_model.specs.Ownership.{OwnsFrames, IsListed, is_marked_dirty}
-use Rattle.page_model.specs.Coupled.{Bytes, bytes_in, IsInFrame, KeepsUnfilled, IsUnsaved, IsFromFile, KeepsComing, KeepsBy, CouplesPages, with_frame, source_bytes, Stores, WritesBoth, IsWritable, ReadsFrom}
+use Rattle.page_model.specs.Coupled.{Bytes, bytes_in, IsInFrame, KeepsUnfilled, IsUnsaved, IsFromFile, KeepsComing, IfSaved, KeepsBy, CouplesPages, with_frame, source_bytes, Stores, WritesBoth, IsWritable, ReadsFrom}
 use Rattle.page_model.proofs.FrameLaws.{times_head, at_set_same, at_set_other}
 use Rattle.page_model.proofs.PageLaws.{page_cases, put_same, put_state, put_mark, same_page_is}
 use Rattle.page_model.proofs.PartLaws.{IsOpen, parts_join, errand_push_same, errand_push_other, errand_head, errand_tail}
@@ -62,7 +62,7 @@ turn_coupled p v f s m free ts b c o t sd k keep = local_coupled p (turn p v s m
     (λ _. subst (KeepsBy (turn p v s m free ts) c v) (sym (put_state p v s m (page_in p v f t.from))) keep)
 
 -- in its frame, with the mark that it was put with
-marked : (p : Placement) (v : Page) (f : ℕ) (s : PageState) (m : Bool) (free : List ℕ) (ts : List Transfer) (c : Bytes) → IsThere p v → IsInFrame c (is_dirty_by v m) f v → IsInFrame c (is_dirty (turn p v s m free ts) v) f v
+pub marked : (p : Placement) (v : Page) (f : ℕ) (s : PageState) (m : Bool) (free : List ℕ) (ts : List Transfer) (c : Bytes) → IsThere p v → IsInFrame c (is_dirty_by v m) f v → IsInFrame c (is_dirty (turn p v s m free ts) v) f v
 marked p v f s m free ts c there k = subst (λ (d : Bool). IsInFrame c d f v) (sym (ap (is_dirty_by v) (put_mark p v s m there))) k
 
 -- Taking a frame.
@@ -256,6 +256,11 @@ seated_there p v f c = elim c.state [
   | inr e ↦ page_in p v f (ap frame_of e.0)
 ]
 
+saved_there : (b : Bytes) (v : Page) (m : Bool) → (is_dirty_by v m ≡ false → b.swap v ≡ b.memory v) → IfSaved b v m
+saved_there b (Data sid n) m h = tt
+saved_there b (Stack sid n) m h = tt
+saved_there b (Text image n) m h = λ e. h (ap not e)
+
 pub launch_coupled : (p : Placement) (v : Page) (f : ℕ) (b : Bytes) → OwnsFrames p → IsSeated p v f → IsOpen p.transfers Writes → CouplesPages p b → CouplesPages (launch p v) b
 launch_coupled p v f b o c latest k = elim c.state [
   | inl e ↦ subst (λ (s : PageState). CouplesPages (launch_to p v s) b) (sym e) there
@@ -268,7 +273,8 @@ launch_coupled p v f b o c latest k = elim c.state [
     there : CouplesPages (turn p v (Going f) (mark_of p v) p.free (join_last p.transfers Writes x)) b
     there = turn_coupled p v f (Going f) (mark_of p v) p.free (join_last p.transfers Writes x) b b o (launch_turns p v f o c latest)
         (beside_still p (turn p v (Going f) (mark_of p v) p.free (join_last p.transfers Writes x)) v f b refl (λ g n. ap (λ (ms : List Moving). errand_at ms g) (parts_join p.transfers Writes x latest) ∙ errand_push_other (parts_of p.transfers) (moving Writes x) g n))
-        k (let i : IsInFrame b (is_dirty p v) f v = seated_keeps p b v f k c in i.here)
+        k (let i : IsInFrame b (is_dirty p v) f v = seated_keeps p b v f k c in
+        (i.here, subst (IfSaved b v) (sym (put_mark p v (Going f) (mark_of p v) (seated_there p v f c))) (saved_there b v (mark_of p v) i.there)))
 
 pub retire_coupled : (p : Placement) (v : Page) (f : ℕ) (b : Bytes) → OwnsFrames p → IsSeated p v f → is_marked_dirty v (mark_of p v) ≡ false → CouplesPages p b → CouplesPages (retire p v) b
 retire_coupled p v f b o c clean k = elim c.state [
@@ -316,7 +322,7 @@ land_write_coupled p x rest b c o l st k = turn_coupled p x.page x.frame (Invali
     there = page_in p x.page x.frame (landing_frame p Writes x rest o l)
 
     was : bytes_in b x.frame ≡ b.memory x.page
-    was = keeps_at p b x.page (Going x.frame) k there (landing_state p Writes x rest o l)
+    was = let g : (bytes_in b x.frame ≡ b.memory x.page) × IfSaved b x.page (mark_of p x.page) = keeps_at p b x.page (Going x.frame) k there (landing_state p Writes x rest o l) in g.0
 
 came : (b : Bytes) (source : Source) (demanded v : Page) (m : Bool) → KeepsComing b v m (Some (Reads source demanded)) → source_bytes b source v ≡ b.memory v
 came b FromSwap demanded v m k = k

@@ -22,3 +22,14 @@ pub mod Ends
 pub mod ServeEnds
 pub mod Kept
 pub mod KeptRuns
+pub mod Blocks
+pub mod Worked
+pub mod KeptChanges
+pub mod KeptSpaces
+pub mod Asides
+pub mod AsideSteps
+pub mod AsideChanges
+pub mod Sames
+pub mod Registers
+pub mod KernelLaws
+pub mod Units

@@ -140,14 +140,14 @@ numbered_hit n x xs e = grind (arith, nat_tests)
 numbered_miss : (n : ℕ) (x : SpacePages) (xs : List SpacePages) → space_number x ≢ n → numbered space_number n (x ∷ xs) ≡ numbered space_number n xs
 numbered_miss n x xs e = grind (arith, nat_tests)
 
-added_other : (t : ℕ) (ss : List SpacePages) (x : SpacePages) → space_number x ≢ t → numbered space_number t (ss ++ x ∷ []) ≡ numbered space_number t ss
+pub added_other : (t : ℕ) (ss : List SpacePages) (x : SpacePages) → space_number x ≢ t → numbered space_number t (ss ++ x ∷ []) ≡ numbered space_number t ss
 added_other t [] x n = numbered_miss t x [] n
 added_other t (s ∷ ss) x n = elim (cases_eq (space_number s) t) [
   | inl e ↦ numbered_hit t s (ss ++ x ∷ []) e ∙ sym (numbered_hit t s ss e)
   | inr m ↦ numbered_miss t s (ss ++ x ∷ []) m ∙ added_other t ss x n ∙ sym (numbered_miss t s ss m)
 ]
 
-added_same : (t : ℕ) (ss : List SpacePages) (x : SpacePages) → space_number x ≡ t → numbered space_number t ss ≡ None → numbered space_number t (ss ++ x ∷ []) ≡ Some x
+pub added_same : (t : ℕ) (ss : List SpacePages) (x : SpacePages) → space_number x ≡ t → numbered space_number t ss ≡ None → numbered space_number t (ss ++ x ∷ []) ≡ Some x
 added_same t [] x e n = numbered_hit t x [] e
 added_same t (s ∷ ss) x e n = elim (cases_eq (space_number s) t) [
   | inl k ↦ absurd (let h : Some s ≡ None = sym (numbered_hit t s ss k) ∙ n in cc)
@@ -219,7 +219,7 @@ enter_space_owner p sid image facts o n = add_owner p (new_pages sid image facts
 
 -- A space that goes.
 
-removed_other : (sid t : ℕ) (ss : List SpacePages) → t ≢ sid → numbered space_number t (filter (λ (s : SpacePages). not (s.sid == sid)) ss) ≡ numbered space_number t ss
+pub removed_other : (sid t : ℕ) (ss : List SpacePages) → t ≢ sid → numbered space_number t (filter (λ (s : SpacePages). not (s.sid == sid)) ss) ≡ numbered space_number t ss
 removed_other sid t [] n = refl
 removed_other sid t (s ∷ ss) n = go (s.sid == sid) refl (removed_other sid t ss n)
   where
@@ -231,7 +231,7 @@ removed_other sid t (s ∷ ss) n = go (s.sid == sid) refl (removed_other sid t s
         equal a b e = grind (arith, nat_tests)
     go false e ih = ap (λ (o : Option SpacePages). cond (space_number s == t) (Some s) o) ih
 
-removed_same : (sid : ℕ) (ss : List SpacePages) → numbered space_number sid (filter (λ (s : SpacePages). not (s.sid == sid)) ss) ≡ None
+pub removed_same : (sid : ℕ) (ss : List SpacePages) → numbered space_number sid (filter (λ (s : SpacePages). not (s.sid == sid)) ss) ≡ None
 removed_same sid [] = refl
 removed_same sid (s ∷ ss) = go (s.sid == sid) refl (removed_same sid ss)
   where

@@ -205,7 +205,7 @@ drop_all_length (v ∷ qs) p w = drop_all_length qs (drop_page p v) w ∙ drop_l
 
 -- A text that nobody shares any more.
 
-remark_turns : (p : Placement) (v : Page) (f n : ℕ) → OwnsFrames p → state_of p v ≡ Invalid f → Turns p v f (Invalid f) false p.free p.transfers
+pub remark_turns : (p : Placement) (v : Page) (f n : ℕ) → OwnsFrames p → state_of p v ≡ Invalid f → Turns p v f (Invalid f) false p.free p.transfers
 remark_turns p v f n o e = record {
   from = ap frame_of e;
   to = refl;

@@ -222,7 +222,7 @@ put_length p q s m r = elim (put_at p q s m r) [
 
 -- a put keeps the images of spaces
 
-sharers_changed : (sid i : ℕ) (change : SpacePages → SpacePages) → ((x : SpacePages) → (change x).image ≡ x.image) → (xs : List SpacePages) → sharers_in i (changed space_number sid change xs) ≡ sharers_in i xs
+pub sharers_changed : (sid i : ℕ) (change : SpacePages → SpacePages) → ((x : SpacePages) → (change x).image ≡ x.image) → (xs : List SpacePages) → sharers_in i (changed space_number sid change xs) ≡ sharers_in i xs
 sharers_changed sid i change k [] = refl
 sharers_changed sid i change k (x ∷ xs) = elim (cases_eq (space_number x) sid) [
   | inl e ↦ rw (changed_hit space_number sid change x xs e) (ap (λ (n : ℕ). cond (n == i) 1 0 + sharers_in i xs) (k x))

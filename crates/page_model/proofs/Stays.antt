@@ -5,13 +5,13 @@ use Rattle.vm_facts.specs.declared.page.PageState.{PageState}
 use Rattle.vm_facts.specs.declared.page.PageState.TheVariants.{Unfilled, Valid, Invalid, Coming, Going, OnSwap}
 use Rattle.page_model.specs.Pages.{frame_of, is_among, same_page, written_mark}
 use Rattle.page_model.specs.Frames.{times}
-use Rattle.page_model.specs.Placement.{Placement, Transfer, Part, Errand, Writes, Reads, parts_of, slots_of, slot_of, state_of, mark_of, is_dirty, page_of, put}
+use Rattle.page_model.specs.Placement.{Placement, Transfer, Part, Errand, Writes, Reads, parts_of, slots_of, slot_of, state_of, mark_of, is_dirty, page_of, put, sharers}
 use Rattle.page_model.specs.Moves.{turn, begin, join_last, launch, launch_to, launch_all, launch_run, land, land_read, land_all, done, done_of, retire, retire_to, arrived_mark}
 use Rattle.page_model.specs.Runs.{run_out, pages_of_run}
 use Rattle.page_model.specs.Hands.{expire, expire_of, expire_if, expire_to, sweep, sweep_of, sweep_to, sweep_by, hand_move}
 use Rattle.page_model.specs.Serve.{force, force_by}
 use Rattle.page_model.specs.Ownership.{OwnsFrames}
-use Rattle.page_model.proofs.PageLaws.{page_cases, put_state, put_other, put_length}
+use Rattle.page_model.proofs.PageLaws.{page_cases, put_state, put_other, put_length, put_sharers}
 use Rattle.page_model.proofs.Local.{none_some}
 use Rattle.page_model.proofs.Steps.{page_in, put_other_state}
 use Rattle.page_model.proofs.OwnsRuns.{Landing, landing_frame, land_owner, land_transfers}
@@ -22,11 +22,12 @@ pub record Steady (p q : Placement) : Type 0 where
   pub frames : (w : Page) → frame_of (state_of q w) ≡ frame_of (state_of p w)
   pub others : (w : Page) → frame_of (state_of p w) ≡ None → slot_of q w ≡ slot_of p w
   pub due : q.due ≡ p.due
+  pub sharing : (image : ℕ) → sharers q image ≡ sharers p image
   pub front : q.front ≡ p.front
   pub back : q.back ≡ p.back
 
 pub steady_self : (p : Placement) → Steady p p
-steady_self p = record { sizes = λ w. refl; holds = refl; frames = λ w. refl; others = λ w e. refl; due = refl; front = refl; back = refl }
+steady_self p = record { sizes = λ w. refl; holds = refl; frames = λ w. refl; others = λ w e. refl; due = refl; sharing = λ i. refl; front = refl; back = refl }
 
 pub steady_both : (p q r : Placement) → Steady p q → Steady q r → Steady p r
 steady_both p q r s t = record {
@@ -35,6 +36,7 @@ steady_both p q r s t = record {
   frames = λ w. t.frames w ∙ s.frames w;
   others = λ w e. t.others w (s.frames w ∙ e) ∙ s.others w e;
   due = t.due ∙ s.due;
+  sharing = λ i. t.sharing i ∙ s.sharing i;
   front = t.front ∙ s.front;
   back = t.back ∙ s.back;
 }
@@ -49,6 +51,7 @@ turn_steady p v f s m free ts e t = record {
   ];
   others = λ w n. put_other p v s m w (λ h. none_some f (sym n ∙ subst (λ (x : Page). frame_of (state_of p x) ≡ Some f) (sym h) e));
   due = refl;
+  sharing = put_sharers p v s m;
   front = refl;
   back = refl;
 }
@@ -111,7 +114,7 @@ expire_transfers p locked = go (page_of p p.front)
     go (Some v) = at v (is_among v locked)
 
 begin_steady : (p : Placement) (e : Errand) → Steady p (begin p e)
-begin_steady p e = record { sizes = λ w. refl; holds = refl; frames = λ w. refl; others = λ w e. refl; due = refl; front = refl; back = refl }
+begin_steady p e = record { sizes = λ w. refl; holds = refl; frames = λ w. refl; others = λ w e. refl; due = refl; sharing = λ i. refl; front = refl; back = refl }
 
 launch_steady : (p : Placement) (v : Page) → Steady p (launch p v)
 launch_steady p v = go (state_of p v) refl
@@ -170,15 +173,16 @@ pub record Stays (p q : Placement) : Type 0 where
   pub frames : (w : Page) → frame_of (state_of q w) ≡ frame_of (state_of p w)
   pub others : (w : Page) → frame_of (state_of p w) ≡ None → slot_of q w ≡ slot_of p w
   pub due : q.due ≡ p.due
+  pub sharing : (image : ℕ) → sharers q image ≡ sharers p image
 
 steady_stays : (p q : Placement) → Steady p q → Stays p q
-steady_stays p q s = record { sizes = s.sizes; holds = s.holds; frames = s.frames; others = s.others; due = s.due }
+steady_stays p q s = record { sizes = s.sizes; holds = s.holds; frames = s.frames; others = s.others; due = s.due; sharing = s.sharing }
 
 pub swept_steady : (p : Placement) (locked : List Page) → Steady p (sweep (expire p locked) locked)
 swept_steady p locked = steady_both p (expire p locked) (sweep (expire p locked) locked) (expire_steady p locked) (sweep_steady (expire p locked) locked)
 
 pub move_stays : (p : Placement) (locked : List Page) → Stays p (hand_move p locked)
-move_stays p locked = let s : Steady p (sweep (expire p locked) locked) = swept_steady p locked in record { sizes = s.sizes; holds = s.holds; frames = s.frames; others = s.others; due = s.due }
+move_stays p locked = let s : Steady p (sweep (expire p locked) locked) = swept_steady p locked in record { sizes = s.sizes; holds = s.holds; frames = s.frames; others = s.others; due = s.due; sharing = s.sharing }
 
 land_steady : (p : Placement) (e : Errand) (x : Part) (rest : List Transfer) → frame_of (state_of p x.page) ≡ Some x.frame → Steady p (land p e x rest)
 land_steady p Writes x rest h = turn_steady p x.page x.frame (Invalid x.frame) (written_mark x.page) (p.free ++ x.frame ∷ []) rest h refl
@@ -189,7 +193,7 @@ land_steady p (Reads source demanded) x rest h = go (same_page x.page demanded)
     go false = turn_steady p x.page x.frame (Invalid x.frame) (mark_of p x.page) (p.free ++ x.frame ∷ []) rest h refl
 
 land_all_steady : (xs : List Part) (p : Placement) (e : Errand) (ts : List Transfer) → OwnsFrames p → p.transfers ≡ record { errand = e; parts = xs } ∷ ts → Steady p (land_all p e xs ts)
-land_all_steady [] p e ts o h = record { sizes = λ w. refl; holds = refl; frames = λ w. refl; others = λ w e. refl; due = refl; front = refl; back = refl }
+land_all_steady [] p e ts o h = record { sizes = λ w. refl; holds = refl; frames = λ w. refl; others = λ w e. refl; due = refl; sharing = λ i. refl; front = refl; back = refl }
 land_all_steady (x ∷ xs) p e ts o h =
     let l : Landing p e x (record { errand = e; parts = xs } ∷ ts) = record { parts = ap parts_of h } in
     steady_both p (land p e x (record { errand = e; parts = xs } ∷ ts)) (land_all (land p e x (record { errand = e; parts = xs } ∷ ts)) e xs ts)

@@ -1,16 +1,18 @@
 -- What the steps of a placement ask of the pages that they move, and what they keep.
-use Rattle.std.specs.Prelude.{◌≡◌, ◌⊎◌, ℕ, Bool, true, false, List, [], ◌∷◌, None}
+use Rattle.std.specs.Prelude.{◌≡◌, ◌⊎◌, ℕ, Bool, true, false, List, [], ◌∷◌, None, ◌<◌}
 use Rattle.vm_facts.specs.declared.page.Page.{Page}
-use Rattle.vm_facts.specs.declared.page.Page.TheVariants.{Data, Stack}
+use Rattle.vm_facts.specs.declared.page.Page.TheVariants.{Data, Stack, Text}
 use Rattle.vm_facts.specs.declared.page.PageState.{PageState}
 use Rattle.vm_facts.specs.declared.page.PageState.TheVariants.{Unfilled, Valid, Invalid, Coming, Going, OnSwap}
 use Rattle.vm_facts.specs.declared.entry.Entry.{Entry}
 use Rattle.vm_facts.specs.declared.entry.Entry.TheVariants as entries
-use Rattle.page_model.specs.Pages.{numbered, number_of, pages_from, frame_of, is_valid, is_among}
+use Rattle.page_model.specs.Pages.{numbered, number_of, pages_from, frame_of, is_valid, is_among, SpacePages}
 use Rattle.page_model.specs.declared.change.Change.{Change}
 use Rattle.page_model.specs.declared.change.Change.TheVariants.{Resize, Fork, Exec, End}
+use Rattle.page_model.specs.Place.{remove_space, enter_image}
+use Rattle.page_model.specs.Flat.{NamedImage, image_numbered}
 use Rattle.page_model.specs.Frames.{times}
-use Rattle.page_model.specs.Placement.{Placement, space_number, state_of, IsThere}
+use Rattle.page_model.specs.Placement.{Placement, space_number, state_of, IsThere, sharers, image_of}
 
 -- something is so of each page
 abbrev pub EachPage : (Page → Type 0) → List Page → Type 0
@@ -77,3 +79,34 @@ CanChange p sid borrowed next_sid (Fork child) = IsNew p next_sid
 CanChange p sid borrowed next_sid (Exec image top) = IsNew p next_sid × (borrowed ≡ false → IsSettled p sid)
 CanChange p sid borrowed next_sid (End status) = borrowed ≡ false → IsSettled p sid
 CanChange p sid borrowed next_sid _ = Unit {0}
+
+-- a data or stack page, or text that a space shares
+abbrev pub IsShared : Placement → Page → Type 0
+IsShared p (Data sid n) = Unit {0}
+IsShared p (Stack sid n) = Unit {0}
+IsShared p (Text image n) = 0 < sharers p image
+
+-- the pages that take frames are of spaces, or of text that a space shares
+abbrev pub EntryShared : Placement → Entry → Type 0
+EntryShared p (entries.Zero q) = IsShared p q
+EntryShared p (entries.Copy q) = IsShared p q
+EntryShared p (entries.Get q lo n) = IsShared p q
+EntryShared p (entries.Reclaim q) = IsShared p q
+EntryShared p _ = Unit {0}
+
+-- all spaces of this number have this image
+abbrev pub HasImage : ℕ → ℕ → List SpacePages → Type 0
+HasImage sid image [] = Unit {0}
+HasImage sid image (s ∷ ss) = (s.sid ≡ sid → s.image ≡ image) × HasImage sid image ss
+
+-- a space that goes, with its text where no other space shares that: all spaces of its number have its image, and no
+-- transfer has a page of the text
+pub record CanForget (p : Placement) (sid : ℕ) : Type 0 where
+  pub image : HasImage sid (image_of p sid) p.spaces
+  pub text_rests : sharers (remove_space p sid) (image_of p sid) ≡ 0 → (v : ℕ) → AtRest (state_of p (Text (image_of p sid) v))
+
+-- what a change asks of the text of a space that goes
+abbrev pub MayForget : List NamedImage → Placement → ℕ → Bool → ℕ → Change → Type 0
+MayForget images p sid borrowed next_sid (Exec image top) = borrowed ≡ false → CanForget (enter_image p next_sid image (image_numbered images image)) sid
+MayForget images p sid borrowed next_sid (End status) = borrowed ≡ false → CanForget p sid
+MayForget images p sid borrowed next_sid _ = Unit {0}

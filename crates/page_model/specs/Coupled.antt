@@ -1,6 +1,6 @@
 -- Where the bytes of each page of a flat memory are: in its frame, on swap, in the file of its image, or nowhere,
 -- where they are zeros.
-use Rattle.std.specs.Prelude.{◌≡◌, ◌≢◌, ℕ, Bool, false, List, [], ◌∷◌, replicate, Option, Some, None}
+use Rattle.std.specs.Prelude.{◌≡◌, ◌≢◌, ℕ, Bool, true, false, List, [], ◌∷◌, replicate, Option, Some, None}
 use Rattle.vm_facts.specs.declared.page.Page.{Page}
 use Rattle.vm_facts.specs.declared.page.Page.TheVariants.{Data, Stack, Text}
 use Rattle.vm_facts.specs.declared.page.PageState.{PageState}
@@ -55,12 +55,18 @@ KeepsComing b q mark (Some Writes) = ⊥
 KeepsComing b q mark (Some (Reads FromSwap demanded)) = b.swap q ≡ b.memory q
 KeepsComing b q mark (Some (Reads FromFile demanded)) = (b.file q ≡ b.memory q) × IsFromFile q mark demanded
 
+-- of a page that is being written: text that is saved is on swap
+abbrev pub IfSaved : Bytes → Page → Bool → Type 0
+IfSaved b (Data sid v) dirty = Unit {0}
+IfSaved b (Stack sid v) dirty = Unit {0}
+IfSaved b (Text image v) saved = saved ≡ true → b.swap (Text image v) ≡ b.memory (Text image v)
+
 abbrev pub KeepsBy : Placement → Bytes → Page → PageState → Type 0
 KeepsBy p b q Unfilled = KeepsUnfilled b q (due_at p.due q) (filling_of p q) × IsUnsaved q (mark_of p q)
 KeepsBy p b q (Valid f) = IsInFrame b (is_dirty p q) f q
 KeepsBy p b q (Invalid f) = IsInFrame b (is_dirty p q) f q
 KeepsBy p b q (Coming f) = KeepsComing b q (mark_of p q) (errand_at (parts_of p.transfers) f)
-KeepsBy p b q (Going f) = bytes_in b f ≡ b.memory q
+KeepsBy p b q (Going f) = (bytes_in b f ≡ b.memory q) × IfSaved b q (mark_of p q)
 KeepsBy p b q OnSwap = b.swap q ≡ b.memory q
 
 -- the page's flat bytes are where its state says
@@ -136,3 +142,25 @@ BytesBy b (Reads source demanded) xs c = bytes_read b source xs ≡ c
 abbrev pub BytesAfter : Bytes → List Transfer → Bytes → Type 0
 BytesAfter b [] c = b ≡ c
 BytesAfter b (t ∷ ts) c = BytesBy b t.errand t.parts c
+
+-- what stands beside the page is the same
+pub record SameBytes (b c : Bytes) (w : Page) : Type 0 where
+  pub frames : c.frames ≡ b.frames
+  pub swap : c.swap w ≡ b.swap w
+  pub file : c.file w ≡ b.file w
+  pub start : c.start w ≡ b.start w
+  pub memory : c.memory w ≡ b.memory w
+
+-- the child's page has the bytes that its parent's has, and the same file's
+pub record Copies (b c : Bytes) (child parent : Page) : Type 0 where
+  pub memory : c.memory child ≡ b.memory parent
+  pub file : c.file child ≡ b.file parent
+
+-- a new page has the bytes that fill it
+abbrev pub FillsBy : Bytes → Page → Filling → Type 0
+FillsBy c q Zeros = zeros ≡ c.memory q
+FillsBy c q OfImage = c.file q ≡ c.memory q
+
+abbrev pub NotIn : Page → List Part → Type 0
+NotIn w [] = Unit {0}
+NotIn w (x ∷ xs) = (w ≢ x.page) × NotIn w xs

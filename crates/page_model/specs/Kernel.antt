@@ -1,5 +1,5 @@
 -- The whole machine as lists, and what each of its steps does to them.
-use Rattle.std.specs.Prelude.{◌≡◌, ℕ, ◌+◌, ◌*◌, ◌≤◌, ◌==◌, Bool, true, false, cond, not, List, [], ◌∷◌, ◌++◌, length, map, filter, take, drop, replicate, flat_map, set, Option, Some, None}
+use Rattle.std.specs.Prelude.{◌≡◌, ℕ, ◌+◌, ◌*◌, ◌≤◌, ◌==◌, Bool, true, false, cond, not, List, [], ◌∷◌, ◌++◌, length, map, filter, take, drop, replicate, flat_map, set, Option, Some, None, ◌/◌, ◌%◌, ◌^◌, suc, zero, get_or, ◌<◌}
 use Rattle.vm_facts.specs.Flat.{Space, Holding, Holds, Lends, Zombie, Process, FlatState}
 use Rattle.vm_facts.specs.declared.page.Page.{Page}
 use Rattle.vm_facts.specs.declared.page.Page.TheVariants.{Data, Stack, Text}
@@ -203,6 +203,23 @@ unfoldable pub u_page : Regs → ℕ → ℕ → List ℕ
 u_page regs data_pages stack_pages =
     flat_map word_bytes (regs.r ++ codes_of regs ∷ data_pages ∷ stack_pages ∷ []) ++ replicate 948 0
 
+-- so many longwords from the front of some bytes
+abbrev pub longwords : ℕ → List ℕ → List ℕ
+longwords zero bytes = []
+longwords (suc n) (a ∷ b ∷ c ∷ d ∷ bytes) = (a + 2 ^ 8 * b + 2 ^ 16 * c + 2 ^ 24 * d) ∷ longwords n bytes
+longwords (suc n) _ = []
+
+-- a code, by its weight
+abbrev pub has_bit : ℕ → ℕ → Bool
+has_bit codes weight = codes / weight % 2 == 1
+
+abbrev pub regs_from : List ℕ → ℕ → Regs
+regs_from r codes = record { r = r; n = has_bit codes 8; z = has_bit codes 4; v = has_bit codes 2; c = has_bit codes 1 }
+
+-- the registers that a u page holds
+abbrev pub regs_in : List ℕ → Regs
+regs_in bytes = regs_from (longwords 16 bytes) (get_or (longwords 17 bytes) 16 0)
+
 -- The flat memory.
 
 abbrev pub space_held : Holding → List Space
@@ -314,3 +331,13 @@ pub record Sound (size : ℕ) (k : Kernel) : Type 0 where
 
 abbrev pub IsSound : ℕ → Kernel → Type 0
 IsSound size k = k.stopped ≡ false → Sound size k
+
+-- all are longwords
+abbrev pub AllLongwords : List ℕ → Type 0
+AllLongwords [] = Unit {0}
+AllLongwords (w ∷ ws) = (w < 2 ^ 32) × AllLongwords ws
+
+-- sixteen registers, each a longword
+pub record AreRegs (regs : Regs) : Type 0 where
+  pub count : length regs.r ≡ 16
+  pub each : AllLongwords regs.r

@@ -17,3 +17,4 @@ pub mod Journal
 pub mod Change
 pub mod Writes
 pub mod Kernel
+pub mod FlatStep

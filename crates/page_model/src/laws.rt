@@ -1,20 +1,28 @@
-ghost use Rattle.std.specs.Prelude.{◌≡◌, ◌≢◌, ℕ, ◌+◌, ◌<◌, ◌≤◌, false, List, [], ◌∷◌, length};
+ghost use Rattle.std.specs.Prelude.{◌≡◌, ◌≢◌, ◌⊎◌, ℕ, ◌+◌, ◌*◌, ◌^◌, ◌<◌, ◌≤◌, Bool, true, false, List, [], ◌∷◌, length, Some, IsSome};
 ghost use Rattle.vm_facts.specs.Flat.{FlatState};
 ghost use Rattle.vm_facts.specs.declared.page.Page.{Page};
+ghost use Rattle.vm_facts.specs.declared.page.Page.TheVariants.{Data, Stack, Text};
 ghost use Rattle.vm_facts.specs.declared.page.PageState.TheVariants.{Valid};
 ghost use Rattle.vm_facts.specs.declared.entry.Entry.{Entry};
+ghost use Rattle.vm_facts.specs.declared.regs.Regs.{Regs};
+ghost use Rattle.aout_image.specs.declared.Image.{Image};
+ghost use Rattle.aout_image.specs.Image.{data_pages_of};
+ghost use Rattle.swap_book.specs.Holdings.{Holdings};
+ghost use Rattle.swap_book.specs.Book.{IsBook};
 ghost use Rattle.page_model.specs.declared.change.Change.{Change as AnyChange};
 ghost use Rattle.page_model.specs.Flat.{NamedImage, process_of};
-ghost use Rattle.page_model.specs.Pages.{is_valid};
-ghost use Rattle.page_model.specs.Placement.{Placement, state_of, IsThere};
-ghost use Rattle.page_model.specs.Moves.{touch_all, touch, reclaim, done};
+ghost use Rattle.page_model.specs.Pages.{is_valid, number_of};
+ghost use Rattle.page_model.specs.Placement.{Placement, Transfer, Source, Reads, slots_of, state_of, IsThere, data_filling};
+ghost use Rattle.page_model.specs.Moves.{touch_all, touch, reclaim, done, get_run, drop_all};
 ghost use Rattle.page_model.specs.Hands.{hand_move};
-ghost use Rattle.page_model.specs.Place.{place_entry, place_step, filled, put_step, space_of_process, is_borrower};
-ghost use Rattle.page_model.specs.Serve.{force, serve_step, read_step, source_for};
-ghost use Rattle.page_model.specs.Conditions.{EachPage, AllApart, CanEnter, HasSeat, CanPlace, CanChange, Spares};
+ghost use Rattle.page_model.specs.Place.{due_after, place_entry, place_step, place_change, filled, put_step, space_of_process, is_borrower, resize, fork_space, enter_space, remove_space, pages_of_space, leave_text};
+ghost use Rattle.page_model.specs.Serve.{force, serve_unit, serve_entry, serve_step, read_step, source_for};
+ghost use Rattle.page_model.specs.Swapper.{is_settled};
+ghost use Rattle.page_model.specs.Conditions.{EachPage, AllApart, CanEnter, HasSeat, IsNew, IsSettled, CanPlace, CanChange, EntryShared, MayForget, Spares};
 ghost use Rattle.page_model.specs.Rank.{far, rank, HandsStand, HasRoom};
-ghost use Rattle.page_model.specs.Ownership.{OwnsFrames};
-ghost use Rattle.page_model.specs.Coupled.{Bytes, CouplesPages, with_frame, ReadsFrom, IsWritable, WritesBoth, BytesAfter};
+ghost use Rattle.page_model.specs.Ownership.{OwnsFrames, OneOwner, TextAside, block_of, needs_blocks};
+ghost use Rattle.page_model.specs.Coupled.{zeros, Bytes, CouplesPages, SamePage, SameBytes, with_frame, ReadsFrom, IsWritable, WritesBoth, Stores, BytesAfter, Copies, FillsBy, NotIn};
+ghost use Rattle.page_model.specs.Kernel.{stored, store_at, u_page, regs_in, AreRegs};
 
 /// Each frame keeps one owner: through each paging entry, each entry of a process with its change, and each unit
 /// of serving a page.
@@ -22,6 +30,19 @@ pub fn ownership_kept()
     ensures entry { (locked : List Page) (at : ℕ) (p : Placement) (e : Entry) → OwnsFrames p → CanPlace p e → OwnsFrames (place_entry locked at p e) }
     ensures change { (images : List NamedImage) (flat : FlatState) (pid at : ℕ) (written : List Page) (change : AnyChange) (p : Placement) → OwnsFrames p → CanChange (touch_all p written) (space_of_process (process_of flat pid)) (is_borrower flat.processes pid) flat.next_sid change → OwnsFrames (place_step images flat pid at written change p) }
     ensures serve { (p : Placement) (locked : List Page) (q : Page) → OwnsFrames p → IsThere p q → OwnsFrames (serve_step p locked q) }
+    ensures settled { (p : Placement) (sid : ℕ) → OwnsFrames p → is_settled p sid ≡ true → IsSettled p sid }
+{}
+
+/// Each frame and each block keeps one owner, or is free, through each paging entry; each page that is on swap, on its
+/// way there or from there, and each saved text page has its two blocks in its own owner's holding; and the blocks of
+/// different pages don't meet, so that a write of one page leaves what the image has of all others. Changes of
+/// processes leave text that nobody shares unsaved and, at most, in a free frame.
+pub fn blocks_kept()
+    ensures entry { (size : ℕ) (lives : ℕ → Bool) (hs : Holdings) (locked : List Page) (at : ℕ) (p : Placement) (e : Entry) → OneOwner size lives p hs → CanPlace p e → EntryShared p e → OneOwner size lives (place_entry locked at p e) hs }
+    ensures text { (images : List NamedImage) (p : Placement) (pid sid : ℕ) (borrowed : Bool) (next_sid at : ℕ) (change : AnyChange) → TextAside p → MayForget images p sid borrowed next_sid change → TextAside (place_change images p pid sid borrowed next_sid at change) }
+    ensures places { (size : ℕ) (lives : ℕ → Bool) (p : Placement) (hs : Holdings) (q : Page) → OneOwner size lives p hs → needs_blocks p q ≡ true → IsSome (block_of hs q) }
+    ensures apart { (size : ℕ) (hs : Holdings) (q r : Page) (x y : ℕ) → IsBook size hs → q ≢ r → block_of hs q ≡ Some x → block_of hs r ≡ Some y → (x + 2 ≤ y) ⊎ (y + 2 ≤ x) }
+    ensures stores { (size : ℕ) (hs : Holdings) (image bytes : List ℕ) (q : Page) (x : ℕ) (b : Bytes) → IsBook size hs → 512 * size ≤ length image → length bytes ≡ 1024 → block_of hs q ≡ Some x → Stores (record b { swap = stored hs image }) (record b { swap = stored hs (store_at image (block_of hs q) bytes) }) q bytes }
 {}
 
 /// The flat bytes of each page stay where its state says, whatever the swap image and the files: through a fill, a
@@ -34,6 +55,30 @@ pub fn memory_kept()
     ensures put { (p : Placement) (q : Page) (qs : List Page) (b : Bytes) → OwnsFrames p → HasSeat p q → EachPage (HasSeat p) qs → AllApart qs → CouplesPages p b → CouplesPages (put_step p q qs) b }
     ensures done { (p : Placement) (b c : Bytes) → OwnsFrames p → length b.frames ≡ length p.holds → BytesAfter b p.transfers c → CouplesPages p b → CouplesPages (done p) c }
     ensures write { (p : Placement) (q : Page) (f : ℕ) (b c : Bytes) (bytes : List ℕ) → OwnsFrames p → state_of p q ≡ Valid f → IsWritable q → p.due ≡ [] → length b.frames ≡ length p.holds → WritesBoth b c q f bytes → CouplesPages p b → CouplesPages (touch p q) c }
+{}
+
+/// The same through growth and break, a fork, a new image, a space that goes, and text that nobody shares any more:
+/// the pages that stay keep their bytes, and the new ones have those that fill them.
+pub fn spaces_kept()
+    ensures resize { (p : Placement) (sid d s : ℕ) (b c : Bytes) → CouplesPages p b → p.due ≡ [] → ((w : Page) → IsThere (resize p sid d s) w → IsThere p w → SameBytes b c w) → ((w : Page) → IsThere (resize p sid d s) w → length (slots_of p w) ≤ number_of w → zeros ≡ c.memory w) → ((image v : ℕ) → c.file (Text image v) ≡ c.memory (Text image v)) → CouplesPages (resize p sid d s) c }
+    ensures fork { (p : Placement) (parent child : ℕ) (b c : Bytes) → CouplesPages p b → IsNew p child → p.due ≡ [] → ((w : Page) → IsThere p w → SameBytes b c w) → ((v : ℕ) → Copies b c (Data child v) (Data parent v)) → ((v : ℕ) → Copies b c (Stack child v) (Stack parent v)) → ((image v : ℕ) → c.file (Text image v) ≡ c.memory (Text image v)) → CouplesPages (fork_space p parent child) c }
+    ensures enter { (p : Placement) (sid image : ℕ) (facts : Image) (b c : Bytes) → CouplesPages p b → IsNew p sid → p.due ≡ [] → ((w : Page) → IsThere p w → SameBytes b c w) → ((v : ℕ) → v < data_pages_of facts → FillsBy c (Data sid v) (data_filling facts v)) → c.start (Stack sid 0) ≡ c.memory (Stack sid 0) → ((i v : ℕ) → c.file (Text i v) ≡ c.memory (Text i v)) → CouplesPages (enter_space p sid image facts) c }
+    ensures removed { (p : Placement) (sid : ℕ) (b c : Bytes) → CouplesPages p b → p.due ≡ [] → ((w : Page) → IsThere (remove_space (drop_all p (pages_of_space p sid)) sid) w → IsThere p w → SameBytes b c w) → ((image v : ℕ) → c.file (Text image v) ≡ c.memory (Text image v)) → CouplesPages (remove_space (drop_all p (pages_of_space p sid)) sid) c }
+    ensures text { (p : Placement) (image : ℕ) (b : Bytes) → OwnsFrames p → CouplesPages p b → CouplesPages (leave_text p image) b }
+{}
+
+/// What a step leaves alone is the same in both machines: every page at a move of the hands; every other page at a
+/// fill; every page outside the run at the beginning of a read, and outside the transfer at its end.
+pub fn others_same()
+    ensures hands { (p : Placement) (locked : List Page) (b : Bytes) (w : Page) → SamePage p (hand_move p locked) b b w }
+    ensures fill { (p : Placement) (q : Page) (f : ℕ) (rest : List ℕ) (b : Bytes) (bytes : List ℕ) (w : Page) → OwnsFrames p → p.free ≡ f ∷ rest → w ≢ q → SamePage p (filled p q) b (with_frame b f bytes) w }
+    ensures read { (p : Placement) (source : Source) (demanded : Page) (qs : List Page) (b : Bytes) (w : Page) → OwnsFrames p → EachPage (CanEnter p) qs → AllApart qs → EachPage (λ r. w ≢ r) qs → SamePage p (get_run p (Reads source demanded) qs) b b w }
+    ensures done { (p : Placement) (t : Transfer) (ts : List Transfer) (b c : Bytes) (w : Page) → OwnsFrames p → p.transfers ≡ t ∷ ts → BytesAfter b (t ∷ ts) c → NotIn w t.parts → SamePage p (done p) b c w }
+{}
+
+/// The registers that go out into a u page come back from it.
+pub fn registers_kept()
+    ensures { (regs : Regs) (data_pages stack_pages : ℕ) → AreRegs regs → data_pages < 2 ^ 32 → stack_pages < 2 ^ 32 → regs_in (u_page regs data_pages stack_pages) ≡ regs }
 {}
 
 /// Forcing a frame ends: `far` falls with each unit, whatever is locked. With nothing in flight it is at most one
@@ -51,4 +96,13 @@ pub fn forcing_ends()
 pub fn serving_ends()
     ensures falls { (p : Placement) (locked : List Page) (q : Page) → OwnsFrames p → HandsStand p → HasRoom p locked → IsThere p q → is_valid (state_of p q) ≡ false → rank (serve_step p locked q) locked q < rank p locked q }
     ensures spares { (p : Placement) (locked : List Page) (q : Page) → OwnsFrames p → IsThere p q → Spares p (serve_step p locked q) locked }
+{}
+
+/// The unit that serving asks for is its entry, whether waiting is allowed or not, and where there is none the page
+/// is valid or serving would wait; and its step is what the entry does to a placement, for a page that isn't the
+/// first that is due.
+pub fn serving_units()
+    ensures now { (p : Placement) (q : Page) → is_valid (state_of p q) ≡ false → serve_unit p q true ≡ Some (serve_entry p q) }
+    ensures unit { (p : Placement) (q : Page) (now : Bool) (e : Entry) → serve_unit p q now ≡ Some e → (is_valid (state_of p q) ≡ false) × (e ≡ serve_entry p q) }
+    ensures step { (locked : List Page) (at : ℕ) (p : Placement) (q : Page) → is_valid (state_of p q) ≡ false → due_after p.due q ≡ p.due → place_entry locked at p (serve_entry p q) ≡ serve_step p locked q }
 {}

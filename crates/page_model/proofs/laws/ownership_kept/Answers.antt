@@ -1,5 +1,6 @@
 use Rattle.page_model.proofs.OwnsEntries.{place_entry_owner, place_step_owner}
 use Rattle.page_model.proofs.OwnsServe.{serve_owner}
+use Rattle.page_model.proofs.Sames.{settled_rests}
 use Rattle.page_model.proofs.laws.ownership_kept.Goals as goal
 
 pub returns-clause-entry : goal.returns-clause-entry
@@ -10,3 +11,6 @@ returns-clause-change c = place_step_owner
 
 pub returns-clause-serve : goal.returns-clause-serve
 returns-clause-serve c = serve_owner
+
+pub returns-clause-settled : goal.returns-clause-settled
+returns-clause-settled c = settled_rests

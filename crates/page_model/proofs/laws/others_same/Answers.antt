@@ -1,0 +1,15 @@
+use Rattle.page_model.proofs.Stays.{move_stays}
+use Rattle.page_model.proofs.Sames.{stays_same, filled_same, get_run_same, done_same}
+use Rattle.page_model.proofs.laws.others_same.Goals as goal
+
+pub returns-clause-hands : goal.returns-clause-hands
+returns-clause-hands c = λ p locked b w. stays_same p _ b w (move_stays p locked)
+
+pub returns-clause-fill : goal.returns-clause-fill
+returns-clause-fill c = filled_same
+
+pub returns-clause-read : goal.returns-clause-read
+returns-clause-read c = get_run_same
+
+pub returns-clause-done : goal.returns-clause-done
+returns-clause-done c = done_same
