@@ -241,9 +241,19 @@ fn a_schedule_has_at_most_65536_lines(rt: HostRuntime) -> Result<(), Fail> {
 }
 
 // The text that words write over a file `text` and the image that writes two bytes.
-fn check_tool<R: Abort>(rt: &R, alloc: Global, words: &[&str], source: &str, text: &str, status: u8) -> Result<(), Fail> {
+fn check_tool<R: Abort>(
+    rt: &R,
+    alloc: Global,
+    words: &[&str],
+    source: &str,
+    text: &str,
+    status: u8,
+) -> Result<(), Fail> {
     let mut held = Vec::new(alloc);
-    held.push(("text".to_string(alloc)?, Vec::from_slice(alloc, source.as_bytes())?))?;
+    held.push((
+        "text".to_string(alloc)?,
+        Vec::from_slice(alloc, source.as_bytes())?,
+    ))?;
     held.push(("image".to_string(alloc)?, writing(alloc, &TWO_BYTES)?))?;
     let mut files = MemFiles::new(held, Vec::new(alloc));
     let mut zero = SureSwap::new(alloc, 256)?;
@@ -275,22 +285,46 @@ fn lists_an_image_and_names_a_bad_source(rt: HostRuntime) -> Result<(), Fail> {
         "vmrun: bad source line 3\n",
         17,
     )?;
-    check_tool(&rt, rt.alloc(), &["as", "none"], "", "vmrun: absent none\n", 2)?;
-    check_tool(&rt, rt.alloc(), &["dis", "text"], "", "vmrun: not an image: text reason 1\n", 3)
+    check_tool(
+        &rt,
+        rt.alloc(),
+        &["as", "none"],
+        "",
+        "vmrun: absent none\n",
+        2,
+    )?;
+    check_tool(
+        &rt,
+        rt.alloc(),
+        &["dis", "text"],
+        "",
+        "vmrun: not an image: text reason 1\n",
+        3,
+    )
 }
 
 #[test]
 fn assembles_a_source_into_an_image(rt: HostRuntime) -> Result<(), Fail> {
     let alloc = rt.alloc();
     let mut held = Vec::new(alloc);
-    held.push(("text".to_string(alloc)?, Vec::from_slice(alloc, b".word 0\nclrl r0\nl: brb l\n.bss 2048\n")?))?;
+    held.push((
+        "text".to_string(alloc)?,
+        Vec::from_slice(alloc, b".word 0\nclrl r0\nl: brb l\n.bss 2048\n")?,
+    ))?;
     let mut files = MemFiles::new(held, Vec::new(alloc));
     let mut zero = SureSwap::new(alloc, 256)?;
     let mut one = SureSwap::new(alloc, 256)?;
     let mut sink = MemSink::new(alloc, 4096, Vec::new(alloc))?;
     let words = ["as", "text"];
     assert_eq!(rt;
-        vmrun(alloc, words.as_slice(), &mut files, &mut zero, &mut one, &mut sink),
+        vmrun(
+            alloc,
+            words.as_slice(),
+            &mut files,
+            &mut zero,
+            &mut one,
+            &mut sink
+        ),
         0
     );
     let image = paged(alloc, 2048, &[At(0, &[0, 0, 0xD4, 0x50, 0x11, 0xFE])])?;
