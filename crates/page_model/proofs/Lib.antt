@@ -33,3 +33,4 @@ pub mod Registers
 pub mod KernelLaws
 pub mod Units
 pub mod SpaceLaws
+pub mod ServeStands
