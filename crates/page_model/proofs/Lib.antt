@@ -33,3 +33,4 @@ pub mod Sames
 pub mod Registers
 pub mod KernelLaws
 pub mod Units
+pub mod ServeStands
