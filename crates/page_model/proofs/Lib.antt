@@ -6,7 +6,6 @@ pub mod Couples
 pub mod PartLaws
 pub mod Steps
 pub mod Joins
-pub mod SpaceLaws
 pub mod Owns
 pub mod RunLaws
 pub mod OwnsRuns
@@ -33,4 +32,5 @@ pub mod Sames
 pub mod Registers
 pub mod KernelLaws
 pub mod Units
+pub mod SpaceLaws
 pub mod ServeStands

@@ -15,6 +15,6 @@ pub mod Coupled
 pub mod Swapper
 pub mod Journal
 pub mod Change
-pub mod Writes
 pub mod Kernel
 pub mod FlatStep
+pub mod Writes
