@@ -4,10 +4,12 @@ use std::rt::Files;
 use std::{fs, io};
 use vm_facts::{Entry, NoMemory};
 
-fn place_of(images: &[Flat], name: &str) -> Option<u32> {
+// The number of the image of this name.
+fn number_of(images: &[Flat], name: &str) -> Option<u32> {
     for place in 0..images.len() {
-        if images[place].name.as_str() == name {
-            return Some(place as u32 + 1);
+        let image = &images[place];
+        if image.name.as_str() == name {
+            return u32::try_from(place).ok()?.checked_add(1);
         }
     }
     None
@@ -19,7 +21,10 @@ fn judged<R: AllocGlobal>(
     first: &[u32],
     entries: &[Entry],
 ) -> io::Result<String> {
-    if !are_images(images) || !are_numbers(images.len(), first) || entries.len() > 100_000 {
+    if images.len() > 16 || entries.len() > 100_000 {
+        return Ok(format!(in rt.alloc(); "too large to be replayed")?);
+    }
+    if !are_images(images) || !are_numbers(images.len(), first) {
         return Ok(format!(in rt.alloc(); "not to be replayed")?);
     }
     match replay(rt.alloc(), images, first, entries) {
@@ -42,20 +47,16 @@ pub fn verdict<R: Files + AllocGlobal>(rt: &R, head: &str, body: &str) -> io::Re
         if index < 2 {
             continue;
         }
-        let starts = !word.starts_with('=');
-        let file = if starts { word } else { &word[1..] };
-        let number = match place_of(images.as_slice(), file) {
-            Some(number) => number,
-            None => {
-                let bytes = fs::read(rt, file)?;
-                images.push(Flat {
-                    name: file.to_string(alloc)?,
-                    bytes,
-                })?;
-                images.len() as u32
-            }
+        let (starts, file) = match word.strip_prefix('=') {
+            Some(known) => (false, known),
+            None => (true, word),
         };
-        if starts {
+        if number_of(images.as_slice(), file).is_none() {
+            let bytes = fs::read(rt, file)?;
+            let name = file.to_string(alloc)?;
+            images.push(Flat { name, bytes })?;
+        }
+        if starts && let Some(number) = number_of(images.as_slice(), file) {
             first.push(number)?;
         }
     }
