@@ -7,3 +7,4 @@ pub mod FlatRuns
 pub mod Wanting
 pub mod StepEnds
 pub mod Acting
+pub mod Worked
