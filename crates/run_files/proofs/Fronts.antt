@@ -1,0 +1,141 @@
+-- What was read of a file's front is what is told.
+use Rattle.std.proofs.Common.{◌≡◌, ◌⊎◌, inl, inr, ℕ, ◌+◌, ◌-◌, ◌<◌, ◌≤◌, min, List, [], ◌∷◌, ◌++◌, length, take, drop, replicate, Option, Some, None, Result, Ok, Err, refl, sym, ap, ◌∙◌, subst, arith}
+use Rattle.std.specs.Prelude.{IfOk, IfErr, Bool, true, false, is_ok, is_err, if◌then◌else◌}
+use Rattle.std.proofs.lemmas.Bool.{cases_lt}
+use Rattle.std.proofs.lemmas.List.{take_all, length-append, length-replicate, length-drop, length-take-le, take-take, take-append-drop, take-append-le}
+use Rattle.std.proofs.lemmas.Slice.{between_to_end, between-put_mid}
+use borrow.Rule.Slice.PartMut.{put_mid, same_len_mid}
+use Rattle.std.proofs.Math.Seq.{take-add, take-append_seam}
+use Rattle.io_edge.specs.declared.Moved.{Moved}
+use Rattle.io_edge.specs.declared.Moved.TheVariants.{Done, Failed}
+use Rattle.io_edge.specs.Count.{OnDone}
+use Rattle.io_edge.specs.FileHolding.{NamedFile, place_of, bytes_at, file_range, HoldsRange}
+use Rattle.aout_image.specs.declared.Image.{Image}
+use Rattle.aout_image.specs.declared.Judged.TheVariants.{Is, NotImage as No}
+use Rattle.aout_image.specs.Image.{Loaded, image_of, judged_of, file_length_of, is_paged, NeedsNoMore}
+use Rattle.run_files.specs.declared.answers.Unread.{Unread}
+use Rattle.run_files.specs.declared.answers.Unread.TheVariants.{Absent, NotImage, FileFault, NoMemory}
+use Rattle.run_files.specs.Answering.{Answers, IsFailure}
+use Rattle.run_files.specs.Told.{bytes_told, bytes_told_at, image_in, IsImageOf}
+
+take_least : (bytes : List ℕ) (most : ℕ) → take (min (length bytes) most) bytes ≡ take most bytes
+take_least bytes most = go (cases_lt (length bytes) most)
+  where
+    go : (length bytes < most) ⊎ (most ≤ length bytes) → take (min (length bytes) most) bytes ≡ take most bytes
+    go (inl short) = take_all (min (length bytes) most) bytes (omega arith) ∙ sym (take_all most bytes (omega arith))
+    go (inr long) = let k : min (length bytes) most ≡ most = omega arith in ap (λ (m : ℕ). take m bytes) k
+
+-- so many bytes of the front, as they were read
+pub front_of : (holds : Option (List NamedFile)) (list : List NamedFile) (id len most : ℕ) (front : List ℕ) → holds ≡ Some list → len ≡ length (bytes_at list id)
+    → length front ≡ min len most → HoldsRange holds id 0 front → front ≡ take most (bytes_at list id)
+front_of holds list id len most front told size count held =
+    let here : front ≡ file_range (bytes_at list id) 0 (length front) = subst (λ (h : Option (List NamedFile)). HoldsRange h id 0 front) told held in
+    let many : length front ≡ min (length (bytes_at list id)) most = count ∙ ap (λ (n : ℕ). min n most) size in
+    here ∙ ap (λ (n : ℕ). take n (bytes_at list id)) many ∙ take_least (bytes_at list id) most
+
+pub front_answers : {A : Type 0} (view : A → List ℕ) (r : Result A Unread) (holds : Option (List NamedFile)) (list : List NamedFile) (name : List ℕ) (id len most : ℕ)
+    → holds ≡ Some list → place_of list name ≡ Some id → len ≡ length (bytes_at list id)
+    → IfOk r (λ bytes. HoldsRange holds id 0 (view bytes)) → IfOk r (λ bytes. length (view bytes) ≡ min len most) → IfErr r IsFailure
+    → Answers view (bytes_told list name most) r
+front_answers view (Ok bytes) holds list name id len most told place size held count failure =
+    ap (λ (p : Option ℕ). bytes_told_at list p most) place ∙ ap (λ (xs : List ℕ). Ok xs) (sym (front_of holds list id len most (view bytes) told size count held))
+front_answers view (Err Absent) holds list name id len most told place size held count failure = absurd failure
+front_answers view (Err (NotImage reason)) holds list name id len most told place size held count failure = absurd failure
+front_answers view (Err FileFault) holds list name id len most told place size held count failure = tt
+front_answers view (Err NoMemory) holds list name id len most told place size held count failure = tt
+
+pub holds_empty : (holds : Option (List NamedFile)) (id offset : ℕ) (bytes : List ℕ) → length bytes ≡ 0 → HoldsRange holds id offset bytes
+holds_empty None id offset bytes empty = tt
+holds_empty (Some files) id offset bytes empty = nothing bytes (ap (λ (n : ℕ). take n (drop offset (bytes_at files id))) empty) empty
+  where
+    nothing : (xs : List ℕ) → take (length xs) (drop offset (bytes_at files id)) ≡ [] → length xs ≡ 0 → xs ≡ take (length xs) (drop offset (bytes_at files id))
+    nothing [] none size = sym none
+    nothing (x ∷ xs) none size = absurd (omega (arith, size))
+
+-- a header and the rest behind it make the front of the file
+pub joined : (holds : Option (List NamedFile)) (list : List NamedFile) (id len : ℕ) (head bytes : List ℕ) → holds ≡ Some list → take 32 (bytes_at list id) ≡ head → take 32 bytes ≡ head
+    → length bytes ≡ len → 32 ≤ len → HoldsRange holds id 32 (drop 32 bytes) → bytes ≡ take len (bytes_at list id)
+joined holds list id len head bytes told file front size above held =
+    let whole = bytes_at list id in
+    let here : drop 32 bytes ≡ file_range whole 32 (length (drop 32 bytes)) = subst (λ (h : Option (List NamedFile)). HoldsRange h id 32 (drop 32 bytes)) told held in
+    let rest : length (drop 32 bytes) ≡ len - 32 = omega (arith, length-drop 32 bytes, size) in
+    let split : len ≡ 32 + (len - 32) = omega arith in
+    sym (take-append-drop 32 bytes)
+    ∙ ap (λ (xs : List ℕ). xs ++ drop 32 bytes) (front ∙ sym file)
+    ∙ ap (λ (xs : List ℕ). take 32 whole ++ xs) (here ∙ ap (λ (n : ℕ). take n (drop 32 whole)) rest)
+    ∙ sym (take-add 32 (len - 32) whole)
+    ∙ ap (λ (n : ℕ). take n whole) (sym split)
+
+-- the judgement of the file
+pub judged_not : (bytes : List ℕ) (r : Result Loaded ℕ) (reason : ℕ) → No reason ≡ judged_of r → image_in bytes r ≡ Err (NotImage reason)
+judged_not bytes (Ok image) reason e = absurd cc
+judged_not bytes (Err other) reason e = let same : reason ≡ other = cc in ap (λ (x : ℕ). Err (NotImage x)) (sym same)
+
+pub judged_is : (bytes front : List ℕ) (r : Result Loaded ℕ) (facts : Image) → Is facts ≡ judged_of r → front ≡ take (file_length_of facts) bytes → image_in bytes r ≡ Ok (facts, front)
+judged_is bytes front (Ok image) facts e same =
+    let is : image.facts ≡ facts = let other : facts ≡ image.facts = cc in sym other in
+    ap (λ (i : Image). Ok (i, take (file_length_of i) bytes)) is ∙ ap (λ (xs : List ℕ). Ok (facts, xs)) (sym same)
+judged_is bytes front (Err reason) facts e same = absurd cc
+
+is_image : (r : Result Loaded ℕ) (facts : Image) → IsImageOf r facts → (image : Loaded) × (r ≡ Ok image) × (image.facts ≡ facts)
+is_image (Ok image) facts is = (image, refl, is)
+is_image (Err reason) facts is = absurd is
+
+of_judged : (r : Result Loaded ℕ) (facts : Image) → Is facts ≡ judged_of r → IsImageOf r facts
+of_judged (Ok image) facts e = let same : facts ≡ image.facts = cc in sym same
+of_judged (Err reason) facts e = absurd cc
+
+-- The bytes up to the end of text and data are an image with the facts that their header was judged to have, whatever
+-- stands behind them in the file.
+pub image_of_front : (facts : Image) (len n : ℕ) (head bytes : List ℕ)
+    → ((whole : List ℕ) → take 32 whole ≡ head → length whole ≡ len → Is facts ≡ judged_of (image_of whole))
+    → NeedsNoMore facts n → n ≤ len → 32 ≤ n → length bytes ≡ n → take 32 bytes ≡ head → IsImageOf (image_of bytes) facts
+image_of_front facts len n head bytes judged enough within above size front =
+    let whole : List ℕ = bytes ++ replicate (len - n) 0 in
+    let long : length whole ≡ len = omega (arith, length-append bytes (replicate (len - n) 0), length-replicate {A = ℕ} (len - n) 0, size, within) in
+    let begins : take 32 whole ≡ head = take-append-le 32 bytes (replicate (len - n) 0) (omega (arith, size, above)) ∙ front in
+    let is = is_image (image_of whole) facts (of_judged (image_of whole) facts (judged whole begins long)) in
+    let back : take n whole ≡ bytes = ap (λ (k : ℕ). take k whole) (sym size) ∙ take-append_seam bytes (replicate (len - n) 0) in
+    let same : image_of bytes ≡ Ok is.0 = ap image_of (sym back) ∙ enough whole is.0 is.1 is.2 in
+    subst (λ (r : Result Loaded ℕ). IsImageOf r facts) (sym same) is.2
+
+behind_mid : (a n : ℕ) (xs ys : List ℕ) → n ≡ length xs → a ≤ n → length ys ≡ n - a → drop a (put_mid a (n - a) xs ys) ≡ ys
+behind_mid a n xs ys size within long =
+    let whole : length (put_mid a (n - a) xs ys) ≤ n = omega (arith, same_len_mid a (n - a) xs ys (omega (arith, long, length-drop a xs, length-take-le (n - a) (drop a xs) (omega (arith, length-drop a xs, size)))), size) in
+    sym (between_to_end (put_mid a (n - a) xs ys) a n whole) ∙ between-put_mid a (n - a) xs ys n (omega (arith, size, within)) long
+
+-- what was read behind the header stands behind it
+pub holds_behind : (moved : Moved) (holds : Option (List NamedFile)) (id : ℕ) (xs ys : List ℕ) → 32 ≤ length xs → length ys ≡ length xs - 32
+    → OnDone moved (HoldsRange holds id 32 ys) → OnDone moved (HoldsRange holds id 32 (drop 32 (put_mid 32 (length xs - 32) xs ys)))
+holds_behind Failed holds id xs ys above long held = tt
+holds_behind Done holds id xs ys above long held = subst (λ (zs : List ℕ). HoldsRange holds id 32 zs) (sym (behind_mid 32 (length xs) xs ys refl above long)) held
+
+-- the header stands in front of the zeros
+resized_head : {A E : Type 0} (r : Result A E) (n : ℕ) (head zeros items : List ℕ) → false ≡ is_err r → items ≡ (if is_ok r then take n head ++ zeros else head) → length head ≡ 32 → 32 ≤ n → take 32 items ≡ head
+resized_head (Ok x) n head zeros items good same size above =
+    ap (take 32) (same ∙ ap (λ (xs : List ℕ). xs ++ zeros) (take_all n head (omega (arith, size, above))))
+    ∙ take-append-le 32 head zeros (omega (arith, size)) ∙ take_all 32 head (omega (arith, size))
+resized_head (Err e) n head zeros items good same size above = absurd cc
+
+-- and in front of what was read behind it
+pub head_kept : {A E : Type 0} (r : Result A E) (n m : ℕ) (head zeros items old new more : List ℕ) → false ≡ is_err r → items ≡ (if is_ok r then take n head ++ zeros else head) → length head ≡ 32 → 32 ≤ n
+    → old ≡ items → take 32 new ≡ take 32 old → 32 ≤ m → 32 ≤ length new → take 32 (take m (new ++ more)) ≡ head
+head_kept r n m head zeros items old new more good same size above is kept within long =
+    take-take 32 m (new ++ more) within ∙ take-append-le 32 new more long ∙ kept ∙ ap (take 32) is ∙ resized_head r n head zeros items good same size above
+
+-- the header that was read is the file's
+pub header_of_file : (holds : Option (List NamedFile)) (list : List NamedFile) (id len : ℕ) (head : List ℕ) → holds ≡ Some list → len ≡ length (bytes_at list id)
+    → length head ≡ min len 32 → HoldsRange holds id 0 head → take 32 (bytes_at list id) ≡ head
+header_of_file holds list id len head told size count held = sym (front_of holds list id len 32 head told size count held)
+
+text_above : (paged : Bool) → 32 ≤ (if paged then 1024 else 32)
+text_above true = omega arith
+text_above false = omega arith
+
+-- text and data stand behind the header
+pub above_header : (image : Image) → 32 ≤ file_length_of image
+above_header image = let above = text_above (is_paged image.kind) in omega (arith, above)
+
+pub at_least : (b : Bool) (n m k : ℕ) → n ≡ (if b then m else k) → 32 ≤ m → 32 ≤ k → 32 ≤ n
+at_least true n m k is first second = omega (arith, is, first)
+at_least false n m k is first second = omega (arith, is, second)

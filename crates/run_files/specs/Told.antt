@@ -1,0 +1,33 @@
+-- What the file of a name is read as, where the files are told.
+use Rattle.std.specs.Prelude.{◌≡◌, ℕ, List, take, Option, Some, None, Result, Ok, Err}
+use Rattle.io_edge.specs.FileHolding.{NamedFile, place_of, bytes_at}
+use Rattle.aout_image.specs.declared.Image.{Image}
+use Rattle.aout_image.specs.Image.{Loaded, image_of, file_length_of}
+use Rattle.run_files.specs.declared.answers.Unread.{Unread}
+use Rattle.run_files.specs.declared.answers.Unread.TheVariants.{Absent, NotImage}
+
+abbrev pub bytes_told_at : List NamedFile → Option ℕ → ℕ → Result (List ℕ) Unread
+bytes_told_at files None most = Err Absent
+bytes_told_at files (Some place) most = Ok (take most (bytes_at files place))
+
+-- the first bytes of the file of this name
+abbrev pub bytes_told : List NamedFile → List ℕ → ℕ → Result (List ℕ) Unread
+bytes_told files name most = bytes_told_at files (place_of files name) most
+
+-- the facts of the image that a file is, and its bytes up to the end of its text and data; or why it is none
+abbrev pub image_in : List ℕ → Result Loaded ℕ → Result (Image × List ℕ) Unread
+image_in bytes (Ok image) = Ok (image.facts, take (file_length_of image.facts) bytes)
+image_in bytes (Err reason) = Err (NotImage reason)
+
+abbrev pub image_told_at : List NamedFile → Option ℕ → Result (Image × List ℕ) Unread
+image_told_at files None = Err Absent
+image_told_at files (Some place) = image_in (bytes_at files place) (image_of (bytes_at files place))
+
+-- the image of this name
+abbrev pub image_told : List NamedFile → List ℕ → Result (Image × List ℕ) Unread
+image_told files name = image_told_at files (place_of files name)
+
+-- these are the facts of the image
+abbrev pub IsImageOf : Result Loaded ℕ → Image → Type 0
+IsImageOf (Ok image) facts = image.facts ≡ facts
+IsImageOf (Err reason) facts = ⊥

@@ -1,0 +1,57 @@
+ghost use Rattle.std.specs.Prelude.{◌≡◌, ◌≤◌, ◌^◌, ◌<◌, ℕ, List, Some, IfOk, IfErr, length};
+ghost use Rattle.io_edge.specs.FileHolding.{NamedFile, HasRange, HoldsRange};
+ghost use Rattle.run_files.specs.Answering.{Answers, CountsFault, IsFailure, IsOfAnyFile};
+ghost use Rattle.run_files.specs.Told.{bytes_told};
+
+use crate::answers::Unread;
+use io_edge::{Files, Found, Moved};
+use std::alloc::Global;
+
+// So many bytes from the start of a file on; none need no call.
+pub(crate) fn read_front<F: Files>(
+    alloc: Global,
+    files: &mut F,
+    id: u32,
+    len: usize,
+) -> Result<Vec<u8>, Unread>
+    requires range { HasRange (F.holds files.old) id 0 len }
+    ensures bytes { IfOk result (λ bytes. HoldsRange (F.holds files.old) id 0 bytes.items) }
+    ensures size { IfOk result (λ bytes. length bytes.items ≡ len) }
+    ensures error { IfErr result IsFailure }
+    ensures holds { F.holds files.new ≡ F.holds files.old }
+    ensures open_faults { CountsFault result (F.open_faults files.old) (F.open_faults files.new) }
+    ensures page_faults { F.page_faults files.new ≡ F.page_faults files.old }
+{
+    let Ok(mut bytes) = vec![in alloc; 0u8; len] else {
+        return Err(Unread::NoMemory);
+    };
+    if len == 0 {
+        return Ok(bytes);
+    }
+    match files.read_at(id, 0, bytes.as_mut_slice()) {
+        Moved::Failed => Err(Unread::FileFault),
+        Moved::Done => Ok(bytes),
+    }
+}
+
+/// Finds a file and reads it, where it isn't empty, by one call: all of it, or its first `most` bytes
+/// where it has more. Absent comes only where a told list lacks the name, and NotImage never.
+pub fn read_file<F: Files>(
+    alloc: Global,
+    files: &mut F,
+    name: &str,
+    most: u64,
+) -> Result<Vec<u8>, Unread>
+    ensures answers { (list : List NamedFile) → F.holds files.old ≡ Some list → Answers (λ bytes. bytes.items) (bytes_told list name.now most) result }
+    ensures size { IfOk result (λ bytes. length bytes.items ≤ most) }
+    ensures error { IfErr result IsOfAnyFile }
+    ensures holds { F.holds files.new ≡ F.holds files.old }
+    ensures open_faults { CountsFault result (F.open_faults files.old) (F.open_faults files.new) }
+    ensures page_faults { F.page_faults files.new ≡ F.page_faults files.old }
+{
+    match files.find(name) {
+        Found::Failed => Err(Unread::FileFault),
+        Found::Absent => Err(Unread::Absent),
+        Found::Is { id, len } => read_front(alloc, files, id, len.min(most) as usize),
+    }
+}

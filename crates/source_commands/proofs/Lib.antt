@@ -1,0 +1,5 @@
+pub mod Listings
+pub mod Segments
+pub mod Padding
+pub mod Limits
+pub mod Makings

@@ -1,0 +1,4 @@
+pub mod Ending
+pub mod ProgramFile
+pub mod Listing
+pub mod Command

@@ -1,0 +1,71 @@
+ghost use Rattle.std.specs.Prelude.{◌≡◌, ◌≤◌, ◌<◌, ◌+◌, ◌^◌, ◌/◌, Bool, length, min};
+ghost use Rattle.aout_image.specs.Image.{IsSound, file_length_of, pages_of, offset_of, given_of};
+ghost use Rattle.run_files.specs.Told.{image_told};
+ghost use Rattle.source_commands.specs.Ending.{ending_of};
+ghost use Rattle.source_commands.specs.Listing.{code_at};
+ghost use Rattle.source_commands.specs.Command.{Made, Lists, EndsListing};
+
+use crate::fault::Fault;
+use crate::text::listing_of;
+use crate::writing::write_ending;
+use aout_image::Image;
+use io_edge::{Files, Sink};
+use run_files::load_image;
+use std::alloc::Global;
+
+// Where the byte of a segment stands in the file.
+fn place_in(image: &Image, text: bool, at: u32) -> u64
+    requires sound { IsSound image.now }
+    requires within { at / 1024 < pages_of text image.now }
+    ensures { result ≡ offset_of text image.now + min at (given_of text image.now) }
+{
+    let (offset, count) = image.file_span(text, at / 1024);
+    offset + u64::from((at % 1024).min(count))
+}
+
+// The bytes from the first instruction on that the file gives to its segment.
+fn code_of<'a>(image: &Image, bytes: &'a [u8]) -> &'a [u8]
+    requires sound { IsSound image.now }
+    requires size { length bytes.now ≡ file_length_of image.now }
+    ensures { result.now ≡ code_at image.now bytes.now (image.now.entry + 2) }
+{
+    let at = image.entry + 2;
+    let data_start = image.data_start();
+    if at < data_start {
+        let start = place_in(image, true, at);
+        let end = image.file_length() - u64::from(image.data_len);
+        &bytes[start as usize..end as usize]
+    } else {
+        let start = place_in(image, false, at - data_start);
+        &bytes[start as usize..]
+    }
+}
+
+// The listing of the image of this name.
+fn listing_from<F: Files>(alloc: Global, files: &mut F, name: &str) -> Result<Vec<u8>, Fault>
+    ensures { Made EndsListing (λ list. image_told list name.now) (F.holds files.old)
+        (record { open_before = F.open_faults files.old; open_after = F.open_faults files.new; page_before = F.page_faults files.old; page_after = F.page_faults files.new }) (ending_of result) }
+{
+    let loaded = match load_image(alloc, files, name) {
+        Ok(loaded) => loaded,
+        Err(unread) => return Err(Fault::of_unread(unread)),
+    };
+    let code = code_of(&loaded.image, loaded.bytes.as_slice());
+    match listing_of(alloc, code, loaded.image.entry + 2) {
+        Ok(listing) => Ok(listing),
+        Err(_) => Err(Fault::NoMemory),
+    }
+}
+
+/// Lists the instructions of the image of this name, from its first one to the first place without
+/// one, and answers the exit status: 0 where the listing was written; 2 an absent file; 3 no image; 5
+/// a file fault; 8 a fault of the output; 9 want of memory. At any other status than 0 and 8 the line
+/// of the fault is written instead (this project's profile).
+pub fn list_file<F: Files, S: Sink>(alloc: Global, files: &mut F, sink: &mut S, name: &str) -> u8
+    ensures { Lists name.now (F.holds files.old)
+        (record { open_before = F.open_faults files.old; open_after = F.open_faults files.new; page_before = F.page_faults files.old; page_after = F.page_faults files.new })
+        (S.written sink.old) (S.written sink.new) (S.faults sink.old) (S.faults sink.new) result }
+{
+    let made = listing_from(alloc, files, name);
+    write_ending(alloc, sink, name, made)
+}

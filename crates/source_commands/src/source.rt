@@ -1,0 +1,52 @@
+ghost use Rattle.io_edge.specs.FileHolding.{NamedFile};
+ghost use Rattle.run_files.specs.Told.{bytes_told};
+ghost use Rattle.source_commands.specs.Ending.{ending_of};
+ghost use Rattle.source_commands.specs.Command.{Made, Assembles, EndsAssembly};
+
+use crate::fault::Fault;
+use crate::program_file::file_of;
+use crate::writing::write_ending;
+use io_edge::{Files, Sink};
+use run_files::read_file;
+use std::alloc::Global;
+use vax_asm::{Assembled, assemble};
+
+/// A source longer than this is read no further: a good one has at most 4,096 lines of 121 bytes.
+const SOURCE_BYTES: u64 = 495_617;
+
+// The file that a source makes.
+fn file_from<F: Files>(alloc: Global, files: &mut F, name: &str) -> Result<Vec<u8>, Fault>
+    ensures { Made EndsAssembly (λ list. bytes_told list name.now 495617) (F.holds files.old)
+        (record { open_before = F.open_faults files.old; open_after = F.open_faults files.new; page_before = F.page_faults files.old; page_after = F.page_faults files.new }) (ending_of result) }
+{
+    let source = match read_file(alloc, files, name, SOURCE_BYTES) {
+        Ok(source) => source,
+        Err(unread) => return Err(Fault::of_unread(unread)),
+    };
+    match assemble(alloc, source.as_slice()) {
+        Ok(Assembled::Is(program)) => match file_of(alloc, &program) {
+            Ok(file) => Ok(file),
+            Err(_) => Err(Fault::NoMemory),
+        },
+        Ok(Assembled::BadLine(line)) => Err(Fault::BadSource(line)),
+        Err(_) => Err(Fault::NoMemory),
+    }
+}
+
+/// Assembles the source of this name, writes the file of its program, and answers the exit status: 0
+/// where it was written; 2 an absent file; 5 a file fault; 8 a fault of the output; 9 want of memory;
+/// 17 a bad source. At any other status than 0 and 8 the line of the fault is written instead (this
+/// project's profile).
+pub fn assemble_file<F: Files, S: Sink>(
+    alloc: Global,
+    files: &mut F,
+    sink: &mut S,
+    name: &str,
+) -> u8
+    ensures { Assembles name.now (F.holds files.old)
+        (record { open_before = F.open_faults files.old; open_after = F.open_faults files.new; page_before = F.page_faults files.old; page_after = F.page_faults files.new })
+        (S.written sink.old) (S.written sink.new) (S.faults sink.old) (S.faults sink.new) result }
+{
+    let made = file_from(alloc, files, name);
+    write_ending(alloc, sink, name, made)
+}
