@@ -1,11 +1,14 @@
 -- Lists of processes, changed in place.
-use Rattle.std.proofs.Common.{◌≡◌, ℕ, cond, zero, suc, ◌+◌, ◌<◌, ◌==◌, Bool, true, false, List, [], ◌∷◌, ◌++◌, length, map, take, drop, get_or, set, Some, IsTrue, refl, sym, ap, ◌∙◌, subst, arith}
+use Rattle.std.proofs.Common.{◌≡◌, ℕ, cond, zero, suc, ◌+◌, ◌<◌, ◌==◌, Bool, true, false, List, [], ◌∷◌, ◌++◌, length, map, take, drop, get_or, set, Some, None, IsTrue, inl, inr, nat_lt, refl, sym, ap, ◌∙◌, subst, arith}
 use Rattle.std.specs.Prelude.{position, find}
+use Rattle.std.specs.List.{position_or_len}
+use Rattle.std.proofs.lemmas.Bool.{cases_lt}
+use Rattle.std.proofs.lemmas.List.Sums.{fails_before_first}
 use Rattle.std.proofs.lemmas.List.Quantifiers.{position-Some}
 use Rattle.vm_facts.specs.Flat.{Space, Holds, Process, FlatState}
 use Rattle.std.proofs.lemmas.Bool.Decides.{nat_tests}
 use Rattle.page_model.specs.Flat.{process_of, is_ready, holds_space}
-use Rattle.page_model.specs.Change.{replaced, replaced_by, with_process, returned, returned_by, lends_to}
+use Rattle.page_model.specs.Change.{replaced, replaced_by, with_process, returned, returned_by, given_back, lends_to}
 use Rattle.replay_check.specs.Machine.{no_process, process_at, IsPlace}
 
 -- an element of a list whose front was changed
@@ -69,6 +72,28 @@ returned_at (x ∷ xs) (suc i) pid s h =
     ap (λ (b : Bool). returned_by b s x xs (returned pid s xs)) (h.earlier zero (omega arith))
     ∙ ap (λ (ys : List Process). x ∷ ys) (returned_at xs i pid s (rest_first (λ (q : Process). lends_to pid q.holding) x xs i h))
 
+none_passes : (test : Process → Bool) (xs : List Process) → position test xs ≡ None → (k : ℕ) → k < length xs → test (get_or xs k no_process) ≡ false
+none_passes test xs none k below = elim (cases_lt (position_or_len test xs) (length xs)) [
+  | inl inside ↦ absurd (let t : nat_lt (position_or_len test xs) (length xs) ≡ true = grind (arith, nat_tests) in let bad : Some (position_or_len test xs) ≡ None = rw t at none in cc)
+  | inr past ↦ fails_before_first test xs k no_process (omega arith)
+]
+
+-- where nobody lends, nothing is given back
+returned_none : (xs : List Process) (pid : ℕ) (s : Space) → ((k : ℕ) → k < length xs → lends_to pid (get_or xs k no_process).holding ≡ false) → returned pid s xs ≡ xs
+unfolding returned
+returned_none [] pid s none = refl
+returned_none (x ∷ xs) pid s none =
+    ap (λ (b : Bool). returned_by b s x xs (returned pid s xs)) (none zero (omega arith))
+    ∙ ap (λ (ys : List Process). x ∷ ys) (returned_none xs pid s (λ k below. none (suc k) (omega arith)))
+
+pub given_back_none : (F : FlatState) (pid : ℕ) (s : Space) → position (λ (q : Process). lends_to pid q.holding) F.processes ≡ None → given_back F pid s ≡ F
+given_back_none F pid s h = ap (λ (xs : List Process). record F { processes = xs }) (returned_none F.processes pid s (none_passes (λ (q : Process). lends_to pid q.holding) F.processes h))
+
+pub given_back_at : (F : FlatState) (pid place : ℕ) (s : Space) → position (λ (q : Process). lends_to pid q.holding) F.processes ≡ Some place → given_back F pid s ≡ record F { processes = set F.processes place (record (process_at F place) { holding = Holds s }) }
+given_back_at F pid place s h =
+    ap (λ (xs : List Process). record F { processes = xs })
+    (returned_at F.processes place pid s (is_first (λ (q : Process). lends_to pid q.holding) F.processes place h))
+
 pub found_at : (xs : List Process) (i pid : ℕ) → IsFirst (λ (q : Process). q.pid == pid) xs i → find (λ (q : Process). q.pid == pid) xs ≡ Some (get_or xs i no_process)
 found_at [] i pid h = absurd (let w = h.within in omega arith)
 found_at (x ∷ xs) zero pid h = ap (λ (b : Bool). cond b (Some x) (find (λ (q : Process). q.pid == pid) xs)) h.this
@@ -81,6 +106,16 @@ pub with_at : (F : FlatState) (place : ℕ) (p : Process) → IsPlace F place �
 with_at F place p at same =
     ap (λ (xs : List Process). record F { processes = xs })
     (replaced_at F.processes place p (subst (λ (n : ℕ). IsFirst (λ (q : Process). q.pid == n) F.processes place) (sym same) (is_first (λ (q : Process). q.pid == (process_at F place).pid) F.processes place at.first)))
+
+set_same : (xs : List Process) (i : ℕ) → i < length xs → set xs i (get_or xs i no_process) ≡ xs
+set_same [] i below = absurd (omega arith)
+set_same (x ∷ xs) zero below = refl
+set_same (x ∷ xs) (suc i) below = ap (λ (ys : List Process). x ∷ ys) (set_same xs i (omega arith))
+
+-- a process in its own place changes nothing
+pub with_same : (F : FlatState) (place : ℕ) → IsPlace F place → with_process F (process_at F place) ≡ F
+with_same F place at =
+    with_at F place (process_at F place) at refl ∙ ap (λ (xs : List Process). record F { processes = xs }) (set_same F.processes place at.within)
 
 pub process_found : (F : FlatState) (place : ℕ) → IsPlace F place → process_of F (process_at F place).pid ≡ Some (process_at F place)
 process_found F place at = found_at F.processes place (process_at F place).pid (is_first (λ (q : Process). q.pid == (process_at F place).pid) F.processes place at.first)

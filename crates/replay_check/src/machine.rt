@@ -2,10 +2,10 @@ ghost use Rattle.std.specs.Prelude.{◌≡◌, ℕ, ◌+◌, ◌-◌, ◌*◌, �
 ghost use Rattle.vm_facts.specs.Flat.{Space, Holds, Lends, Zombie, Process as Record, FlatState};
 ghost use Rattle.page_model.specs.Space.{answers_of, stack_top};
 ghost use Rattle.page_model.specs.Flat.{NamedImage, image_numbered, process_of, holds_space, space_with};
-ghost use Rattle.page_model.specs.Change.{changed, forked, lent, entered, ended, given_back, returned, orphaned, woken, left, with_process, without_process, child_of, lends_to, is_zombie_child, without_parent, awake};
+ghost use Rattle.page_model.specs.Change.{changed, resized, apply_change, forked, lent, entered, ended, given_back, returned, orphaned, woken, left, with_process, without_process, child_of, lends_to, is_zombie_child, without_parent, awake};
 ghost use Rattle.flat_model.specs.Step.{pages_down_to, data_pages_of};
 ghost use Rattle.replay_check.specs.Images.{CanChange, CanReply};
-ghost use Rattle.replay_check.specs.Machine.{IsPlace, process_at, space_in, IsNear, IsNearStep};
+ghost use Rattle.replay_check.specs.Machine.{IsPlace, process_at, space_at, space_in, holding_of, IsNear, IsNearStep};
 
 use crate::calling::{refused_reply, replied, reply};
 use crate::deed::{Deed, Did};
@@ -66,15 +66,10 @@ fn space_with(
 }
 
 // A child that goes on from its parent's registers.
-fn child_of(parent: &Process, child: u32, space: FlatSpace) -> Process
-    ensures { result ≡ child_of parent.now child space }
+fn child_of(parent: u32, regs: Regs, child: u32, space: FlatSpace) -> Process
+    ensures { (p : Record) → p.pid ≡ parent → p.regs ≡ regs → result ≡ child_of p child space }
 {
-    Process::new(
-        child,
-        parent.pid(),
-        with_results(parent.regs(), parent.pid(), 1),
-        space,
-    )
+    Process::new(child, parent, with_results(regs, parent, 1), space)
 }
 
 fn drop_pid(list: &mut Vec<Process>, pid: u32)
@@ -214,44 +209,70 @@ impl Machine {
         self.list[place].set_regs(regs);
     }
 
+    // The process at this place has something else.
+    #[tactic(auto, using(crate::proofs::Lists::with_at))]
+    fn exchange(&mut self, place: usize, held: Held) -> Held
+        requires { IsPlace self.old place }
+        ensures value { holding_of result ≡ (process_at self.old place).holding }
+        ensures after { self.new ≡ with_process self.old (record (process_at self.old place) { holding = holding_of held }) }
+    {
+        self.list[place].exchange(held)
+    }
+
+    // The place of the first process that lent its space to this one.
+    fn lender(&self, pid: u32) -> Option<usize>
+        ensures { result ≡ position (λ q. lends_to pid q.holding) self.now.processes }
+    {
+        self.list.iter().position(|process| process.lends_to(pid))
+    }
+
     // Who lent to this process has the space again.
-    fn give_back(&mut self, pid: u32, held: Held) {
-        for place in 0..self.list.len() {
-            if self.list[place].lends_to(pid) {
-                let _lent = self.list[place].exchange(held);
-                return;
-            }
+    #[tactic(auto, using(crate::proofs::Lists::given_back_at, crate::proofs::Lists::given_back_none))]
+    fn give_back(&mut self, pid: u32, held: Held)
+        ensures { (s : Space) → holding_of held ≡ Holds s → self.new ≡ given_back self.old pid s }
+    {
+        if let Some(place) = self.lender(pid) {
+            let _lent = self.list[place].exchange(held);
         }
     }
 
+    #[tactic(auto, using(crate::proofs::Lists::with_at))]
     fn resize(&mut self, place: usize, data_pages: u32, stack_pages: u32) -> Result<(), NoMemory>
         requires at { IsPlace self.old place }
         requires of_data { data_pages ≤ 4096 }
         requires of_stack { stack_pages ≤ 512 }
+        ensures { OnOk result (self.new ≡ with_process self.old (record (process_at self.old place) { holding = Holds (resized (space_at self.old place) data_pages stack_pages) })) }
     {
         self.list[place].resize(data_pages, stack_pages)
     }
 
+    #[tactic(auto, using(crate::proofs::Lists::with_same))]
     fn fork(&mut self, alloc: Global, place: usize, child: u32) -> Result<(), NoMemory>
         requires { IsPlace self.old place }
+        ensures { OnOk result (self.new ≡ forked self.old (process_at self.old place) (space_at self.old place) child) }
     {
         let sid = next(self.next_sid)?;
         let space = self.list[place].space().copy(alloc, self.next_sid)?;
-        let process = child_of(&self.list[place], child, space);
+        let process = child_of(
+            self.list[place].pid(),
+            self.list[place].regs(),
+            child,
+            space,
+        );
         self.next_sid = sid;
         self.add(process)
     }
 
     fn lend(&mut self, place: usize, child: u32) -> Result<(), NoMemory>
         requires { IsPlace self.old place }
+        ensures { OnOk result (self.new ≡ lent self.old (process_at self.old place) (space_at self.old place) child) }
     {
         let sid = self.list[place].space().sid();
-        match self.list[place].exchange(Held::Lent { sid, child }) {
-            Held::Space(space) => {
-                let process = child_of(&self.list[place], child, space);
-                self.add(process)
-            }
-            Held::Lent { .. } | Held::Zombie(_) => Ok(()),
+        let pid = self.list[place].pid();
+        let regs = self.list[place].regs();
+        match self.exchange(place, Held::Lent { sid, child }) {
+            Held::Space(space) => self.add(child_of(pid, regs, child, space)),
+            Held::Lent { .. } | Held::Zombie(_) => unreachable!(),
         }
     }
 
@@ -266,22 +287,24 @@ impl Machine {
         requires at { IsPlace self.old place }
         requires image { IsSome (image_numbered programs.now image) }
         requires top { length top.now ≡ 1024 }
+        ensures { OnOk result (self.new ≡ entered self.old (process_at self.old place) (space_at self.old place) image (image_numbered programs.now image) top.now) }
     {
         let sid = next(self.next_sid)?;
         let space = space_with(alloc, programs, self.next_sid, image, top)?;
-        self.next_sid = sid;
         let pid = self.list[place].pid();
-        let old = self.list[place].exchange(Held::Space(space));
+        let old = self.exchange(place, Held::Space(space));
+        self.next_sid = sid;
         self.give_back(pid, old);
         Ok(())
     }
 
     fn end(&mut self, place: usize, status: u32)
         requires { IsPlace self.old place }
+        ensures { self.new ≡ ended self.old (process_at self.old place) (space_at self.old place) status }
     {
         let pid = self.list[place].pid();
         let parent = self.list[place].parent();
-        let old = self.list[place].exchange(Held::Zombie(status));
+        let old = self.exchange(place, Held::Zombie(status));
         self.give_back(pid, old);
         self.orphan(pid);
         if parent == 0 {
