@@ -1,3 +1,4 @@
 pub mod Loading
 pub mod Falling
 pub mod Lists
+pub mod Changing

@@ -201,10 +201,11 @@ impl Machine {
     }
 
     // The process at this place goes on with these registers.
-    #[tactic(auto, using(crate::proofs::Lists::with_at))]
+    #[tactic(auto, using(crate::proofs::Lists::with_at, crate::proofs::Changing::place_kept))]
     fn keep(&mut self, place: usize, regs: Regs)
         requires { IsPlace self.old place }
-        ensures { self.new ≡ with_process self.old (record (process_at self.old place) { regs = regs }) }
+        ensures at { IsPlace self.new place }
+        ensures after { self.new ≡ with_process self.old (record (process_at self.old place) { regs = regs }) }
     {
         self.list[place].set_regs(regs);
     }
@@ -314,7 +315,16 @@ impl Machine {
         }
     }
 
+    #[tactic(auto, using(crate::proofs::Lists::with_at))]
+    fn sleep(&mut self, place: usize)
+        requires { IsPlace self.old place }
+        ensures { self.new ≡ with_process self.old (record (process_at self.old place) { asleep = true }) }
+    {
+        self.list[place].sleep();
+    }
+
     // Does a change of the process at this place, which is left with these registers.
+    #[tactic(auto, using(crate::proofs::Changing::applied_at, crate::proofs::Changing::reaped_at, crate::proofs::Lists::with_same))]
     fn change(
         &mut self,
         alloc: Global,
@@ -325,8 +335,9 @@ impl Machine {
     ) -> Result<(), NoMemory>
         requires at { IsPlace self.old place }
         requires can { CanChange programs.now change }
+        ensures { OnOk result (self.new ≡ apply_change programs.now self.old (process_at self.old place).pid regs change) }
     {
-        self.list[place].set_regs(regs);
+        self.keep(place, regs);
         match change {
             Change::Keep => Ok(()),
             Change::Resize {
@@ -341,7 +352,7 @@ impl Machine {
                 Ok(())
             }
             Change::Sleep => {
-                self.list[place].sleep();
+                self.sleep(place);
                 Ok(())
             }
             Change::End { status } => {
