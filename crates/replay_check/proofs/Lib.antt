@@ -2,3 +2,5 @@ pub mod Loading
 pub mod Falling
 pub mod Lists
 pub mod Changing
+pub mod Short
+pub mod Stepping

@@ -7,7 +7,7 @@ use Rattle.page_model.specs.declared.change.Change.TheVariants.{Keep, Resize, Fo
 use Rattle.flat_model.specs.declared.calls.Reply.{Reply}
 use Rattle.flat_model.specs.declared.calls.Reply.TheVariants.{Fails, Does, Writes, Waits, Exits}
 use Rattle.user_vax.specs.declared.refused.Refused.{Refused}
-use Rattle.flat_model.specs.Calls.{image_named, path_image}
+use Rattle.flat_model.specs.Calls.{image_named, path_image, write_limit}
 
 -- an image's name, and the front of its file
 pub record FlatFile : Type 0 where
@@ -67,7 +67,7 @@ CanChange images (End status) = Unit {0}
 abbrev pub CanReply : List NamedImage → Reply → Type 0
 CanReply images (Fails error) = Unit {0}
 CanReply images (Does regs change) = CanChange images change
-CanReply images (Writes bytes) = Unit {0}
+CanReply images (Writes bytes) = length bytes ≤ write_limit
 CanReply images Waits = Unit {0}
 CanReply images (Exits status) = Unit {0}
 

@@ -1,5 +1,5 @@
 -- What the code of the flat machine keeps and answers.
-use Rattle.std.specs.Prelude.{◌≡◌, ℕ, ◌-◌, ◌<◌, ◌≤◌, ◌==◌, false, List, [], ◌∷◌, ◌++◌, length, position, slice_index_or, IsTrue, Some}
+use Rattle.std.specs.Prelude.{◌≡◌, ℕ, ◌-◌, ◌<◌, ◌≤◌, ◌==◌, false, List, [], ◌∷◌, ◌++◌, length, position, slice_index_or, IsTrue, Some, Result, Err, Bool}
 use Rattle.vm_facts.specs.Answers.{ByteWrite}
 use Rattle.vm_facts.specs.Flat.{Space, Holding, Holds, Lends, Zombie, Process, FlatState}
 use Rattle.vm_facts.specs.declared.entry.Entry.{Entry}
@@ -8,8 +8,13 @@ use Rattle.user_vax.specs.declared.stepping.Stepped.{Stepped}
 use Rattle.user_vax.specs.declared.stepping.Stepped.TheVariants as steps
 use Rattle.page_model.specs.Space.{stack_top, stack_reach}
 use Rattle.page_model.specs.Flat.{NamedImage, cleared, holds_space}
-use Rattle.flat_model.specs.Step.{call_entry, out_entries, Step, step_with}
-use Rattle.flat_model.specs.declared.calls.SystemCall.TheVariants as calls
+use Rattle.flat_model.specs.Step.{call_entry, out_entries, Step, step_with, written_process}
+use Rattle.vm_facts.specs.declared.regs.Regs.{Regs}
+use Rattle.user_vax.specs.Effects.{Effect}
+use Rattle.user_vax.specs.Instruction.{answer_of, registers_after, writes_of}
+use Rattle.user_vax.specs.declared.refused.Refused.{Refused}
+use Rattle.user_vax.specs.declared.refused.Refused.TheVariants as refusals
+use Rattle.page_model.specs.Change.{apply_writes}
 use Rattle.replay_check.specs.declared.process.Held.{Held}
 use Rattle.replay_check.specs.declared.process.Held.TheVariants as helds
 use Rattle.replay_check.specs.declared.deed.Did.{Did}
@@ -66,10 +71,18 @@ entries_of pid deeds.Nothing = []
 entries_of pid deeds.Ran = Ran pid 1 ∷ []
 entries_of pid (deeds.Grew pages) = Grew pid pages ∷ []
 entries_of pid (deeds.Replied call regs) = call_entry pid call regs ∷ []
-entries_of pid (deeds.Wrote bytes regs) = out_entries pid bytes ++ call_entry pid calls.Write regs ∷ []
+entries_of pid (deeds.Wrote call bytes regs) = out_entries pid bytes ++ call_entry pid call regs ∷ []
 entries_of pid deeds.Slept = Sleeps pid ∷ []
 entries_of pid (deeds.Ended status) = Ended pid status ∷ []
 
 -- a step with these writes, and what the deed says
 abbrev pub step_by : List NamedImage → FlatState → Process → List ByteWrite → Deed → Step
 step_by images F p writes deed = step_with images F p (entries_of p.pid deed.did) writes deed.regs deed.change
+
+-- the state behind an instruction that came to this, the process that ran it at its place, and what it left
+pub record IsBehind (F : FlatState) (p : Process) (s : Space) (r : Result Effect Refused) (G : FlatState) (place : ℕ) (stepped : Stepped) (regs : Regs) : Type 0 where
+  pub state : G ≡ apply_writes F p.pid (writes_of r)
+  pub process : process_at G place ≡ written_process p s (writes_of r)
+  pub answer : stepped ≡ answer_of r
+  pub registers : regs ≡ registers_after p.regs r
+  pub hits : (address : ℕ) (write : Bool) → r ≡ Err (refusals.Miss address write) → ⊥

@@ -5,7 +5,7 @@ ghost use Rattle.user_vax.specs.Program.{run};
 ghost use Rattle.page_model.specs.Flat.{NamedImage, image_numbered};
 ghost use Rattle.page_model.specs.Change.{is_zombie_child};
 ghost use Rattle.page_model.specs.Space.{answers_of};
-ghost use Rattle.flat_model.specs.Calls.{process_limit, replied, replied_both, child_by, break_reply, arguments_at, starts, path_image, string_from, string_limit, execve_of, execve_reply, wait_by, or_fault, wants_space, refused_reply, reply_of, ChangesNothing};
+ghost use Rattle.flat_model.specs.Calls.{process_limit, replied, replied_both, child_by, break_reply, arguments_at, starts, path_image, string_from, string_limit, execve_of, execve_reply, wait_by, or_fault, wants_space, refused_reply, reply_of};
 ghost use Rattle.replay_check.specs.Images.{IsPathImage, with_number, CanChange, CanReply, CanAnswer};
 
 use crate::process::{Process, with_results};
@@ -109,7 +109,6 @@ fn wait_reply(list: &[Process], pid: u32, regs: Regs) -> Reply
 fn or_fault(asked: Asked<Reply>) -> Reply
     ensures value { result ≡ or_fault asked }
     ensures sound { (images : List NamedImage) → CanAnswer images asked → CanReply images result }
-    ensures plain { (images : List NamedImage) → ChangesNothing asked → CanReply images result }
 {
     match asked {
         Ok(reply) => reply,

@@ -13,8 +13,8 @@ pub enum Did {
     Grew(u32),
     /// The call answered with these registers.
     Replied(SystemCall, Regs),
-    /// These bytes were written, and the call answered with these registers.
-    Wrote(Bytes, Regs),
+    /// The call wrote these bytes, and answered with these registers.
+    Wrote(SystemCall, Bytes, Regs),
     /// The process waits.
     Slept,
     /// The process ended with this status.

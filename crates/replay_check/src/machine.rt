@@ -1,11 +1,15 @@
-ghost use Rattle.std.specs.Prelude.{◌≡◌, ℕ, ◌+◌, ◌-◌, ◌*◌, ◌/◌, ◌^◌, ◌<◌, ◌≤◌, ◌==◌, ◌++◌, ◌∷◌, [], List, Bool, true, false, not, length, map, filter, find, position, slice_set, slice_get, slice_index_or, Option, Some, None, IsSome, IfOk, IfSome, OnOk, IsTrue, All};
+ghost use Rattle.std.specs.Prelude.{◌≡◌, ℕ, ◌+◌, ◌-◌, ◌*◌, ◌/◌, ◌^◌, ◌<◌, ◌≤◌, ◌==◌, ◌++◌, ◌∷◌, [], List, Bool, true, false, not, length, map, filter, find, position, slice_set, slice_get, slice_index_or, Option, Some, None, IsSome, IfOk, IfSome, OnOk, IsTrue, All, Result};
 ghost use Rattle.vm_facts.specs.Flat.{Space, Holds, Lends, Zombie, Process as Record, FlatState};
 ghost use Rattle.page_model.specs.Space.{answers_of, stack_top};
-ghost use Rattle.page_model.specs.Flat.{NamedImage, image_numbered, process_of, holds_space, space_with};
-ghost use Rattle.page_model.specs.Change.{changed, resized, apply_change, forked, lent, entered, ended, given_back, returned, orphaned, woken, left, with_process, without_process, child_of, lends_to, is_zombie_child, without_parent, awake};
-ghost use Rattle.flat_model.specs.Step.{pages_down_to, data_pages_of};
+ghost use Rattle.page_model.specs.Flat.{NamedImage, Inputs, image_numbered, process_of, holds_space, space_with};
+ghost use Rattle.page_model.specs.Change.{changed, resized, apply_change, forked, lent, entered, ended, given_back, returned, orphaned, woken, left, apply_writes, with_process, without_process, child_of, lends_to, is_zombie_child, without_parent, awake};
+ghost use Rattle.flat_model.specs.Step.{pages_down_to, data_pages_of, step_of, replied_step, flat_step};
+ghost use Rattle.user_vax.specs.Effects.{Effect};
+ghost use Rattle.user_vax.specs.declared.refused.Refused.{Refused};
+ghost use Rattle.user_vax.specs.Instruction.{writes_of, answer_of, registers_after};
+ghost use Rattle.flat_model.specs.Instruction.{instruction_in};
 ghost use Rattle.replay_check.specs.Images.{CanChange, CanReply};
-ghost use Rattle.replay_check.specs.Machine.{IsPlace, process_at, space_at, space_in, holding_of, IsNear, IsNearStep};
+ghost use Rattle.replay_check.specs.Machine.{IsPlace, process_at, space_at, space_in, holding_of, IsNear, IsNearStep, IsBehind, step_by, entries_of};
 
 use crate::calling::{refused_reply, replied, reply};
 use crate::deed::{Deed, Did};
@@ -362,6 +366,15 @@ impl Machine {
         }
     }
 
+    // The process at this place.
+    #[tactic(auto, using(crate::proofs::Lists::same_got))]
+    fn at(&self, place: usize) -> &Process
+        requires { place < length self.now.processes }
+        ensures { result.now ≡ process_at self.now place }
+    {
+        &self.list[place]
+    }
+
     // What the process at this place does behind its instruction, which came to this with these registers.
     fn deed(
         &self,
@@ -375,9 +388,10 @@ impl Machine {
         requires at { IsPlace self.now place }
         requires few { length programs.now < 2 ^ 31 }
         requires near { IsNearStep stepped }
+        ensures value { IfOk result (λ deed. (F : FlatState) (p : Record) (s : Space) (r : Result Effect Refused) → IsBehind F p s r self.now place stepped regs → step_by programs.now F p (writes_of r) deed ≡ step_of programs.now F p s refused r) }
         ensures sound { IfOk result (λ deed. CanChange programs.now deed.change) }
     {
-        let process = &self.list[place];
+        let process = self.at(place);
         match stepped {
             Stepped::Done => Ok(went_on(regs)),
             Stepped::Call(number) => match SystemCall::numbered(number) {
@@ -490,6 +504,7 @@ fn grown(process: &Process, address: u32) -> Deed
 
 // A call and its reply, from the registers that the instruction left.
 fn replied_deed(process: &Process, call: SystemCall, regs: Regs, reply: Reply) -> Deed
+    ensures value { (images : List NamedImage) (F : FlatState) (p : Record) (effect : Effect) → CanReply images reply → p.regs ≡ process.now.regs → effect.regs ≡ regs → step_by images F p effect.writes result ≡ replied_step images F p call effect reply }
     ensures sound { (images : List NamedImage) → CanReply images reply → CanChange images result.change }
 {
     match reply {
@@ -504,7 +519,7 @@ fn replied_deed(process: &Process, call: SystemCall, regs: Regs, reply: Reply) -
             let len = bytes.as_slice().len().min(WRITE_LIMIT as usize);
             let after = replied(regs, false, len as u32);
             Deed {
-                did: Did::Wrote(bytes, after),
+                did: Did::Wrote(call, bytes, after),
                 regs: after,
                 change: Change::Keep,
             }

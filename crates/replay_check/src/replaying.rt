@@ -4,6 +4,7 @@ ghost use Rattle.replay_check.specs.Images.{AreImageFiles, AreNumbers};
 use crate::deed::Did;
 use crate::machine::Machine;
 use crate::program::{Flat, Program, load_all};
+use flat_model::SystemCall;
 use std::alloc::Global;
 use vm_facts::{Entry, NoMemory, Regs};
 
@@ -25,8 +26,8 @@ enum Last {
     Other,
     // The pieces of this process found no place.
     Refused(u32),
-    // This process wrote bytes, and these are the registers of its reply.
-    Wrote(u32, Regs),
+    // This process wrote bytes by this call, and these are the registers of its reply.
+    Wrote(u32, SystemCall, Regs),
 }
 
 #[derive(Drop)]
@@ -91,8 +92,8 @@ impl<'a> Judge<'a> {
             return Ok(false);
         };
         match self.step(pid, false)? {
-            Did::Wrote(written, regs) => {
-                self.last = Last::Wrote(pid, regs);
+            Did::Wrote(call, written, regs) => {
+                self.last = Last::Wrote(pid, call, regs);
                 Ok(written.as_slice() == bytes && !bytes.is_empty())
             }
             _ => Ok(false),
@@ -115,7 +116,7 @@ impl<'a> Judge<'a> {
                 self.last = Last::Other;
                 Some(true)
             }
-            Last::Refused(_) | Last::Wrote(_, _) => None,
+            Last::Refused(_) | Last::Wrote(..) => None,
         }
     }
 
@@ -137,9 +138,9 @@ impl<'a> Judge<'a> {
         r0: u32,
         r1: u32,
     ) -> Result<bool, NoMemory> {
-        if let Last::Wrote(of, regs) = self.last {
+        if let Last::Wrote(of, call, regs) = self.last {
             self.last = Last::Other;
-            return Ok(of == pid && number == 4 && is_reply(&regs, carry, r0, r1));
+            return Ok(of == pid && call.number() == number && is_reply(&regs, carry, r0, r1));
         }
         let Some(refused) = self.take_refused(pid) else {
             return Ok(false);
@@ -148,9 +149,9 @@ impl<'a> Judge<'a> {
             Did::Replied(call, regs) => {
                 Ok(call.number() == number && is_reply(&regs, carry, r0, r1))
             }
-            Did::Wrote(bytes, regs) => {
-                Ok(bytes.as_slice().is_empty() && number == 4 && is_reply(&regs, carry, r0, r1))
-            }
+            Did::Wrote(call, bytes, regs) => Ok(bytes.as_slice().is_empty()
+                && call.number() == number
+                && is_reply(&regs, carry, r0, r1)),
             _ => Ok(false),
         }
     }

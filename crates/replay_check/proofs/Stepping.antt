@@ -1,0 +1,92 @@
+-- A step, from what its instruction came to.
+use Rattle.std.proofs.Common.{◌≡◌, ℕ, zero, suc, ◌+◌, ◌≤◌, ◌<◌, min, Bool, true, false, List, [], ◌∷◌, length, Option, Some, None, Result, Ok, Err, ℤ, refl, sym, ap, ◌∙◌, subst, arith}
+use Rattle.vm_facts.specs.Answers.{Answers}
+use Rattle.vm_facts.specs.Flat.{Space, Holding, Holds, Process, FlatState}
+use Rattle.vm_facts.specs.declared.regs.Regs.{Regs}
+use Rattle.user_vax.specs.Program.{Program, run}
+use Rattle.user_vax.specs.Effects.{Effect}
+use Rattle.user_vax.specs.Instruction.{answer_of, answer_of_call, registers_after, writes_of}
+use Rattle.user_vax.specs.declared.refused.Refused.{Refused}
+use Rattle.user_vax.specs.declared.refused.Refused.TheVariants as refusals
+use Rattle.user_vax.specs.declared.stepping.Stepped.{Stepped}
+use Rattle.user_vax.specs.declared.stepping.Stepped.TheVariants as steps
+use Rattle.user_vax.proofs.Runs.{ok_of_bind}
+use Rattle.user_vax.specs.Program.{Access, ReadOf, TestOf}
+use Rattle.user_vax.specs.Laws.{read_refusal, test_refusal, refusal}
+use Rattle.user_vax.proofs.Order.{keeps_order}
+use Rattle.user_vax.specs.Instruction.{instruction}
+use Rattle.flat_model.specs.Instruction.{instruction_in}
+use Rattle.page_model.specs.declared.spot.Spot.{Spot}
+use Rattle.page_model.specs.declared.spot.Spot.TheVariants.{Text, Data, Stack, Below, Outside}
+use Rattle.page_model.specs.Space.{answers_of, puts, byte_at, may_write_at, address_in}
+use Rattle.page_model.specs.Flat.{NamedImage}
+use Rattle.page_model.specs.Change.{apply_writes}
+use Rattle.page_model.specs.declared.change.Change.TheVariants.{Keep, Resize, Sleep, End}
+use Rattle.flat_model.specs.declared.calls.Reply.{Reply}
+use Rattle.flat_model.specs.declared.calls.Reply.TheVariants.{Fails, Does, Writes, Waits, Exits}
+use Rattle.flat_model.specs.declared.calls.SystemCall.{SystemCall}
+use Rattle.flat_model.specs.declared.calls.SystemCall.TheVariants as calls
+use Rattle.flat_model.specs.Calls.{call_of, replied, or_fault, refused_reply, reply_of, bytes_from, written_to, write_reply}
+use Rattle.flat_model.specs.Step.{step_of, step_behind, called_step, replied_step, reply_behind, pages_down_to, data_pages_of, written_process}
+use Rattle.replay_check.specs.declared.deed.Did.TheVariants as deeds
+use Rattle.replay_check.specs.declared.deed.Deed.{Deed}
+use Rattle.replay_check.specs.Machine.{step_by, space_in, process_at}
+
+pub reply_same : (images : List NamedImage) (call : SystemCall) (G H : FlatState) (p q : Process) (s t : Space) (regs more : Regs) → G ≡ H → p ≡ q → s ≡ t → regs ≡ more
+    → or_fault (run (answers_of s) (reply_of images G p s call regs)) ≡ or_fault (run (answers_of t) (reply_of images H q t call more))
+reply_same images call G H p q s t regs more states processes spaces registers =
+    ap (λ (x : FlatState). or_fault (run (answers_of s) (reply_of images x p s call regs))) states
+    ∙ ap (λ (x : Process). or_fault (run (answers_of s) (reply_of images H x s call regs))) processes
+    ∙ ap (λ (x : Space). or_fault (run (answers_of x) (reply_of images H q x call regs))) spaces
+    ∙ ap (λ (x : Regs). or_fault (run (answers_of t) (reply_of images H q t call x))) registers
+
+-- a step ends in the reply of its call
+pub by_call : (images : List NamedImage) (F : FlatState) (p : Process) (s : Space) (refused : Bool) (r : Result Effect Refused) (number : ℤ) (call : SystemCall) (deed : Deed) (reply : Reply)
+    → answer_of r ≡ steps.Call number → call_of number ≡ Some call
+    → reply ≡ refused_reply refused (or_fault (run (answers_of (puts s (writes_of r))) (reply_of images (apply_writes F p.pid (writes_of r)) (written_process p s (writes_of r)) (puts s (writes_of r)) call (registers_after p.regs r))))
+    → ((effect : Effect) → r ≡ Ok effect → step_by images F p effect.writes deed ≡ replied_step images F p call effect reply)
+    → step_by images F p (writes_of r) deed ≡ step_of images F p s refused r
+by_call images F p s refused (Ok effect) number call deed reply e one is does = go effect.call e
+  where
+    go : (o : Option ℤ) → answer_of_call o ≡ steps.Call number → step_by images F p effect.writes deed ≡ step_behind images F p s refused effect o
+    go None k = absurd cc
+    go (Some other) k =
+        let same : other ≡ number = cc in
+        let found : call_of other ≡ Some call = ap call_of same ∙ one in
+        does effect refl ∙ ap (replied_step images F p call effect) is ∙ sym (ap (called_step images F p s refused effect) found)
+by_call images F p s refused (Err (refusals.Miss address write)) number call deed reply e one is does = absurd cc
+by_call images F p s refused (Err (refusals.Below address)) number call deed reply e one is does = absurd cc
+by_call images F p s refused (Err (refusals.Signal other)) number call deed reply e one is does = absurd cc
+
+-- no access to a space misses
+space_hits : {A : Type 0} (s : Space) (p : Program A) (address : ℕ) (write : Bool) → run (answers_of s) p ≡ Err (refusals.Miss address write) → ⊥
+space_hits s p address write e = let ends = (keeps_order (answers_of s) p).misses address write e in go ends.1 ends.4
+  where
+    by_read : (spot : Spot) (a : ℕ) → read_refusal (byte_at s spot) a ≡ Some (refusals.Miss address write) → ⊥
+    by_read (Text i) a k = cc
+    by_read (Data i) a k = cc
+    by_read (Stack i) a k = cc
+    by_read Below a k = cc
+    by_read Outside a k = cc
+
+    by_test : (spot : Spot) (a : ℕ) → test_refusal (may_write_at spot) a ≡ Some (refusals.Miss address write) → ⊥
+    by_test (Text i) a k = cc
+    by_test (Data i) a k = cc
+    by_test (Stack i) a k = cc
+    by_test Below a k = cc
+    by_test Outside a k = cc
+
+    go : (last : Access) → refusal (answers_of s) last ≡ Some (refusals.Miss address write) → ⊥
+    go (ReadOf a) k = by_read (address_in s a) a k
+    go (TestOf a) k = by_test (address_in s a) a k
+
+pub instruction_hits : (s : Space) (regs : Regs) (address : ℕ) (write : Bool) → instruction_in s regs ≡ Err (refusals.Miss address write) → ⊥
+instruction_hits s regs address write e = space_hits s (instruction regs) address write e
+
+pub by_wrote : (images : List NamedImage) (F : FlatState) (p : Process) (call : SystemCall) (effect : Effect) (reply : Reply) (bytes : List ℕ) (after : Regs)
+    → reply ≡ Writes bytes → after ≡ replied effect.regs false (length bytes)
+    → step_by images F p effect.writes (record { did = deeds.Wrote call bytes after; regs = after; change = Keep }) ≡ replied_step images F p call effect reply
+by_wrote images F p call effect reply bytes after is e =
+    ap (λ (regs : Regs). step_by images F p effect.writes (record { did = deeds.Wrote call bytes regs; regs = regs; change = Keep })) e
+    ∙ sym (ap (replied_step images F p call effect) is)
+
