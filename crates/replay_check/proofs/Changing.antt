@@ -119,7 +119,7 @@ place_kept F place p at same holds = subst (λ (G : FlatState). IsPlace G place)
 
 -- Changes at a place.
 
-held : (h : Holding) → IsTrue (holds_space h) → h ≡ Holds (space_in h)
+pub held : (h : Holding) → IsTrue (holds_space h) → h ≡ Holds (space_in h)
 held (Holds s) t = refl
 held (Lends sid child) t = absurd cc
 held (Zombie status) t = absurd cc

@@ -19,18 +19,21 @@ use Rattle.flat_model.specs.Instruction.{instruction_in}
 use Rattle.page_model.specs.declared.spot.Spot.{Spot}
 use Rattle.page_model.specs.declared.spot.Spot.TheVariants.{Text, Data, Stack, Below, Outside}
 use Rattle.page_model.specs.Space.{answers_of, puts, byte_at, may_write_at, address_in}
-use Rattle.page_model.specs.Flat.{NamedImage}
-use Rattle.page_model.specs.Change.{apply_writes}
+use Rattle.page_model.specs.Flat.{NamedImage, Inputs, process_of}
+use Rattle.page_model.specs.Change.{apply_writes, apply_change, wrote_by, wrote_if, with_process}
 use Rattle.page_model.specs.declared.change.Change.TheVariants.{Keep, Resize, Sleep, End}
 use Rattle.flat_model.specs.declared.calls.Reply.{Reply}
 use Rattle.flat_model.specs.declared.calls.Reply.TheVariants.{Fails, Does, Writes, Waits, Exits}
 use Rattle.flat_model.specs.declared.calls.SystemCall.{SystemCall}
 use Rattle.flat_model.specs.declared.calls.SystemCall.TheVariants as calls
 use Rattle.flat_model.specs.Calls.{call_of, replied, or_fault, refused_reply, reply_of, bytes_from, written_to, write_reply}
-use Rattle.flat_model.specs.Step.{step_of, step_behind, called_step, replied_step, reply_behind, pages_down_to, data_pages_of, written_process}
+use Rattle.flat_model.specs.Step.{flat_step, step_if, step_holding, step_of, step_behind, called_step, replied_step, reply_behind, pages_down_to, data_pages_of, written_process}
 use Rattle.replay_check.specs.declared.deed.Did.TheVariants as deeds
 use Rattle.replay_check.specs.declared.deed.Deed.{Deed}
-use Rattle.replay_check.specs.Machine.{step_by, space_in, process_at}
+use Rattle.replay_check.specs.Machine.{step_by, space_in, space_at, process_at, IsPlace, IsBehind}
+use Rattle.replay_check.proofs.Lists.{process_found}
+use Rattle.replay_check.proofs.Changing.{held, at_kept}
+use Rattle.vm_facts.specs.Answers.{ByteWrite}
 
 pub reply_same : (images : List NamedImage) (call : SystemCall) (G H : FlatState) (p q : Process) (s t : Space) (regs more : Regs) → G ≡ H → p ≡ q → s ≡ t → regs ≡ more
     → or_fault (run (answers_of s) (reply_of images G p s call regs)) ≡ or_fault (run (answers_of t) (reply_of images H q t call more))
@@ -90,3 +93,47 @@ by_wrote images F p call effect reply bytes after is e =
     ap (λ (regs : Regs). step_by images F p effect.writes (record { did = deeds.Wrote call bytes regs; regs = regs; change = Keep })) e
     ∙ sym (ap (replied_step images F p call effect) is)
 
+
+-- An instruction of the process at a place.
+
+wrote_at : (F : FlatState) (place : ℕ) (writes : List ByteWrite) → IsPlace F place → apply_writes F (process_at F place).pid writes ≡ with_process F (written_process (process_at F place) (space_at F place) writes)
+unfolding apply_writes
+wrote_at F place writes at =
+    ap (wrote_if F writes) (process_found F place at) ∙ ap (wrote_by F (process_at F place) writes) (held (process_at F place).holding at.holds)
+
+pub behind_at : (F G : FlatState) (place : ℕ) (stepped : Stepped) (regs : Regs) → IsPlace F place
+    → G ≡ with_process F (written_process (process_at F place) (space_at F place) (writes_of (instruction_in (space_at F place) (process_at F place).regs)))
+    → stepped ≡ answer_of (instruction_in (space_at F place) (process_at F place).regs) → regs ≡ registers_after (process_at F place).regs (instruction_in (space_at F place) (process_at F place).regs)
+    → IsBehind F (process_at F place) (space_at F place) (instruction_in (space_at F place) (process_at F place).regs) G place stepped regs
+behind_at F G place stepped regs at is answer registers =
+    let r = instruction_in (space_at F place) (process_at F place).regs in
+    record {
+      state = is ∙ sym (wrote_at F place (writes_of r) at);
+      process = ap (λ (H : FlatState). process_at H place) is ∙ at_kept F place (written_process (process_at F place) (space_at F place) (writes_of r)) at refl;
+      answer = answer;
+      registers = registers;
+      hits = instruction_hits (space_at F place) (process_at F place).regs;
+    }
+
+flat_at : (A : Inputs) (images : List NamedImage) (F : FlatState) (place : ℕ) (refused : Bool) → IsPlace F place → A.images ≡ images
+    → flat_step A F (process_at F place).pid refused ≡ step_of images F (process_at F place) (space_at F place) refused (instruction_in (space_at F place) (process_at F place).regs)
+unfolding flat_step
+flat_at A images F place refused at same =
+    ap (λ (is : List NamedImage). step_if is F refused (process_of F (process_at F place).pid)) same
+    ∙ ap (step_if images F refused) (process_found F place at)
+    ∙ ap (step_holding images F (process_at F place) refused) (held (process_at F place).holding at.holds)
+
+-- the deed of the process at a place makes its step
+pub step_made : (A : Inputs) (images : List NamedImage) (F : FlatState) (place : ℕ) (refused : Bool) (deed : Deed) → IsPlace F place → A.images ≡ images
+    → step_by images F (process_at F place) (writes_of (instruction_in (space_at F place) (process_at F place).regs)) deed
+      ≡ step_of images F (process_at F place) (space_at F place) refused (instruction_in (space_at F place) (process_at F place).regs)
+    → step_by images F (process_at F place) (writes_of (instruction_in (space_at F place) (process_at F place).regs)) deed ≡ flat_step A F (process_at F place).pid refused
+step_made A images F place refused deed at same is = is ∙ sym (flat_at A images F place refused at same)
+
+-- the change of a deed leaves what its step does
+pub step_left : (images : List NamedImage) (F G : FlatState) (p : Process) (s : Space) (r : Result Effect Refused) (place : ℕ) (stepped : Stepped) (regs : Regs) (deed : Deed)
+    → IsBehind F p s r G place stepped regs
+    → apply_change images G (process_at G place).pid deed.regs deed.change ≡ (step_by images F p (writes_of r) deed).after
+step_left images F G p s r place stepped regs deed behind =
+    ap (λ (q : Process). apply_change images G q.pid deed.regs deed.change) behind.process
+    ∙ ap (λ (H : FlatState). apply_change images H p.pid deed.regs deed.change) behind.state

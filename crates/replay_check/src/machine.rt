@@ -434,6 +434,8 @@ impl Machine {
     ) -> Result<Did, NoMemory>
         requires at { IsPlace self.old place }
         requires few { length programs.now < 2 ^ 31 }
+        ensures after { (A : Inputs) → A.images ≡ programs.now → OnOk result (self.new ≡ (flat_step A self.old (process_at self.old place).pid refused).after) }
+        ensures entries { (A : Inputs) → A.images ≡ programs.now → IfOk result (λ did. entries_of (process_at self.old place).pid did ≡ (flat_step A self.old (process_at self.old place).pid refused).entries) }
     {
         let (stepped, regs) = self.run(place);
         let deed = self.deed(alloc, programs, place, stepped, regs, refused)?;
@@ -442,10 +444,12 @@ impl Machine {
     }
 
     // Runs the next instruction of the process at this place over its space.
+    #[tactic(auto, using(crate::proofs::Stepping::behind_at, crate::proofs::Lists::with_at, crate::proofs::Changing::place_kept))]
     fn run(&mut self, place: usize) -> (Stepped, Regs)
         requires { IsPlace self.old place }
         ensures near { IsNearStep result.0 }
         ensures at { IsPlace self.new place }
+        ensures behind { IsBehind self.old (process_at self.old place) (space_at self.old place) (instruction_in (space_at self.old place) (process_at self.old place).regs) self.new place result.0 result.1 }
     {
         self.list[place].run()
     }
