@@ -7,7 +7,7 @@ use Rattle.std.proofs.lemmas.List.Sums.{fails_before_first}
 use Rattle.std.proofs.lemmas.List.Quantifiers.{position-Some}
 use Rattle.vm_facts.specs.Flat.{Space, Holds, Process, FlatState}
 use Rattle.std.proofs.lemmas.Bool.Decides.{nat_tests}
-use Rattle.page_model.specs.Flat.{process_of, is_ready, holds_space}
+use Rattle.page_model.specs.Flat.{process_of, is_ready, ready_if, can_step, holds_space}
 use Rattle.page_model.specs.Change.{replaced, replaced_by, with_process, returned, returned_by, given_back, lends_to}
 use Rattle.replay_check.specs.Machine.{no_process, process_at, IsPlace}
 
@@ -137,3 +137,22 @@ ready_place F pid place h ready =
       first = subst (λ (n : ℕ). position (λ (q : Process). q.pid == n) F.processes ≡ Some place) (sym same) h;
       holds = ready_holds (process_at F place) ready;
     }
+
+find_none : (xs : List Process) (test : Process → Bool) → ((k : ℕ) → k < length xs → test (get_or xs k no_process) ≡ false) → find test xs ≡ None
+find_none [] test none = refl
+find_none (x ∷ xs) test none =
+    ap (λ (b : Bool). cond b (Some x) (find test xs)) (none zero (omega arith)) ∙ find_none xs test (λ k below. none (suc k) (omega arith))
+
+-- a process that isn't there can't step
+pub none_can : (F : FlatState) (pid : ℕ) → position (λ (q : Process). q.pid == pid) F.processes ≡ None → can_step F pid ≡ false
+none_can F pid h = ap ready_if (find_none F.processes (λ (q : Process). q.pid == pid) (none_passes (λ (q : Process). q.pid == pid) F.processes h))
+
+-- a process that is there can step where it is ready
+pub can_at : (F : FlatState) (pid place : ℕ) (b : Bool) → position (λ (q : Process). q.pid == pid) F.processes ≡ Some place → is_ready (process_at F place) ≡ b → can_step F pid ≡ b
+can_at F pid place b h ready =
+    ap ready_if (found_at F.processes place pid (is_first (λ (q : Process). q.pid == pid) F.processes place h)) ∙ ready
+
+pub pid_at : (F : FlatState) (pid place : ℕ) → position (λ (q : Process). q.pid == pid) F.processes ≡ Some place → (process_at F place).pid ≡ pid
+pid_at F pid place h =
+    let found = is_first (λ (q : Process). q.pid == pid) F.processes place h in
+    let t : ((process_at F place).pid == pid) ≡ true = found.this in grind (arith, nat_tests)

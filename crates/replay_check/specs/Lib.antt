@@ -2,3 +2,4 @@ pub mod Sizes
 pub mod Machine
 pub mod Images
 pub mod Verdicts
+pub mod Judging

@@ -1,7 +1,7 @@
-ghost use Rattle.std.specs.Prelude.{◌≡◌, ℕ, ◌+◌, ◌-◌, ◌*◌, ◌/◌, ◌^◌, ◌<◌, ◌≤◌, ◌==◌, ◌++◌, ◌∷◌, [], List, Bool, true, false, not, length, map, filter, find, position, slice_set, slice_get, slice_index_or, Option, Some, None, IsSome, IfOk, IfSome, OnOk, IsTrue, All, Result};
+ghost use Rattle.std.specs.Prelude.{◌≡◌, ℕ, ◌+◌, ◌-◌, ◌*◌, ◌/◌, ◌^◌, ◌<◌, ◌≤◌, ◌==◌, ◌++◌, ◌∷◌, [], List, Bool, true, false, not, length, map, filter, find, position, slice_set, slice_get, slice_index_or, Option, Some, None, IsSome, IfOk, IfSome, OnOk, IsTrue, All, Result, is_some};
 ghost use Rattle.vm_facts.specs.Flat.{Space, Holds, Lends, Zombie, Process as Record, FlatState};
 ghost use Rattle.page_model.specs.Space.{answers_of, stack_top};
-ghost use Rattle.page_model.specs.Flat.{NamedImage, Inputs, image_numbered, process_of, holds_space, space_with};
+ghost use Rattle.page_model.specs.Flat.{NamedImage, Inputs, can_step, image_numbered, process_of, holds_space, space_with};
 ghost use Rattle.page_model.specs.Change.{changed, resized, apply_change, forked, lent, entered, ended, given_back, returned, orphaned, woken, left, apply_writes, with_process, without_process, child_of, lends_to, is_zombie_child, without_parent, awake};
 ghost use Rattle.flat_model.specs.Step.{pages_down_to, data_pages_of, step_of, replied_step, flat_step};
 ghost use Rattle.user_vax.specs.Effects.{Effect};
@@ -9,6 +9,7 @@ ghost use Rattle.user_vax.specs.declared.refused.Refused.{Refused};
 ghost use Rattle.user_vax.specs.Instruction.{writes_of, answer_of, registers_after};
 ghost use Rattle.flat_model.specs.Instruction.{instruction_in};
 ghost use Rattle.replay_check.specs.Images.{CanChange, CanReply};
+ghost use Rattle.replay_check.specs.Judging.{state_if, entries_if};
 ghost use Rattle.replay_check.specs.Machine.{IsPlace, process_at, space_at, space_in, holding_of, IsNear, IsNearStep, IsBehind, step_by, entries_of};
 
 use crate::calling::{refused_reply, replied, reply};
@@ -192,12 +193,14 @@ impl Machine {
     }
 
     /// The place of the process of this number, where it can step.
-    #[tactic(auto, using(crate::proofs::Lists::ready_place))]
+    #[tactic(auto, using(crate::proofs::Lists::ready_place, crate::proofs::Lists::pid_at, crate::proofs::Lists::can_at, crate::proofs::Lists::none_can))]
     pub fn ready_place(&self, pid: u32) -> Option<usize>
-        ensures { IfSome result (IsPlace self.now) }
+        ensures can { is_some result ≡ can_step self.now pid }
+        ensures place { IfSome result (IsPlace self.now) }
+        ensures of { IfSome result (λ place. (process_at self.now place).pid ≡ pid) }
     {
         let place = self.place_of(pid)?;
-        if self.list[place].is_ready() {
+        if self.at(place).is_ready() {
             Some(place)
         } else {
             None
@@ -441,6 +444,24 @@ impl Machine {
         let deed = self.deed(alloc, programs, place, stepped, regs, refused)?;
         self.change(alloc, programs, place, deed.regs, deed.change)?;
         Ok(deed.did)
+    }
+
+    /// The next step of the process of this number; nothing where it can't step.
+    pub fn step(
+        &mut self,
+        alloc: Global,
+        programs: &[Program],
+        pid: u32,
+        refused: bool,
+    ) -> Result<Did, NoMemory>
+        requires { length programs.now < 2 ^ 31 }
+        ensures after { (A : Inputs) → A.images ≡ programs.now → OnOk result (self.new ≡ state_if (can_step self.old pid) self.old (flat_step A self.old pid refused)) }
+        ensures entries { (A : Inputs) → A.images ≡ programs.now → IfOk result (λ did. entries_of pid did ≡ entries_if (can_step self.old pid) (flat_step A self.old pid refused)) }
+    {
+        match self.ready_place(pid) {
+            None => Ok(Did::Nothing),
+            Some(place) => self.advance(alloc, programs, place, refused),
+        }
     }
 
     // Runs the next instruction of the process at this place over its space.

@@ -1,5 +1,9 @@
-ghost use Rattle.std.specs.Prelude.{◌≡◌, ℕ, ◌^◌, ◌<◌, ◌≤◌, length, IfOk};
+ghost use Rattle.std.specs.Prelude.{◌≡◌, ℕ, ◌^◌, ◌<◌, ◌≤◌, length, IfOk, OnOk};
 ghost use Rattle.replay_check.specs.Images.{AreImageFiles, AreNumbers};
+ghost use Rattle.page_model.specs.Flat.{Inputs, can_step};
+ghost use Rattle.flat_model.specs.Step.{flat_step};
+ghost use Rattle.replay_check.specs.Machine.{entries_of};
+ghost use Rattle.replay_check.specs.Judging.{state_if, entries_if};
 
 use crate::deed::Did;
 use crate::machine::Machine;
@@ -45,14 +49,15 @@ fn is_reply(regs: &Regs, carry: bool, r0: u32, r1: u32) -> bool {
 }
 
 impl<'a> Judge<'a> {
-    // One step of a process; None where it can't step.
-    fn step(&mut self, pid: u32, refused: bool) -> Result<Did, NoMemory> {
-        match self.machine.ready_place(pid) {
-            None => Ok(Did::Nothing),
-            Some(place) => self
-                .machine
-                .advance(self.alloc, self.programs, place, refused),
-        }
+    // One step of a process; nothing where it can't step.
+    fn step(&mut self, pid: u32, refused: bool) -> Result<Did, NoMemory>
+        ensures after { (A : Inputs) → A.images ≡ self.old.programs.now → OnOk result (self.new.machine ≡ state_if (can_step self.old.machine pid) self.old.machine (flat_step A self.old.machine pid refused)) }
+        ensures entries { (A : Inputs) → A.images ≡ self.old.programs.now → IfOk result (λ did. entries_of pid did ≡ entries_if (can_step self.old.machine pid) (flat_step A self.old.machine pid refused)) }
+        ensures programs { self.new.programs ≡ self.old.programs }
+        ensures last { self.new.last ≡ self.old.last }
+    {
+        self.machine
+            .step(self.alloc, self.programs, pid, refused)
     }
 
     fn ran(&mut self, pid: u32, count: u32) -> Result<bool, NoMemory> {

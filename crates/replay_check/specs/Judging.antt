@@ -1,0 +1,46 @@
+-- How the judge follows a run of the flat machine.
+use Rattle.std.specs.Prelude.{◌≡◌, ℕ, Bool, true, false, List, [], ◌∷◌, Option, Some, None}
+use Rattle.vm_facts.specs.Flat.{FlatState}
+use Rattle.vm_facts.specs.declared.entry.Entry.{Entry}
+use Rattle.vm_facts.specs.declared.entry.Entry.TheVariants as entries
+use Rattle.page_model.specs.Flat.{Inputs, can_step}
+use Rattle.flat_model.specs.Step.{Step, flat_step, call_entry}
+use Rattle.flat_model.specs.Run.{Point}
+use Rattle.replay_check.specs.declared.replaying.Last.{Last}
+use Rattle.replay_check.specs.declared.replaying.Last.TheVariants as lasts
+
+-- the state after a step, where the process can make one
+abbrev pub state_if : Bool → FlatState → Step → FlatState
+state_if true F step = step.after
+state_if false F step = F
+
+abbrev pub entries_if : Bool → Step → List Entry
+entries_if true step = step.entries
+entries_if false step = []
+
+-- what isn't completed yet stands in no such entry
+abbrev pub IsFree : Option Entry → Type 0
+IsFree (Some (entries.Refused pid)) = ⊥
+IsFree (Some (entries.Out pid bytes)) = ⊥
+IsFree _ = Unit {0}
+
+-- a call of this process whose bytes are out, and whose reply is to come
+pub record IsWriting (A : Inputs) (F : FlatState) (pid : ℕ) (reply : Entry) (point : Point) : Type 0 where
+  pub bytes : List ℕ
+  pub out : point.last ≡ Some (entries.Out pid bytes)
+  pub can : can_step point.flat pid ≡ true
+  pub due : (flat_step A point.flat pid false).entries ≡ entries.Out pid bytes ∷ reply ∷ []
+  pub after : (flat_step A point.flat pid false).after ≡ F
+
+-- the judge, with this machine and this last entry, stands at a point of a run
+abbrev pub IsAt : Inputs → FlatState → Last → Point → Type 0
+IsAt A F lasts.Other point = (point.flat ≡ F) × IsFree point.last
+IsAt A F (lasts.Refused pid) point = (point.flat ≡ F) × (point.last ≡ Some (entries.Refused pid))
+IsAt A F (lasts.Wrote pid call regs) point = IsWriting A F pid (call_entry pid call regs) point
+
+-- the verdict on an entry, behind which the judge stands where the entry leaves a run
+abbrev pub IsVerdict : Inputs → Bool → FlatState → Last → Option Point → Type 0
+IsVerdict A true F last (Some point) = IsAt A F last point
+IsVerdict A true F last None = ⊥
+IsVerdict A false F last (Some point) = ⊥
+IsVerdict A false F last None = Unit {0}
