@@ -4,3 +4,4 @@ pub mod Lists
 pub mod Changing
 pub mod Short
 pub mod Stepping
+pub mod Judging

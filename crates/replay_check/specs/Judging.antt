@@ -5,7 +5,9 @@ use Rattle.vm_facts.specs.declared.entry.Entry.{Entry}
 use Rattle.vm_facts.specs.declared.entry.Entry.TheVariants as entries
 use Rattle.page_model.specs.Flat.{Inputs, can_step}
 use Rattle.flat_model.specs.Step.{Step, flat_step, call_entry}
-use Rattle.flat_model.specs.Run.{Point}
+use Rattle.flat_model.specs.Run.{Point, same_as, first_if}
+use Rattle.replay_check.specs.declared.deed.Did.{Did}
+use Rattle.replay_check.specs.Machine.{entries_of}
 use Rattle.replay_check.specs.declared.replaying.Last.{Last}
 use Rattle.replay_check.specs.declared.replaying.Last.TheVariants as lasts
 
@@ -23,6 +25,12 @@ abbrev pub IsFree : Option Entry → Type 0
 IsFree (Some (entries.Refused pid)) = ⊥
 IsFree (Some (entries.Out pid bytes)) = ⊥
 IsFree _ = Unit {0}
+
+-- no step is begun
+abbrev pub is_other : Last → Bool
+is_other lasts.Other = true
+is_other (lasts.Refused pid) = false
+is_other (lasts.Wrote pid call regs) = false
 
 -- a call of this process whose bytes are out, and whose reply is to come
 pub record IsWriting (A : Inputs) (F : FlatState) (pid : ℕ) (reply : Entry) (point : Point) : Type 0 where
@@ -44,3 +52,7 @@ IsVerdict A true F last (Some point) = IsAt A F last point
 IsVerdict A true F last None = ⊥
 IsVerdict A false F last (Some point) = ⊥
 IsVerdict A false F last None = Unit {0}
+
+-- the first entry of what a process did is this one
+abbrev pub begins : ℕ → Did → Entry → Bool
+begins pid did e = same_as (first_if true (entries_of pid did)) e

@@ -3,7 +3,9 @@ ghost use Rattle.replay_check.specs.Images.{AreImageFiles, AreNumbers};
 ghost use Rattle.page_model.specs.Flat.{Inputs, can_step};
 ghost use Rattle.flat_model.specs.Step.{flat_step};
 ghost use Rattle.replay_check.specs.Machine.{entries_of};
-ghost use Rattle.replay_check.specs.Judging.{state_if, entries_if};
+ghost use Rattle.replay_check.specs.Judging.{state_if, entries_if, is_other, begins, IsAt, IsVerdict};
+ghost use Rattle.flat_model.specs.Run.{Point, flat_entry};
+ghost use Rattle.vm_facts.specs.declared.entry.Entry.TheVariants.{Grew, Sleeps};
 
 use crate::deed::Did;
 use crate::machine::Machine;
@@ -48,6 +50,28 @@ fn is_reply(regs: &Regs, carry: bool, r0: u32, r1: u32) -> bool {
     regs.c == carry && regs.r[0] == r0 && regs.r[1] == r1
 }
 
+// Whether the stack has so many pages.
+#[tactic(auto, using(crate::proofs::Judging::grown_begins))]
+fn is_grown(did: Did, pages: u32) -> bool
+    ensures { (pid : ℕ) → result ≡ begins pid did (Grew pid pages) }
+{
+    match did {
+        Did::Grew(grown) => grown == pages,
+        _ => false,
+    }
+}
+
+// Whether the process waits.
+#[tactic(auto, using(crate::proofs::Judging::slept_begins))]
+fn is_slept(did: Did) -> bool
+    ensures { (pid : ℕ) → result ≡ begins pid did (Sleeps pid) }
+{
+    match did {
+        Did::Slept => true,
+        _ => false,
+    }
+}
+
 impl<'a> Judge<'a> {
     // One step of a process; nothing where it can't step.
     fn step(&mut self, pid: u32, refused: bool) -> Result<Did, NoMemory>
@@ -72,24 +96,36 @@ impl<'a> Judge<'a> {
         Ok(true)
     }
 
-    fn grew(&mut self, pid: u32, pages: u32) -> Result<bool, NoMemory> {
-        let Last::Other = self.last else {
-            return Ok(false);
-        };
-        match self.step(pid, false)? {
-            Did::Grew(grown) => Ok(grown == pages),
-            _ => Ok(false),
+    // Whether no step is begun.
+    fn is_free(&self) -> bool
+        ensures { result ≡ is_other self.now.last }
+    {
+        match self.last {
+            Last::Other => true,
+            Last::Refused(_) | Last::Wrote(..) => false,
         }
     }
 
-    fn slept(&mut self, pid: u32) -> Result<bool, NoMemory> {
-        let Last::Other = self.last else {
+    #[tactic(auto, using(crate::proofs::Judging::grown_busy))]
+    fn grew(&mut self, pid: u32, pages: u32) -> Result<bool, NoMemory>
+        ensures { (A : Inputs) (point : Point) → A.images ≡ self.old.programs.now → IsAt A self.old.machine self.old.last point → IfOk result (λ ok. IsVerdict A ok self.new.machine self.new.last (flat_entry A point (Grew pid pages))) }
+    {
+        if !self.is_free() {
             return Ok(false);
-        };
-        match self.step(pid, false)? {
-            Did::Slept => Ok(true),
-            _ => Ok(false),
         }
+        let did = self.step(pid, false)?;
+        Ok(is_grown(did, pages))
+    }
+
+    #[tactic(auto, using(crate::proofs::Judging::slept_busy))]
+    fn slept(&mut self, pid: u32) -> Result<bool, NoMemory>
+        ensures { (A : Inputs) (point : Point) → A.images ≡ self.old.programs.now → IsAt A self.old.machine self.old.last point → IfOk result (λ ok. IsVerdict A ok self.new.machine self.new.last (flat_entry A point (Sleeps pid))) }
+    {
+        if !self.is_free() {
+            return Ok(false);
+        }
+        let did = self.step(pid, false)?;
+        Ok(is_slept(did))
     }
 
     fn wrote(&mut self, pid: u32, bytes: &[u8]) -> Result<bool, NoMemory> {
