@@ -147,3 +147,27 @@ slept_busy A point F G (lasts.Refused q) new pid other at =
     subst (λ (o : Option Entry). IsVerdict A false G new (flat_entry_if (may_follow o (entries.Sleeps pid)) A point pid (entries.Sleeps pid))) (sym at.1) tt
 slept_busy A point F G (lasts.Wrote q call regs) new pid other at =
     subst (λ (o : Option Entry). IsVerdict A false G new (flat_entry_if (may_follow o (entries.Sleeps pid)) A point pid (entries.Sleeps pid))) (sym at.out) tt
+
+pub refused_at : (A : Inputs) (point : Point) (F : FlatState) (last : Last) (pid : ℕ) (b : Bool) → is_other last ≡ true → IsAt A F last point → b ≡ can_step F pid
+    → IsVerdict A b F (lasts.Refused pid) (flat_entry A point (entries.Refused pid))
+unfolding flat_entry
+refused_at A point F lasts.Other pid b other at is =
+    subst (λ (o : Option Point). IsVerdict A b F (lasts.Refused pid) o) (sym (follows A point F pid (entries.Refused pid) at.0 at.1))
+    (go b (can_step point.flat pid) (is ∙ sym (ap (λ (G : FlatState). can_step G pid) at.0)))
+  where
+    go : (b c : Bool) → b ≡ c → IsVerdict A b F (lasts.Refused pid) (where_so c (record point { last = Some (entries.Refused pid) }))
+    go true true k = (at.0, refl)
+    go false false k = tt
+    go true false k = absurd cc
+    go false true k = absurd cc
+refused_at A point F (lasts.Refused q) pid b other at is = absurd cc
+refused_at A point F (lasts.Wrote q call regs) pid b other at is = absurd cc
+
+pub refused_busy : (A : Inputs) (point : Point) (F G : FlatState) (last new : Last) (pid : ℕ) → is_other last ≡ false → IsAt A F last point
+    → IsVerdict A false G new (flat_entry A point (entries.Refused pid))
+unfolding flat_entry
+refused_busy A point F G lasts.Other new pid other at = absurd cc
+refused_busy A point F G (lasts.Refused q) new pid other at =
+    subst (λ (o : Option Entry). IsVerdict A false G new (flat_entry_if (may_follow o (entries.Refused pid)) A point pid (entries.Refused pid))) (sym at.1) tt
+refused_busy A point F G (lasts.Wrote q call regs) new pid other at =
+    subst (λ (o : Option Entry). IsVerdict A false G new (flat_entry_if (may_follow o (entries.Refused pid)) A point pid (entries.Refused pid))) (sym at.out) tt

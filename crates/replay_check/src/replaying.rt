@@ -5,7 +5,7 @@ ghost use Rattle.flat_model.specs.Step.{flat_step};
 ghost use Rattle.replay_check.specs.Machine.{entries_of};
 ghost use Rattle.replay_check.specs.Judging.{state_if, entries_if, is_other, begins, IsAt, IsVerdict};
 ghost use Rattle.flat_model.specs.Run.{Point, flat_entry};
-ghost use Rattle.vm_facts.specs.declared.entry.Entry.TheVariants.{Grew, Sleeps};
+ghost use Rattle.vm_facts.specs.declared.entry.Entry.TheVariants.{Grew, Sleeps, Refused};
 
 use crate::deed::Did;
 use crate::machine::Machine;
@@ -141,10 +141,13 @@ impl<'a> Judge<'a> {
         }
     }
 
-    fn refused(&mut self, pid: u32) -> bool {
-        let Last::Other = self.last else {
+    #[tactic(auto, using(crate::proofs::Judging::refused_at, crate::proofs::Judging::refused_busy))]
+    fn refused(&mut self, pid: u32) -> bool
+        ensures { (A : Inputs) (point : Point) → IsAt A self.old.machine self.old.last point → IsVerdict A result self.new.machine self.new.last (flat_entry A point (Refused pid)) }
+    {
+        if !self.is_free() {
             return false;
-        };
+        }
         self.last = Last::Refused(pid);
         self.machine.ready_place(pid).is_some()
     }
