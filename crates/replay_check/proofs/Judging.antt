@@ -1,7 +1,6 @@
 -- Entries that the judge judges.
-use Rattle.std.proofs.Common.{◌≡◌, ℕ, ◌==◌, Bool, true, false, ◌&&◌, List, [], ◌∷◌, ◌++◌, Option, Some, None, refl, sym, ap, ◌∙◌, subst, eq-eqb}
+use Rattle.std.proofs.Common.{◌≡◌, ℕ, ◌==◌, Bool, true, false, ◌&&◌, List, [], ◌∷◌, Option, Some, None, refl, sym, ap, ◌∙◌, subst, eq-eqb}
 use Rattle.vm_facts.specs.Flat.{FlatState}
-use Rattle.vm_facts.specs.declared.regs.Regs.{Regs}
 use Rattle.vm_facts.specs.declared.entry.Entry.{Entry}
 use Rattle.vm_facts.specs.declared.entry.Entry.TheVariants as entries
 use Rattle.page_model.specs.Flat.{Inputs, can_step}
@@ -44,7 +43,7 @@ follows A point F pid e flat free =
 
 made : (A : Inputs) (point : Point) (F : FlatState) (pid : ℕ) (e : Entry) → point.flat ≡ F → IsFree point.last
     → where_so (same_as (act A point pid) e) (point_after A point pid)
-      ≡ where_so (same_as (first_if (can_step F pid) (flat_step A F pid false).entries) e) (behind point (flat_step A F pid false).after (flat_step A F pid false).entries)
+    ≡ where_so (same_as (first_if (can_step F pid) (flat_step A F pid false).entries) e) (behind point (flat_step A F pid false).after (flat_step A F pid false).entries)
 made A point F pid e flat free =
     let step : step_at A point pid ≡ flat_step A F pid false =
     ap (λ (b : Bool). flat_step A point.flat pid b) (free_last point.last pid [] e free).0 ∙ ap (λ (G : FlatState). flat_step A G pid false) flat in

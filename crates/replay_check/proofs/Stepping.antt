@@ -93,7 +93,6 @@ by_wrote images F p call effect reply bytes after is e =
     ap (λ (regs : Regs). step_by images F p effect.writes (record { did = deeds.Wrote call bytes regs; regs = regs; change = Keep })) e
     ∙ sym (ap (replied_step images F p call effect) is)
 
-
 -- An instruction of the process at a place.
 
 wrote_at : (F : FlatState) (place : ℕ) (writes : List ByteWrite) → IsPlace F place → apply_writes F (process_at F place).pid writes ≡ with_process F (written_process (process_at F place) (space_at F place) writes)
@@ -126,7 +125,7 @@ flat_at A images F place refused at same =
 -- the deed of the process at a place makes its step
 pub step_made : (A : Inputs) (images : List NamedImage) (F : FlatState) (place : ℕ) (refused : Bool) (deed : Deed) → IsPlace F place → A.images ≡ images
     → step_by images F (process_at F place) (writes_of (instruction_in (space_at F place) (process_at F place).regs)) deed
-      ≡ step_of images F (process_at F place) (space_at F place) refused (instruction_in (space_at F place) (process_at F place).regs)
+    ≡ step_of images F (process_at F place) (space_at F place) refused (instruction_in (space_at F place) (process_at F place).regs)
     → step_by images F (process_at F place) (writes_of (instruction_in (space_at F place) (process_at F place).regs)) deed ≡ flat_step A F (process_at F place).pid refused
 step_made A images F place refused deed at same is = is ∙ sym (flat_at A images F place refused at same)
 

@@ -1,5 +1,5 @@
 -- The images of a run, as their files' bytes say.
-use Rattle.std.specs.Prelude.{◌≡◌, ℕ, ◌+◌, ◌*◌, ◌<◌, ◌≤◌, ◌^◌, List, [], ◌∷◌, ◌++◌, length, All, AllPairs, Option, Some, None, Result, Ok, Err, is_ok, IsTrue, IsSome}
+use Rattle.std.specs.Prelude.{◌≡◌, ℕ, ◌+◌, ◌*◌, ◌<◌, ◌≤◌, ◌^◌, List, [], ◌∷◌, ◌++◌, length, All, Option, Some, None, Result, Ok, Err, is_ok, IsTrue, IsSome}
 use Rattle.aout_image.specs.Image.{Loaded, image_of}
 use Rattle.page_model.specs.Flat.{NamedImage, image_numbered}
 use Rattle.page_model.specs.declared.change.Change.{Change}

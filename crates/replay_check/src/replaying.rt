@@ -80,8 +80,7 @@ impl<'a> Judge<'a> {
         ensures programs { self.new.programs ≡ self.old.programs }
         ensures last { self.new.last ≡ self.old.last }
     {
-        self.machine
-            .step(self.alloc, self.programs, pid, refused)
+        self.machine.step(self.alloc, self.programs, pid, refused)
     }
 
     fn ran(&mut self, pid: u32, count: u32) -> Result<bool, NoMemory> {
@@ -193,9 +192,11 @@ impl<'a> Judge<'a> {
             Did::Replied(call, regs) => {
                 Ok(call.number() == number && is_reply(&regs, carry, r0, r1))
             }
-            Did::Wrote(call, bytes, regs) => Ok(bytes.as_slice().is_empty()
-                && call.number() == number
-                && is_reply(&regs, carry, r0, r1)),
+            Did::Wrote(call, bytes, regs) => Ok(
+                bytes.as_slice().is_empty()
+                    && call.number() == number
+                    && is_reply(&regs, carry, r0, r1),
+            ),
             _ => Ok(false),
         }
     }
