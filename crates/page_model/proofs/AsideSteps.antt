@@ -259,7 +259,7 @@ put_shape p v s m = record { sizes = put_length p v s m; sharing = put_sharers p
 evict_shape : (p : Placement) (f : ℕ) → SameShape p (evict p f)
 evict_shape p f = let r : EvictRest p (evict p f) = evict_rest p f in record { sizes = r.sizes; sharing = evict_sharers p f }
 
-filled_shape : (p : Placement) (v : Page) → SameShape p (filled p v)
+pub filled_shape : (p : Placement) (v : Page) → SameShape p (filled p v)
 filled_shape p v = let k = go p.free in record { sizes = k.sizes; sharing = k.sharing }
   where
     go : (fr : List ℕ) → SameShape p (fill_at p v fr)
@@ -283,10 +283,10 @@ get_all_shape : (qs : List Page) (p : Placement) (e : Errand) → SameShape p (g
 get_all_shape [] p e = shape_self p
 get_all_shape (v ∷ qs) p e = shape_both p (get_one p e v) (get_all (get_one p e v) e qs) (get_shape p e v) (get_all_shape qs (get_one p e v) e)
 
-get_run_shape : (p : Placement) (e : Errand) (qs : List Page) → SameShape p (get_run p e qs)
+pub get_run_shape : (p : Placement) (e : Errand) (qs : List Page) → SameShape p (get_run p e qs)
 get_run_shape p e qs = let k = get_all_shape qs (begin p e) e in record { sizes = k.sizes; sharing = k.sharing }
 
-reclaim_shape : (p : Placement) (v : Page) → SameShape p (reclaim p v)
+pub reclaim_shape : (p : Placement) (v : Page) → SameShape p (reclaim p v)
 reclaim_shape p v = go (state_of p v)
   where
     go : (s : PageState) → SameShape p (reclaim_to p v s)
@@ -297,7 +297,7 @@ reclaim_shape p v = go (state_of p v)
     go (Going f) = shape_self p
     go OnSwap = shape_self p
 
-steady_shape : (p q : Placement) → Steady p q → SameShape p q
+pub steady_shape : (p q : Placement) → Steady p q → SameShape p q
 steady_shape p q s = record { sizes = s.sizes; sharing = s.sharing }
 
 moves_shape : (n : ℕ) (p : Placement) (locked : List Page) → SameShape p (hand_moves p locked n)

@@ -94,7 +94,7 @@ evict_coupled p f b o l k = go (page_of p f) refl
         (λ i n h. subst (λ (x : Page). due_at p.due x ≡ None) (sym h) (k.text_due i n)) (keeps_at p b v (Invalid f) k there was.state)))
 
 -- the fill of the first due page, and no other page's
-due_other : (ds : List Due) (v w : Page) → w ≢ v → due_at (due_after ds v) w ≡ due_at ds w
+pub due_other : (ds : List Due) (v w : Page) → w ≢ v → due_at (due_after ds v) w ≡ due_at ds w
 due_other [] v w n = refl
 due_other (d ∷ ds) v w n = go (same_page (due_page d) v) refl
   where

@@ -229,12 +229,12 @@ due_first (d ∷ ds) es q e = ap (λ (o : Option Due). cond (same_page (due_page
 
 -- Fork.
 
-map_at : (xs : List Slot) (v : ℕ) → v < length xs → get_or (map child_slot xs) v no_slot ≡ child_slot (get_or xs v no_slot)
+pub map_at : (xs : List Slot) (v : ℕ) → v < length xs → get_or (map child_slot xs) v no_slot ≡ child_slot (get_or xs v no_slot)
 map_at [] v l = absurd (omega arith)
 map_at (x ∷ xs) zero l = refl
 map_at (x ∷ xs) (suc v) l = map_at xs v (omega arith)
 
-map_length : (xs : List Slot) → length (map child_slot xs) ≡ length xs
+pub map_length : (xs : List Slot) → length (map child_slot xs) ≡ length xs
 map_length [] = refl
 map_length (x ∷ xs) = ap suc (map_length xs)
 

@@ -34,3 +34,10 @@ pub mod KernelLaws
 pub mod Units
 pub mod SpaceLaws
 pub mod ServeStands
+pub mod Starts
+pub mod Wholes
+pub mod Transfers
+pub mod Sounds
+pub mod DueLaws
+pub mod DueSpaces
+pub mod PartsKept

@@ -134,10 +134,10 @@ resize_owner p sid d s o r = cut_owner (drop_all p (dropped_pages p sid d s)) si
 
 -- A new space.
 
-numbered_hit : (n : ℕ) (x : SpacePages) (xs : List SpacePages) → space_number x ≡ n → numbered space_number n (x ∷ xs) ≡ Some x
+pub numbered_hit : (n : ℕ) (x : SpacePages) (xs : List SpacePages) → space_number x ≡ n → numbered space_number n (x ∷ xs) ≡ Some x
 numbered_hit n x xs e = grind (arith, nat_tests)
 
-numbered_miss : (n : ℕ) (x : SpacePages) (xs : List SpacePages) → space_number x ≢ n → numbered space_number n (x ∷ xs) ≡ numbered space_number n xs
+pub numbered_miss : (n : ℕ) (x : SpacePages) (xs : List SpacePages) → space_number x ≢ n → numbered space_number n (x ∷ xs) ≡ numbered space_number n xs
 numbered_miss n x xs e = grind (arith, nat_tests)
 
 pub added_other : (t : ℕ) (ss : List SpacePages) (x : SpacePages) → space_number x ≢ t → numbered space_number t (ss ++ x ∷ []) ≡ numbered space_number t ss
@@ -159,12 +159,12 @@ abbrev pub AllBlank : List Slot → Type 0
 AllBlank [] = Unit {0}
 AllBlank (x ∷ xs) = BlankSlot x × AllBlank xs
 
-blank_slot_at : (xs : List Slot) (w : ℕ) → AllBlank xs → BlankSlot (get_or xs w no_slot)
+pub blank_slot_at : (xs : List Slot) (w : ℕ) → AllBlank xs → BlankSlot (get_or xs w no_slot)
 blank_slot_at [] w b = (refl, refl)
 blank_slot_at (x ∷ xs) zero b = b.0
 blank_slot_at (x ∷ xs) (suc w) b = blank_slot_at xs w b.1
 
-add_alike : (p : Placement) (x : SpacePages) (due : List Due) → IsNew p x.sid → AllBlank x.data_pages → AllBlank x.stack_pages → (w : Page) → Alike (slot_of (record p { spaces = p.spaces ++ x ∷ []; due = due }) w) (slot_of p w)
+pub add_alike : (p : Placement) (x : SpacePages) (due : List Due) → IsNew p x.sid → AllBlank x.data_pages → AllBlank x.stack_pages → (w : Page) → Alike (slot_of (record p { spaces = p.spaces ++ x ∷ []; due = due }) w) (slot_of p w)
 add_alike p x due n bd bs = alike
   where
     alike : (w : Page) → Alike (slot_of (record p { spaces = p.spaces ++ x ∷ []; due = due }) w) (slot_of p w)
@@ -185,7 +185,7 @@ add_alike p x due n bd bs = alike
 pub add_owner : (p : Placement) (x : SpacePages) (due : List Due) → OwnsFrames p → IsNew p x.sid → AllBlank x.data_pages → AllBlank x.stack_pages → OwnsFrames (record p { spaces = p.spaces ++ x ∷ []; due = due })
 add_owner p x due o n bd bs = alike_owner p (record p { spaces = p.spaces ++ x ∷ []; due = due }) o refl refl refl (add_alike p x due n bd bs)
 
-child_blank : (xs : List Slot) → AllBlank (map child_slot xs)
+pub child_blank : (xs : List Slot) → AllBlank (map child_slot xs)
 child_blank [] = tt
 child_blank (x ∷ xs) = (one x.state, child_blank xs)
   where
@@ -205,7 +205,7 @@ fork_owner p parent child o n = add_owner p (record {
   stack_pages = map child_slot (slots_of p (Stack parent 0));
 }) (fork_space p parent child).due o n (child_blank (slots_of p (Data parent 0))) (child_blank (slots_of p (Stack parent 0)))
 
-unfilled_blank : (facts : Image) (v n : ℕ) → AllBlank (unfilled_data facts v n)
+pub unfilled_blank : (facts : Image) (v n : ℕ) → AllBlank (unfilled_data facts v n)
 unfilled_blank facts v zero = tt
 unfilled_blank facts v (suc n) = ((refl, refl), unfilled_blank facts (v + 1) n)
 

@@ -3,24 +3,24 @@ use Rattle.std.proofs.Common.{◌≡◌, ◌≢◌, ◌⊎◌, inl, inr, ℕ, �
 use Rattle.std.proofs.lemmas.Bool.{cases_eq}
 use Rattle.std.proofs.lemmas.Bool.Decides.{nat_tests}
 use Rattle.vm_facts.specs.declared.page.Page.{Page}
-use Rattle.vm_facts.specs.declared.page.Page.TheVariants.{Data, Stack}
+use Rattle.vm_facts.specs.declared.page.Page.TheVariants.{Data, Stack, Text}
 use Rattle.vm_facts.specs.declared.page.PageState.{PageState}
 use Rattle.vm_facts.specs.declared.page.PageState.TheVariants.{Unfilled, Valid, Invalid, Coming, Going, OnSwap}
 use Rattle.page_model.specs.Pages.{frame_of, left_state}
-use Rattle.page_model.specs.Frames.{times, at_frame}
-use Rattle.page_model.specs.Placement.{Placement, Transfer, Part, Moving, Errand, Writes, Reads, Source, state_of, mark_of, page_of, parts_of, flying, moving, image_of, sharers}
-use Rattle.page_model.specs.Moves.{evict, evict_at, fill_at, begin, get_one, get_at, get_all, get_run, done}
-use Rattle.page_model.specs.Place.{filled}
+use Rattle.page_model.specs.Frames.{times, without, at_frame}
+use Rattle.page_model.specs.Placement.{Placement, Transfer, Part, Moving, Errand, Writes, Reads, Source, state_of, mark_of, page_of, parts_of, flying, moving, is_dirty, image_of, sharers}
+use Rattle.page_model.specs.Moves.{evict, evict_at, fill_at, begin, get_one, get_at, get_all, get_run, done, reclaim, reclaim_to, touch, touch_to}
+use Rattle.page_model.specs.Place.{filled, put_step, put_by}
 use Rattle.page_model.specs.Swapper.{is_of_space, is_of_text, names_page, is_settled}
 use Rattle.page_model.specs.Conditions.{EachPage, AtRest, CanEnter, IsSettled}
 use Rattle.page_model.specs.Ownership.{OwnsFrames, Each, IsMoving, IsListed, seats}
-use Rattle.page_model.specs.Coupled.{Bytes, bytes_in, SamePage, with_frame, source_bytes, bytes_read, Stores, StoresAll, BytesBy, BytesAfter, NotIn}
+use Rattle.page_model.specs.Coupled.{Bytes, bytes_in, SamePage, with_frame, source_bytes, bytes_read, Stores, StoresAll, BytesBy, BytesAfter, NotIn, WritesBoth}
 use Rattle.page_model.proofs.FrameLaws.{times_head, times_tail, at_set_other}
 use Rattle.page_model.proofs.PageLaws.{page_cases, put_state}
 use Rattle.page_model.proofs.Local.{some_is, none_some}
 use Rattle.page_model.proofs.Steps.{page_in, once_at, put_other_state, frame_of_moving, evict_owner, evict_page, left_frameless}
 use Rattle.page_model.proofs.OwnsRuns.{begin_owner}
-use Rattle.page_model.proofs.Stays.{Steady, Stays, done_steady}
+use Rattle.page_model.proofs.Stays.{Steady, Stays, steady_self, steady_stays, turn_steady, launch_run_steady, retire_steady, done_steady}
 
 -- Steps that change no bytes: each page has the frame that it had, so all pages are the same.
 pub stays_same : (p q : Placement) (b : Bytes) (w : Page) → Stays p q → SamePage p q b b w
@@ -147,6 +147,62 @@ done_same p t ts b c w o h s n = by t.errand refl
           swap = ap (λ (x : Bytes). x.swap w) (sym is) ∙ k.0;
           start = ap (λ (x : Bytes). x.start w) (sym is) ∙ k.1;
         }
+
+-- What is put keeps its frame, and so do all others.
+pub put_steady : (p : Placement) (v : Page) (qs : List Page) → Steady p (put_step p v qs)
+put_steady p v qs = go (is_dirty p v)
+  where
+    go : (d : Bool) → Steady p (put_by p v qs d)
+    go true = launch_run_steady p qs
+    go false = retire_steady p v
+
+pub put_same : (p : Placement) (v : Page) (qs : List Page) (b : Bytes) (w : Page) → SamePage p (put_step p v qs) b b w
+put_same p v qs b w = stays_same p (put_step p v qs) b w (steady_stays p (put_step p v qs) (put_steady p v qs))
+
+-- A page that is reclaimed keeps its frame.
+pub reclaim_steady : (p : Placement) (v : Page) → Steady p (reclaim p v)
+reclaim_steady p v = go (state_of p v) refl
+  where
+    go : (s : PageState) → state_of p v ≡ s → Steady p (reclaim_to p v s)
+    go (Invalid f) e = turn_steady p v f (Valid f) (mark_of p v) (without f p.free) p.transfers (ap frame_of e) refl
+    go Unfilled e = steady_self p
+    go (Valid f) e = steady_self p
+    go (Coming f) e = steady_self p
+    go (Going f) e = steady_self p
+    go OnSwap e = steady_self p
+
+pub reclaim_same : (p : Placement) (v : Page) (b : Bytes) (w : Page) → SamePage p (reclaim p v) b b w
+reclaim_same p v b w = stays_same p (reclaim p v) b w (steady_stays p (reclaim p v) (reclaim_steady p v))
+
+-- A user write leaves each other page the same.
+pub touch_steady : (p : Placement) (v : Page) → Steady p (touch p v)
+touch_steady p v = go v (state_of p v) refl
+  where
+    go : (v : Page) (s : PageState) → state_of p v ≡ s → Steady p (touch_to p v s)
+    go (Data sid n) (Valid f) e = turn_steady p (Data sid n) f (Valid f) true p.free p.transfers (ap frame_of e) refl
+    go (Data sid n) Unfilled e = steady_self p
+    go (Data sid n) (Invalid f) e = steady_self p
+    go (Data sid n) (Coming f) e = steady_self p
+    go (Data sid n) (Going f) e = steady_self p
+    go (Data sid n) OnSwap e = steady_self p
+    go (Stack sid n) (Valid f) e = turn_steady p (Stack sid n) f (Valid f) true p.free p.transfers (ap frame_of e) refl
+    go (Stack sid n) Unfilled e = steady_self p
+    go (Stack sid n) (Invalid f) e = steady_self p
+    go (Stack sid n) (Coming f) e = steady_self p
+    go (Stack sid n) (Going f) e = steady_self p
+    go (Stack sid n) OnSwap e = steady_self p
+    go (Text image n) s e = steady_self p
+
+pub touch_same : (p : Placement) (v : Page) (f : ℕ) (b c : Bytes) (bytes : List ℕ) (w : Page) → OwnsFrames p → state_of p v ≡ Valid f → WritesBoth b c v f bytes → w ≢ v → SamePage p (touch p v) b c w
+touch_same p v f b c bytes w o e s n = record {
+  frames = λ g h a k.
+      let t : Steady p (touch p v) = touch_steady p v in
+      let same : h ≡ g = some_is h g (sym k ∙ t.frames w ∙ a) in
+      let apart : h ≢ f = λ z. n (some_is w v (sym (o.names w g a) ∙ ap (page_of p) (sym same ∙ z) ∙ o.names v f (ap frame_of e))) in
+      ap (λ (fs : List (List ℕ)). at_frame fs h []) s.frames ∙ at_set_other b.frames f h bytes [] apart ∙ ap (bytes_in b) same;
+  swap = s.swap w;
+  start = s.start w;
+}
 
 -- Settling.
 

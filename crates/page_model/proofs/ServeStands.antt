@@ -21,10 +21,10 @@ pub record SameHands (p q : Placement) : Type 0 where
   pub back : q.back ≡ p.back
   pub frames : length q.holds ≡ length p.holds
 
-hands_self : (p : Placement) → SameHands p p
+pub hands_self : (p : Placement) → SameHands p p
 hands_self p = record { front = refl; back = refl; frames = refl }
 
-hands_both : (p q r : Placement) → SameHands p q → SameHands q r → SameHands p r
+pub hands_both : (p q r : Placement) → SameHands p q → SameHands q r → SameHands p r
 hands_both p q r s t = record { front = t.front ∙ s.front; back = t.back ∙ s.back; frames = t.frames ∙ s.frames }
 
 pub hands_stand : (p q : Placement) → SameHands p q → HandsStand p → HandsStand q
@@ -41,7 +41,7 @@ evict_hands p f = go (page_of p f)
     go None = hands_self p
     go (Some v) = record { front = refl; back = refl; frames = length_set_frame p.holds f None }
 
-fill_hands : (p : Placement) (v : Page) → SameHands p (fill p v)
+pub fill_hands : (p : Placement) (v : Page) → SameHands p (fill p v)
 fill_hands p v = go p.free
   where
     go : (fr : List ℕ) → SameHands p (fill_at p v fr)
@@ -55,14 +55,14 @@ get_hands p e v = go p.free
     go [] = hands_self p
     go (f ∷ rest) = let s : SameHands p (evict p f) = evict_hands p f in record { front = s.front; back = s.back; frames = length_set_frame (evict p f).holds f (Some v) ∙ s.frames }
 
-get_all_hands : (qs : List Page) (p : Placement) (e : Errand) → SameHands p (get_all p e qs)
+pub get_all_hands : (qs : List Page) (p : Placement) (e : Errand) → SameHands p (get_all p e qs)
 get_all_hands [] p e = hands_self p
 get_all_hands (v ∷ qs) p e = hands_both p (get_one p e v) (get_all (get_one p e v) e qs) (get_hands p e v) (get_all_hands qs (get_one p e v) e)
 
 read_hands : (p : Placement) (q : Page) → SameHands p (read_step p q)
 read_hands p q = let s = get_all_hands (pages_of_run q (run_in p q)) (begin p (read_errand p q)) (read_errand p q) in record { front = s.front; back = s.back; frames = s.frames }
 
-reclaim_hands : (p : Placement) (v : Page) → SameHands p (reclaim p v)
+pub reclaim_hands : (p : Placement) (v : Page) → SameHands p (reclaim p v)
 reclaim_hands p v = go (state_of p v)
   where
     go : (s : PageState) → SameHands p (reclaim_to p v s)
@@ -73,7 +73,7 @@ reclaim_hands p v = go (state_of p v)
     go (Going f) = hands_self p
     go OnSwap = hands_self p
 
-done_hands : (p : Placement) → OwnsFrames p → SameHands p (done p)
+pub done_hands : (p : Placement) → OwnsFrames p → SameHands p (done p)
 done_hands p o = let s : Steady p (done p) = done_steady p o in record { front = s.front; back = s.back; frames = ap length s.holds }
 
 pub force_stands : (p : Placement) (locked : List Page) → OwnsFrames p → HandsStand p → HandsStand (force p locked)

@@ -175,7 +175,7 @@ pub record Stays (p q : Placement) : Type 0 where
   pub due : q.due ≡ p.due
   pub sharing : (image : ℕ) → sharers q image ≡ sharers p image
 
-steady_stays : (p q : Placement) → Steady p q → Stays p q
+pub steady_stays : (p q : Placement) → Steady p q → Stays p q
 steady_stays p q s = record { sizes = s.sizes; holds = s.holds; frames = s.frames; others = s.others; due = s.due; sharing = s.sharing }
 
 pub swept_steady : (p : Placement) (locked : List Page) → Steady p (sweep (expire p locked) locked)

@@ -1,5 +1,5 @@
 -- What the steps of a placement ask of the pages that they move, and what they keep.
-use Rattle.std.specs.Prelude.{◌≡◌, ◌⊎◌, ℕ, Bool, true, false, List, [], ◌∷◌, None, ◌<◌}
+use Rattle.std.specs.Prelude.{◌≡◌, ◌⊎◌, ℕ, Bool, true, false, List, [], ◌∷◌, length, None, ◌<◌}
 use Rattle.vm_facts.specs.declared.page.Page.{Page}
 use Rattle.vm_facts.specs.declared.page.Page.TheVariants.{Data, Stack, Text}
 use Rattle.vm_facts.specs.declared.page.PageState.{PageState}
@@ -12,7 +12,7 @@ use Rattle.page_model.specs.declared.change.Change.TheVariants.{Resize, Fork, Ex
 use Rattle.page_model.specs.Place.{remove_space, enter_image}
 use Rattle.page_model.specs.Flat.{NamedImage, image_numbered}
 use Rattle.page_model.specs.Frames.{times}
-use Rattle.page_model.specs.Placement.{Placement, space_number, state_of, IsThere, sharers, image_of}
+use Rattle.page_model.specs.Placement.{Placement, Transfer, space_number, state_of, IsThere, sharers, image_of}
 
 -- something is so of each page
 abbrev pub EachPage : (Page → Type 0) → List Page → Type 0
@@ -79,6 +79,24 @@ CanChange p sid borrowed next_sid (Fork child) = IsNew p next_sid
 CanChange p sid borrowed next_sid (Exec image top) = IsNew p next_sid × (borrowed ≡ false → IsSettled p sid)
 CanChange p sid borrowed next_sid (End status) = borrowed ≡ false → IsSettled p sid
 CanChange p sid borrowed next_sid _ = Unit {0}
+
+-- how many transfers an entry may begin
+abbrev pub begins : Entry → ℕ
+begins (entries.Get q lo n) = 1
+begins (entries.Put q n) = 1
+begins (entries.Hands n) = n
+begins _ = 0
+
+-- each transfer has a page
+abbrev pub HaveParts : List Transfer → Type 0
+HaveParts [] = Unit {0}
+HaveParts (t ∷ ts) = (0 < length t.parts) × HaveParts ts
+
+-- an entry that begins a transfer has a page for it, and a read has a frame for that
+abbrev pub CanBegin : Placement → Entry → Type 0
+CanBegin p (entries.Get q lo n) = (0 < n) × (0 < length p.free)
+CanBegin p (entries.Put q n) = 0 < n
+CanBegin p _ = Unit {0}
 
 -- a data or stack page, or text that a space shares
 abbrev pub IsShared : Placement → Page → Type 0

@@ -18,3 +18,4 @@ pub mod Change
 pub mod Kernel
 pub mod FlatStep
 pub mod Writes
+pub mod Dues

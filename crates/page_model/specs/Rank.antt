@@ -3,9 +3,13 @@ use Rattle.std.specs.Prelude.{◌≡◌, ℕ, zero, suc, ◌+◌, ◌*◌, ◌/�
 use Rattle.vm_facts.specs.declared.page.Page.{Page}
 use Rattle.vm_facts.specs.declared.page.PageState.{PageState}
 use Rattle.vm_facts.specs.declared.page.PageState.TheVariants.{Unfilled, Valid, Invalid, Coming, Going, OnSwap}
-use Rattle.page_model.specs.Pages.{Filling, Zeros, OfImage, is_among}
+use Rattle.vm_facts.specs.declared.entry.Entry.{Entry}
+use Rattle.page_model.specs.Pages.{Filling, Zeros, OfImage, is_among, is_valid}
 use Rattle.page_model.specs.Frames.{next_frame}
-use Rattle.page_model.specs.Placement.{Placement, Transfer, Part, Errand, Writes, state_of, filling_of, page_of}
+use Rattle.page_model.specs.Placement.{Placement, Transfer, Part, Errand, Writes, slots_of, state_of, filling_of, page_of}
+use Rattle.page_model.specs.Serve.{Forces, Serves}
+use Rattle.page_model.specs.Conditions.{Spares}
+use Rattle.page_model.specs.Ownership.{OwnsFrames}
 
 abbrev pub is_invalid : PageState → Bool
 is_invalid (Invalid f) = true
@@ -81,3 +85,30 @@ rank p locked q = rank_by p locked (filling_of p q) (state_of p q)
 pub record HasRoom (p : Placement) (locked : List Page) : Type 0 where
   pub quarter : 0 < length p.holds / 4
   pub rest : length locked + length p.holds / 4 < length p.holds
+
+-- Wholes.
+
+-- forcing as a whole: its units, and the placement that they lead to, in which a frame is free
+pub record EndsForcing (p : Placement) (locked : List Page) : Type 0 where
+  pub units : List Entry
+  pub last : Placement
+  pub leads : Forces units p locked last
+  pub free : 0 < length last.free
+  pub few : length units ≤ far p locked
+  pub owner : OwnsFrames last
+  pub hands : HandsStand last
+  pub frames : length last.holds ≡ length p.holds
+  pub spares : Spares p last locked
+
+-- serving a page as a whole: its units, and the placement that they lead to, in which the page is valid
+pub record EndsServing (p : Placement) (locked : List Page) (q : Page) : Type 0 where
+  pub units : List Entry
+  pub last : Placement
+  pub leads : Serves units p locked q true last
+  pub valid : is_valid (state_of last q) ≡ true
+  pub few : length units ≤ rank p locked q
+  pub owner : OwnsFrames last
+  pub hands : HandsStand last
+  pub frames : length last.holds ≡ length p.holds
+  pub sizes : (w : Page) → length (slots_of last w) ≡ length (slots_of p w)
+  pub spares : Spares p last locked

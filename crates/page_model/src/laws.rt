@@ -2,7 +2,7 @@ ghost use Rattle.std.specs.Prelude.{◌≡◌, ◌≢◌, ◌⊎◌, ℕ, ◌+�
 ghost use Rattle.vm_facts.specs.Flat.{FlatState};
 ghost use Rattle.vm_facts.specs.declared.page.Page.{Page};
 ghost use Rattle.vm_facts.specs.declared.page.Page.TheVariants.{Data, Stack, Text};
-ghost use Rattle.vm_facts.specs.declared.page.PageState.TheVariants.{Valid};
+ghost use Rattle.vm_facts.specs.declared.page.PageState.TheVariants.{Unfilled, Valid};
 ghost use Rattle.vm_facts.specs.declared.entry.Entry.{Entry};
 ghost use Rattle.vm_facts.specs.declared.regs.Regs.{Regs};
 ghost use Rattle.aout_image.specs.declared.Image.{Image};
@@ -12,17 +12,29 @@ ghost use Rattle.swap_book.specs.Book.{IsBook};
 ghost use Rattle.page_model.specs.declared.change.Change.{Change as AnyChange};
 ghost use Rattle.page_model.specs.Flat.{NamedImage, process_of};
 ghost use Rattle.page_model.specs.Pages.{is_valid, number_of};
-ghost use Rattle.page_model.specs.Placement.{Placement, Transfer, Source, Reads, slots_of, state_of, IsThere, data_filling};
+ghost use Rattle.page_model.specs.Placement.{Placement, Transfer, Source, Reads, slots_of, state_of, mark_of, IsThere, data_filling, Starting, start_placement};
 ghost use Rattle.page_model.specs.Moves.{touch_all, touch, reclaim, done, get_run, drop_all};
 ghost use Rattle.page_model.specs.Hands.{hand_move};
 ghost use Rattle.page_model.specs.Place.{due_after, place_entry, place_step, place_change, filled, put_step, space_of_process, is_borrower, resize, fork_space, enter_space, remove_space, pages_of_space, leave_text};
-ghost use Rattle.page_model.specs.Serve.{force, serve_unit, serve_entry, serve_step, read_step, source_for};
+ghost use Rattle.page_model.specs.Serve.{force, most_in_flight, serve_unit, serve_entry, serve_step, read_step, source_for};
 ghost use Rattle.page_model.specs.Swapper.{is_settled};
-ghost use Rattle.page_model.specs.Conditions.{EachPage, AllApart, CanEnter, HasSeat, IsNew, IsSettled, CanPlace, CanChange, EntryShared, MayForget, Spares};
-ghost use Rattle.page_model.specs.Rank.{far, rank, HandsStand, HasRoom};
-ghost use Rattle.page_model.specs.Ownership.{OwnsFrames, OneOwner, TextAside, block_of, needs_blocks};
+ghost use Rattle.page_model.specs.Conditions.{begins, HaveParts, CanBegin, EachPage, AllApart, CanEnter, HasSeat, IsNew, IsSettled, CanPlace, CanChange, EntryShared, MayForget, Spares, IsShared};
+ghost use Rattle.page_model.specs.Rank.{far, rank, HandsStand, HasRoom, EndsForcing, EndsServing};
+ghost use Rattle.page_model.specs.Ownership.{OwnsFrames, OwnsBlocks, OneOwner, TextAside, block_of, needs_blocks};
+ghost use Rattle.page_model.specs.Dues.{DueStand, LeavesDue, NotDue};
 ghost use Rattle.page_model.specs.Coupled.{zeros, Bytes, CouplesPages, SamePage, SameBytes, with_frame, ReadsFrom, IsWritable, WritesBoth, Stores, BytesAfter, Copies, FillsBy, NotIn};
-ghost use Rattle.page_model.specs.Kernel.{stored, store_at, u_page, regs_in, AreRegs};
+ghost use Rattle.page_model.specs.Kernel.{stored, store_at, u_page, regs_in, AreRegs, Kernel, Sound, lives, plain_step, zero_step, copy_step, done_step, write_step, note_step, in_step};
+ghost use Rattle.page_model.specs.FlatStep.{ran_by, pass_step};
+
+/// What a machine begins with is as the other laws ask: no page is filled, dirty or saved; each frame is free; and the
+/// hands stand a quarter of the frames apart.
+pub fn start_stands()
+    ensures blank { (images : List Image) (first : List Starting) (frames : ℕ) (q : Page) → (state_of (start_placement images first frames) q ≡ Unfilled) × (mark_of (start_placement images first frames) q ≡ false) }
+    ensures frames { (images : List Image) (first : List Starting) (frames : ℕ) → OwnsFrames (start_placement images first frames) }
+    ensures hands { (images : List Image) (first : List Starting) (frames : ℕ) → 0 < frames → HandsStand (start_placement images first frames) }
+    ensures text { (images : List Image) (first : List Starting) (frames : ℕ) → TextAside (start_placement images first frames) }
+    ensures owner { (size : ℕ) (lives : ℕ → Bool) (images : List Image) (first : List Starting) (frames : ℕ) (hs : Holdings) → OwnsBlocks size lives (start_placement images first frames) hs → OneOwner size lives (start_placement images first frames) hs }
+{}
 
 /// Each frame keeps one owner: through each paging entry, each entry of a process with its change, and each unit
 /// of serving a page.
@@ -67,13 +79,17 @@ pub fn spaces_kept()
     ensures text { (p : Placement) (image : ℕ) (b : Bytes) → OwnsFrames p → CouplesPages p b → CouplesPages (leave_text p image) b }
 {}
 
-/// What a step leaves alone is the same in both machines: every page at a move of the hands; every other page at a
-/// fill; every page outside the run at the beginning of a read, and outside the transfer at its end.
+/// What a step leaves alone is the same in both machines: every page at a move of the hands, a reclaim and a put; every
+/// other page at a fill and a user write; every page outside the run at the beginning of a read, and outside the
+/// transfer at its end.
 pub fn others_same()
     ensures hands { (p : Placement) (locked : List Page) (b : Bytes) (w : Page) → SamePage p (hand_move p locked) b b w }
     ensures fill { (p : Placement) (q : Page) (f : ℕ) (rest : List ℕ) (b : Bytes) (bytes : List ℕ) (w : Page) → OwnsFrames p → p.free ≡ f ∷ rest → w ≢ q → SamePage p (filled p q) b (with_frame b f bytes) w }
     ensures read { (p : Placement) (source : Source) (demanded : Page) (qs : List Page) (b : Bytes) (w : Page) → OwnsFrames p → EachPage (CanEnter p) qs → AllApart qs → EachPage (λ r. w ≢ r) qs → SamePage p (get_run p (Reads source demanded) qs) b b w }
     ensures done { (p : Placement) (t : Transfer) (ts : List Transfer) (b c : Bytes) (w : Page) → OwnsFrames p → p.transfers ≡ t ∷ ts → BytesAfter b (t ∷ ts) c → NotIn w t.parts → SamePage p (done p) b c w }
+    ensures put { (p : Placement) (q : Page) (qs : List Page) (b : Bytes) (w : Page) → SamePage p (put_step p q qs) b b w }
+    ensures reclaim { (p : Placement) (q : Page) (b : Bytes) (w : Page) → SamePage p (reclaim p q) b b w }
+    ensures write { (p : Placement) (q : Page) (f : ℕ) (b c : Bytes) (bytes : List ℕ) (w : Page) → OwnsFrames p → state_of p q ≡ Valid f → WritesBoth b c q f bytes → w ≢ q → SamePage p (touch p q) b c w }
 {}
 
 /// The registers that go out into a u page come back from it.
@@ -83,19 +99,28 @@ pub fn registers_kept()
 
 /// Forcing a frame ends: `far` falls with each unit, whatever is locked. With nothing in flight it is at most one
 /// more than there are frames, so a frame is free, or its write in flight, after as many moves as there are frames.
-/// What was locked and valid stays valid.
+/// What was locked and valid stays valid. What forcing asks of the hands and of the frames is so again behind each unit,
+/// so it comes to a free frame, after no more units than `far` says.
 pub fn forcing_ends()
     ensures falls { (p : Placement) (locked : List Page) → OwnsFrames p → HandsStand p → HasRoom p locked → p.free ≡ [] → far (force p locked) locked < far p locked }
     ensures near { (p : Placement) (locked : List Page) → OwnsFrames p → HandsStand p → HasRoom p locked → p.transfers ≡ [] → far p locked ≤ length p.holds + 1 }
     ensures stands { (p : Placement) (locked : List Page) → HandsStand p → HandsStand (hand_move p locked) }
+    ensures hands { (p : Placement) (locked : List Page) → OwnsFrames p → HandsStand p → HandsStand (force p locked) }
+    ensures room { (p : Placement) (locked : List Page) → OwnsFrames p → HasRoom p locked → HasRoom (force p locked) locked }
     ensures spares { (p : Placement) (locked : List Page) → OwnsFrames p → Spares p (force p locked) locked }
+    ensures whole { (p : Placement) (locked : List Page) → OwnsFrames p → HandsStand p → HasRoom p locked → EndsForcing p locked }
 {}
 
 /// Serving a page ends: `rank` falls with each unit until the page is valid, and what was locked and valid stays
-/// valid.
+/// valid. What serving asks is so again behind each unit, so the page is valid after no more units than `rank` says,
+/// where waiting is allowed.
 pub fn serving_ends()
     ensures falls { (p : Placement) (locked : List Page) (q : Page) → OwnsFrames p → HandsStand p → HasRoom p locked → IsThere p q → is_valid (state_of p q) ≡ false → rank (serve_step p locked q) locked q < rank p locked q }
+    ensures hands { (p : Placement) (locked : List Page) (q : Page) → OwnsFrames p → HandsStand p → HandsStand (serve_step p locked q) }
+    ensures room { (p : Placement) (locked : List Page) (q : Page) → OwnsFrames p → HasRoom p locked → HasRoom (serve_step p locked q) locked }
+    ensures sizes { (p : Placement) (locked : List Page) (q w : Page) → OwnsFrames p → length (slots_of (serve_step p locked q) w) ≡ length (slots_of p w) }
     ensures spares { (p : Placement) (locked : List Page) (q : Page) → OwnsFrames p → IsThere p q → Spares p (serve_step p locked q) locked }
+    ensures whole { (p : Placement) (locked : List Page) (q : Page) → OwnsFrames p → HandsStand p → HasRoom p locked → IsThere p q → EndsServing p locked q }
 {}
 
 /// The unit that serving asks for is its entry, whether waiting is allowed or not, and where there is none the page
@@ -105,4 +130,41 @@ pub fn serving_units()
     ensures now { (p : Placement) (q : Page) → is_valid (state_of p q) ≡ false → serve_unit p q true ≡ Some (serve_entry p q) }
     ensures unit { (p : Placement) (q : Page) (now : Bool) (e : Entry) → serve_unit p q now ≡ Some e → (is_valid (state_of p q) ≡ false) × (e ≡ serve_entry p q) }
     ensures step { (locked : List Page) (at : ℕ) (p : Placement) (q : Page) → is_valid (state_of p q) ≡ false → due_after p.due q ≡ p.due → place_entry locked at p (serve_entry p q) ≡ serve_step p locked q }
+{}
+
+/// How many transfers are in flight: a read and a put begin one at most, and each move of the hands one; forcing and
+/// serving never go beyond 16. Each transfer has a page, where a read and a put have one for it.
+pub fn few_transfers()
+    ensures entry { (locked : List Page) (at : ℕ) (p : Placement) (e : Entry) → length (place_entry locked at p e).transfers ≤ length p.transfers + begins e }
+    ensures force { (p : Placement) (locked : List Page) → length p.transfers ≤ most_in_flight → length (force p locked).transfers ≤ most_in_flight }
+    ensures serve { (p : Placement) (locked : List Page) (q : Page) → length p.transfers ≤ most_in_flight → length (serve_step p locked q).transfers ≤ most_in_flight }
+    ensures parts { (locked : List Page) (at : ℕ) (p : Placement) (e : Entry) → OwnsFrames p → CanPlace p e → CanBegin p e → HaveParts p.transfers → HaveParts (place_entry locked at p e).transfers }
+    ensures served { (p : Placement) (locked : List Page) (q : Page) → OwnsFrames p → HaveParts p.transfers → HaveParts (serve_step p locked q).transfers }
+{}
+
+/// Each step of the whole machine that makes no change of a process keeps it sound: a paging entry that its pages and
+/// the transfers allow, a fill with its bytes, the end of a transfer, a user write, an entry that moves nothing, a process
+/// that comes in, an instruction that ran, and a space that passes between two processes that live.
+pub fn sound_kept()
+    ensures plain { (size : ℕ) (k : Kernel) (locked : List Page) (e : Entry) → Sound size k → CanPlace k.place e → EntryShared k.place e → length k.place.transfers + begins e ≤ 16 → Sound size (plain_step k locked e) }
+    ensures zero { (size : ℕ) (k : Kernel) (q : Page) → Sound size k → CanEnter k.place q → IsShared k.place q → Sound size (zero_step k q) }
+    ensures copy { (size : ℕ) (k : Kernel) (q : Page) → Sound size k → CanEnter k.place q → IsShared k.place q → Sound size (copy_step k q) }
+    ensures done { (size : ℕ) (k : Kernel) (read : List (List ℕ)) → Sound size k → Sound size (done_step k read) }
+    ensures write { (size : ℕ) (k : Kernel) (q : Page) (f at byte : ℕ) → Sound size k → Sound size (write_step k q f at byte) }
+    ensures note { (size : ℕ) (k : Kernel) (e : Entry) → Sound size k → Sound size (note_step k e) }
+    ensures comes { (size : ℕ) (k : Kernel) (pid : ℕ) (regs : Regs) → Sound size k → Sound size (in_step k pid regs) }
+    ensures ran { (size : ℕ) (k : Kernel) (pid : ℕ) (regs : Regs) (e : Entry) → Sound size k → Sound size (ran_by k pid regs e) }
+    ensures passes { (size : ℕ) (k : Kernel) (from to : ℕ) → lives k.processes from ≡ true → lives k.processes to ≡ true → Sound size k → Sound size (pass_step k from to) }
+{}
+
+/// What is due stays unfilled, with zeros, and the parent's page that it is copied from stays filled: through each
+/// paging entry that fills or reads no page that is due behind it, through forcing a frame, and through serving a page
+/// that isn't due. It is so at the start, behind a fork, and in a new space.
+pub fn due_kept()
+    ensures entry { (locked : List Page) (at : ℕ) (p : Placement) (e : Entry) → OwnsFrames p → CanPlace p e → LeavesDue p e → DueStand p → DueStand (place_entry locked at p e) }
+    ensures force { (p : Placement) (locked : List Page) → OwnsFrames p → DueStand p → DueStand (force p locked) }
+    ensures serve { (p : Placement) (locked : List Page) (q : Page) → OwnsFrames p → IsThere p q → NotDue p.due q → DueStand p → DueStand (serve_step p locked q) }
+    ensures start { (images : List Image) (first : List Starting) (frames : ℕ) → DueStand (start_placement images first frames) }
+    ensures fork { (p : Placement) (parent child : ℕ) → IsNew p child → DueStand (fork_space p parent child) }
+    ensures enter { (p : Placement) (sid image : ℕ) (facts : Image) → IsNew p sid → DueStand (enter_space p sid image facts) }
 {}

@@ -1,6 +1,8 @@
 use Rattle.page_model.proofs.Ends.{far_bound, move_stands}
 use Rattle.page_model.proofs.ServeEnds.{force_falls}
 use Rattle.page_model.proofs.Locks.{force_spares}
+use Rattle.page_model.proofs.ServeStands.{force_stands}
+use Rattle.page_model.proofs.Wholes.{force_room, forced}
 use Rattle.page_model.proofs.laws.forcing_ends.Goals as goal
 
 pub returns-clause-falls : goal.returns-clause-falls
@@ -14,3 +16,12 @@ returns-clause-stands c = move_stands
 
 pub returns-clause-spares : goal.returns-clause-spares
 returns-clause-spares c = force_spares
+
+pub returns-clause-hands : goal.returns-clause-hands
+returns-clause-hands c = force_stands
+
+pub returns-clause-room : goal.returns-clause-room
+returns-clause-room c = force_room
+
+pub returns-clause-whole : goal.returns-clause-whole
+returns-clause-whole c = forced

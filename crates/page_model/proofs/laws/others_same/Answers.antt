@@ -1,5 +1,5 @@
 use Rattle.page_model.proofs.Stays.{move_stays}
-use Rattle.page_model.proofs.Sames.{stays_same, filled_same, get_run_same, done_same}
+use Rattle.page_model.proofs.Sames.{stays_same, filled_same, get_run_same, put_same, reclaim_same, touch_same, done_same}
 use Rattle.page_model.proofs.laws.others_same.Goals as goal
 
 pub returns-clause-hands : goal.returns-clause-hands
@@ -13,3 +13,12 @@ returns-clause-read c = get_run_same
 
 pub returns-clause-done : goal.returns-clause-done
 returns-clause-done c = done_same
+
+pub returns-clause-put : goal.returns-clause-put
+returns-clause-put c = put_same
+
+pub returns-clause-reclaim : goal.returns-clause-reclaim
+returns-clause-reclaim c = reclaim_same
+
+pub returns-clause-write : goal.returns-clause-write
+returns-clause-write c = touch_same
