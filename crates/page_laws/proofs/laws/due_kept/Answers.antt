@@ -1,0 +1,21 @@
+use Rattle.page_laws.proofs.DueLaws.{entry_due, force_due, serve_due, start_due}
+use Rattle.page_laws.proofs.DueSpaces.{fork_due, enter_due}
+use Rattle.page_laws.proofs.laws.due_kept.Goals as goal
+
+pub returns-clause-entry : goal.returns-clause-entry
+returns-clause-entry c = entry_due
+
+pub returns-clause-force : goal.returns-clause-force
+returns-clause-force c = force_due
+
+pub returns-clause-serve : goal.returns-clause-serve
+returns-clause-serve c = serve_due
+
+pub returns-clause-start : goal.returns-clause-start
+returns-clause-start c = start_due
+
+pub returns-clause-fork : goal.returns-clause-fork
+returns-clause-fork c = fork_due
+
+pub returns-clause-enter : goal.returns-clause-enter
+returns-clause-enter c = enter_due

@@ -1,0 +1,29 @@
+use Rattle.page_laws.proofs.Sounds.{plain_sound, zero_sound, copy_sound, done_sound, write_sound, note_sound, in_sound, ran_sound, pass_sound}
+use Rattle.page_laws.proofs.laws.sound_kept.Goals as goal
+
+pub returns-clause-plain : goal.returns-clause-plain
+returns-clause-plain c = plain_sound
+
+pub returns-clause-zero : goal.returns-clause-zero
+returns-clause-zero c = zero_sound
+
+pub returns-clause-copy : goal.returns-clause-copy
+returns-clause-copy c = copy_sound
+
+pub returns-clause-done : goal.returns-clause-done
+returns-clause-done c = done_sound
+
+pub returns-clause-write : goal.returns-clause-write
+returns-clause-write c = write_sound
+
+pub returns-clause-note : goal.returns-clause-note
+returns-clause-note c = note_sound
+
+pub returns-clause-comes : goal.returns-clause-comes
+returns-clause-comes c = in_sound
+
+pub returns-clause-ran : goal.returns-clause-ran
+returns-clause-ran c = ran_sound
+
+pub returns-clause-passes : goal.returns-clause-passes
+returns-clause-passes c = pass_sound

@@ -1,0 +1,29 @@
+//! The laws of paging: what each step of `page_model` keeps of ownership, of the bytes of pages and of what is due,
+//! and that forcing and serving end. There is no code here: each law is the clause of a function with an empty body.
+//!
+//! - `start_stands`: at the start each frame is free, no page is filled, and the hands are a quarter of the frames
+//!   apart.
+//! - `ownership_kept`: through each entry, change and unit of serving each frame has one owner: the free list, a
+//!   transfer or its page; a space that the test calls settled has no page in flight.
+//! - `blocks_kept`: each page that needs its two blocks has them, in its own owner's holding; those of different
+//!   pages don't meet; text that nobody shares isn't saved, and at most in a free frame.
+//! - `due_kept`: what is due stays unfilled, and what it is copied from stays filled, through each paging entry.
+//! - `memory_kept`: each page's flat bytes stay where its state says, for every swap image and all files, through
+//!   fills, reads, writes, the hands and user writes.
+//! - `spaces_kept`: the same through growth and break, fork, a new image, and a space and a text that go.
+//! - `others_same`: a page that a step leaves alone has the same bytes in its frame and on swap.
+//! - `few_transfers`: forcing and serving keep at most 16 transfers in flight, and each has a page.
+//! - `forcing_ends`: forcing as a whole comes to a free frame, with nothing in flight after at most one unit more than
+//!   there are frames; locked pages stay valid.
+//! - `serving_ends`: serving as a whole comes to a valid page; locked pages stay valid.
+//! - `serving_units`: the next unit of serving is its entry, and its step is what the entry does.
+//! - `sound_kept`: the whole machine stays sound through each step that makes no change of a process.
+//! - `registers_kept`: the registers that go out into a u page come back from it.
+#![tactic(auto)]
+
+pub mod laws;
+
+pub use laws::{
+    blocks_kept, due_kept, few_transfers, forcing_ends, memory_kept, others_same, ownership_kept,
+    registers_kept, serving_ends, serving_units, sound_kept, spaces_kept, start_stands,
+};
