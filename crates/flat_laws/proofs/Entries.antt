@@ -1,0 +1,133 @@
+-- Which entry comes next is determined.
+use Rattle.std.proofs.Common.{◌≡◌, ℕ, ◌==◌, Bool, true, false, ◌&&◌, List, bytes_eq, Option, Some, None, refl, sym, ap, ◌∙◌, subst, arith, if◌then◌else◌}
+use Rattle.std.proofs.lemmas.Bool.Decides.{nat_tests}
+use Rattle.std.proofs.lemmas.Slice.Eq.{bytes_eq-Decides}
+use Rattle.vm_facts.specs.Flat.{FlatState}
+use Rattle.vm_facts.specs.declared.entry.Entry.{Entry}
+use Rattle.vm_facts.specs.declared.entry.Entry.TheVariants as entries
+use Rattle.page_model.specs.Flat.{Inputs, can_step}
+use Rattle.flat_model.specs.Step.{Step, flat_step}
+use Rattle.flat_model.specs.Run.{Point, is_refused, step_at, behind_first, due, due_at, first_if, act, point_after, same_carry, same_entry, same_as, process_of_entry, may_follow, where_so, flat_entry_of, flat_entry_if, flat_entry_by, flat_entry}
+use Rattle.flat_laws.specs.Others.{is_refusal, is_writing}
+
+-- By the state.
+
+abbrev due_by : Bool → List Entry → List Entry
+due_by true es = behind_first es
+due_by false es = es
+
+-- what is due depends on whether bytes are out alone
+due_same : (last : Option Entry) (pid : ℕ) (es : List Entry) → due last pid es ≡ due_by (is_writing last pid) es
+due_same None pid es = refl
+due_same (Some (entries.Event a)) pid es = refl
+due_same (Some (entries.Turn a)) pid es = refl
+due_same (Some (entries.Ran a b)) pid es = refl
+due_same (Some (entries.Out p bytes)) pid es = go (p == pid)
+  where
+    go : (b : Bool) → (if b then behind_first es else es) ≡ due_by b es
+    go true = refl
+    go false = refl
+due_same (Some (entries.Grew a b)) pid es = refl
+due_same (Some (entries.Call a b c d e)) pid es = refl
+due_same (Some (entries.Refused a)) pid es = refl
+due_same (Some (entries.Sleeps a)) pid es = refl
+due_same (Some (entries.Ended a b)) pid es = refl
+due_same (Some (entries.Zero a)) pid es = refl
+due_same (Some (entries.Get a b c)) pid es = refl
+due_same (Some (entries.Copy a)) pid es = refl
+due_same (Some (entries.Reclaim a)) pid es = refl
+due_same (Some (entries.Hands a)) pid es = refl
+due_same (Some (entries.Put a b)) pid es = refl
+due_same (Some entries.Done) pid es = refl
+due_same (Some (entries.SwapOut a)) pid es = refl
+due_same (Some (entries.SwapIn a)) pid es = refl
+due_same (Some (entries.Owners a b c d)) pid es = refl
+
+pub next_same : (A : Inputs) (point other : Point) (pid : ℕ) → other.flat ≡ point.flat → is_refused other.last pid ≡ is_refused point.last pid → is_writing other.last pid ≡ is_writing point.last pid → act A other pid ≡ act A point pid
+next_same A point other pid flat refused writing =
+    let step : step_at A other pid ≡ step_at A point pid =
+    ap (λ (F : FlatState). flat_step A F pid (is_refused other.last pid)) flat ∙ ap (λ (b : Bool). flat_step A point.flat pid b) refused in
+    let es : due_at A other pid ≡ due_at A point pid =
+    due_same other.last pid (step_at A other pid).entries
+    ∙ ap (λ (b : Bool). due_by b (step_at A other pid).entries) writing
+    ∙ ap (λ (s : Step). due_by (is_writing point.last pid) s.entries) step
+    ∙ sym (due_same point.last pid (step_at A point pid).entries) in
+    ap (λ (F : FlatState). first_if (can_step F pid) (due_at A other pid)) flat ∙ ap (λ (xs : List Entry). first_if (can_step point.flat pid) xs) es
+
+-- Entries that are the same.
+
+both_so : (a b : Bool) → (a && b) ≡ true → (a ≡ true) × (b ≡ true)
+both_so true true h = (refl, refl)
+both_so true false h = absurd cc
+both_so false b h = absurd cc
+
+number_is : (a b : ℕ) → (a == b) ≡ true → a ≡ b
+number_is a b h = grind (arith, nat_tests)
+
+carry_is : (a b : Bool) → same_carry a b ≡ true → a ≡ b
+carry_is true true h = refl
+carry_is false false h = refl
+carry_is true false h = absurd cc
+carry_is false true h = absurd cc
+
+entry_is : (e f : Entry) → same_entry e f ≡ true → e ≡ f
+entry_is (entries.Ran a n) (entries.Ran b m) h =
+    let parts = both_so (a == b) (n == m) h in
+    ap (λ (x : ℕ). entries.Ran x n) (number_is a b parts.0) ∙ ap (λ (x : ℕ). entries.Ran b x) (number_is n m parts.1)
+entry_is (entries.Grew a n) (entries.Grew b m) h =
+    let parts = both_so (a == b) (n == m) h in
+    ap (λ (x : ℕ). entries.Grew x n) (number_is a b parts.0) ∙ ap (λ (x : ℕ). entries.Grew b x) (number_is n m parts.1)
+entry_is (entries.Ended a n) (entries.Ended b m) h =
+    let parts = both_so (a == b) (n == m) h in
+    ap (λ (x : ℕ). entries.Ended x n) (number_is a b parts.0) ∙ ap (λ (x : ℕ). entries.Ended b x) (number_is n m parts.1)
+entry_is (entries.Out a xs) (entries.Out b ys) h =
+    let parts = both_so (a == b) (bytes_eq xs ys) h in
+    ap (λ (x : ℕ). entries.Out x xs) (number_is a b parts.0) ∙ ap (λ (x : List ℕ). entries.Out b x) ((bytes_eq-Decides xs ys).0 parts.1)
+entry_is (entries.Sleeps a) (entries.Sleeps b) h = ap (λ (x : ℕ). entries.Sleeps x) (number_is a b h)
+entry_is (entries.Call a n c r0 r1) (entries.Call b m d s0 s1) h =
+    let p = both_so (a == b) (n == m && (same_carry c d && (r0 == s0 && r1 == s1))) h in
+    let q = both_so (n == m) (same_carry c d && (r0 == s0 && r1 == s1)) p.1 in
+    let r = both_so (same_carry c d) (r0 == s0 && r1 == s1) q.1 in
+    let s = both_so (r0 == s0) (r1 == s1) r.1 in
+    ap (λ (x : ℕ). entries.Call x n c r0 r1) (number_is a b p.0) ∙ ap (λ (x : ℕ). entries.Call b x c r0 r1) (number_is n m q.0)
+    ∙ ap (λ (x : Bool). entries.Call b m x r0 r1) (carry_is c d r.0) ∙ ap (λ (x : ℕ). entries.Call b m d x r1) (number_is r0 s0 s.0)
+    ∙ ap (λ (x : ℕ). entries.Call b m d s0 x) (number_is r1 s1 s.1)
+entry_is _ _ h = absurd cc
+
+-- An entry that may come next is the one that the step gives.
+
+record Comes (A : Inputs) (point p : Point) (pid : ℕ) (e : Entry) : Type 0 where
+  same : same_as (act A point pid) e ≡ true
+  behind : point_after A point pid ≡ p
+
+some_is : (x y : Point) → Some x ≡ Some y → x ≡ y
+some_is x y h = cc
+
+of_where : (A : Inputs) (point p : Point) (pid : ℕ) (e : Entry) → where_so (same_as (act A point pid) e) (point_after A point pid) ≡ Some p → Comes A point p pid e
+of_where A point p pid e h = go (same_as (act A point pid) e) refl h
+  where
+    go : (b : Bool) → same_as (act A point pid) e ≡ b → where_so b (point_after A point pid) ≡ Some p → Comes A point p pid e
+    go true k l = record { same = k; behind = some_is (point_after A point pid) p l }
+    go false k l = absurd cc
+
+of_if : (A : Inputs) (point p : Point) (pid : ℕ) (b : Bool) (e : Entry) → flat_entry_if b A point pid e ≡ Some p → flat_entry_of A point pid e ≡ Some p
+of_if A point p pid true e h = h
+of_if A point p pid false e h = absurd cc
+
+of_entry : (A : Inputs) (point p : Point) (pid : ℕ) (e : Entry) → is_refusal e ≡ false → flat_entry_of A point pid e ≡ Some p → Comes A point p pid e
+of_entry A point p pid (entries.Refused q) plain h = absurd cc
+of_entry A point p pid e plain h = of_where A point p pid e h
+
+comes : (A : Inputs) (point p : Point) (pid : ℕ) (e : Entry) → process_of_entry e ≡ Some pid → is_refusal e ≡ false → flat_entry A point e ≡ Some p → Comes A point p pid e
+unfolding flat_entry
+comes A point p pid e of plain h =
+    let k : flat_entry_by A point (Some pid) e ≡ Some p = subst (λ (o : Option ℕ). flat_entry_by A point o e ≡ Some p) of h in
+    of_entry A point p pid e plain (of_if A point p pid (may_follow point.last e) e k)
+
+same_both : (wanted : Option Entry) (e f : Entry) → same_as wanted e ≡ true → same_as wanted f ≡ true → e ≡ f
+same_both None e f h k = absurd cc
+same_both (Some wanted) e f h k = sym (entry_is wanted e h) ∙ entry_is wanted f k
+
+pub one_entry : (A : Inputs) (point p q : Point) (pid : ℕ) (e f : Entry) → process_of_entry e ≡ Some pid → process_of_entry f ≡ Some pid → is_refusal e ≡ false → is_refusal f ≡ false → flat_entry A point e ≡ Some p → flat_entry A point f ≡ Some q → e ≡ f
+one_entry A point p q pid e f of_e of_f plain_e plain_f h k =
+    same_both (act A point pid) e f (comes A point p pid e of_e plain_e h).same (comes A point q pid f of_f plain_f k).same

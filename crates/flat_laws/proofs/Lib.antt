@@ -1,0 +1,6 @@
+pub mod Entries
+pub mod Pages
+pub mod Shown
+pub mod Finding
+pub mod Replies
+pub mod Others

@@ -1,0 +1,27 @@
+-- What a process holds, behind a step of another one.
+use Rattle.std.specs.Prelude.{◌≡◌, ℕ, ◌==◌, Bool, true, false, List, [], ◌∷◌, find, Option, Some, None}
+use Rattle.vm_facts.specs.Flat.{Space, Holds, Process, FlatState}
+use Rattle.vm_facts.specs.declared.entry.Entry.{Entry}
+use Rattle.vm_facts.specs.declared.entry.Entry.TheVariants.{Out, Refused}
+use Rattle.page_model.specs.Flat.{process_of}
+
+-- the process is there, and holds this space, byte for byte
+pub record HoldsStill (F : FlatState) (pid : ℕ) (s : Space) : Type 0 where
+  pub process : Process
+  pub here : process_of F pid ≡ Some process
+  pub holds : process.holding ≡ Holds s
+
+-- the entry says that pieces found no place
+abbrev pub is_refusal : Entry → Bool
+is_refusal (Refused pid) = true
+is_refusal _ = false
+
+-- bytes of this process are out, and its reply is to come
+abbrev pub is_writing : Option Entry → ℕ → Bool
+is_writing (Some (Out p bytes)) pid = p == pid
+is_writing _ pid = false
+
+-- no two processes have one number
+abbrev pub HaveOwnNumbers : List Process → Type 0
+HaveOwnNumbers [] = Unit {0}
+HaveOwnNumbers (q ∷ qs) = (find (λ (r : Process). r.pid == q.pid) qs ≡ None) × HaveOwnNumbers qs

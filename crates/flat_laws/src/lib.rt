@@ -1,0 +1,50 @@
+//! Laws of the flat machine that a kernel rests on. There is no code here: each law is the clause of a function with an
+//! empty body.
+//!
+//! - `entries_are_determined`: the next entry of a process's step follows from the flat state, from whether its pieces
+//!   were refused, and from whether it has bytes out; so two entries that may come next are one.
+//! - `touched_is_enough`: where the touched pages alone are there, a process's next instruction and its call come to
+//!   what they come to in the whole space, and all that the instruction writes is of touched pages.
+//! - `others_keep_their_spaces`: behind a step of a process every other one that holds a space holds it still, byte for
+//!   byte.
+#![tactic(auto)]
+
+ghost use Rattle.std.specs.Prelude.{◌≡◌, ◌≢◌, ℕ, Bool, true, false, Some, Ok};
+ghost use Rattle.vm_facts.specs.Flat.{Space, Holds, Process, FlatState};
+ghost use Rattle.vm_facts.specs.declared.entry.Entry.{Entry};
+ghost use Rattle.user_vax.specs.Effects.{Effect};
+ghost use Rattle.user_vax.specs.Instruction.{instruction};
+ghost use Rattle.user_vax.specs.Program.{run};
+ghost use Rattle.page_model.specs.Flat.{Inputs, process_of, is_ready};
+ghost use Rattle.page_model.specs.Change.{apply_writes};
+ghost use Rattle.page_model.specs.Space.{answers_of, puts};
+ghost use Rattle.flat_model.specs.declared.calls.SystemCall.{SystemCall};
+ghost use Rattle.flat_model.specs.Calls.{call_of, reply_of};
+ghost use Rattle.flat_model.specs.Instruction.{instruction_in};
+ghost use Rattle.flat_model.specs.Step.{flat_step, written_process};
+ghost use Rattle.flat_model.specs.Run.{Point, is_refused, act, process_of_entry, flat_entry};
+ghost use Rattle.flat_model.specs.Touched.{touched};
+ghost use Rattle.flat_laws.specs.Shown.{shown, AreOf, IsCallOf};
+ghost use Rattle.flat_laws.specs.Others.{HoldsStill, HaveOwnNumbers, is_refusal, is_writing};
+
+/// The next entry of a process's step follows from the flat state, from whether its pieces were refused, and from
+/// whether it has bytes out. So two entries of a process that may come next, neither of which says that pieces found no
+/// place, are one.
+pub fn entries_are_determined()
+    ensures next { (A : Inputs) (point other : Point) (pid : ℕ) → other.flat ≡ point.flat → is_refused other.last pid ≡ is_refused point.last pid → is_writing other.last pid ≡ is_writing point.last pid → act A other pid ≡ act A point pid }
+    ensures one { (A : Inputs) (point p q : Point) (pid : ℕ) (e f : Entry) → process_of_entry e ≡ Some pid → process_of_entry f ≡ Some pid → is_refusal e ≡ false → is_refusal f ≡ false → flat_entry A point e ≡ Some p → flat_entry A point f ≡ Some q → e ≡ f }
+{}
+
+/// Where the touched pages alone are there, the next instruction of a process comes to what it comes to in the whole
+/// space, and so does the reply of its call, behind what the instruction wrote. Each byte that the step writes is of a
+/// touched page.
+pub fn touched_is_enough()
+    ensures instruction { (A : Inputs) (F : FlatState) (pid : ℕ) (p : Process) (s : Space) → process_of F pid ≡ Some p → is_ready p ≡ true → p.holding ≡ Holds s → run (shown s (touched A F pid)) (instruction p.regs) ≡ instruction_in s p.regs }
+    ensures reply { (A : Inputs) (F : FlatState) (pid : ℕ) (p : Process) (s : Space) (effect : Effect) (call : SystemCall) → process_of F pid ≡ Some p → is_ready p ≡ true → p.holding ≡ Holds s → instruction_in s p.regs ≡ Ok effect → IsCallOf effect call → run (shown (puts s effect.writes) (touched A F pid)) (reply_of A.images (apply_writes F p.pid effect.writes) (written_process p s effect.writes) (puts s effect.writes) call effect.regs) ≡ run (answers_of (puts s effect.writes)) (reply_of A.images (apply_writes F p.pid effect.writes) (written_process p s effect.writes) (puts s effect.writes) call effect.regs) }
+    ensures writes { (A : Inputs) (F : FlatState) (pid : ℕ) (p : Process) (s : Space) (refused : Bool) → process_of F pid ≡ Some p → is_ready p ≡ true → p.holding ≡ Holds s → AreOf s (touched A F pid) (flat_step A F pid refused).writes }
+{}
+
+/// Behind a step of a process every other process that holds a space holds it still, byte for byte.
+pub fn others_keep_their_spaces()
+    ensures { (A : Inputs) (F : FlatState) (pid other : ℕ) (refused : Bool) (s : Space) → HaveOwnNumbers F.processes → other ≢ pid → HoldsStill F other s → HoldsStill (flat_step A F pid refused).after other s }
+{}
