@@ -1,9 +1,9 @@
 -- The process of a number, where the list of processes changes.
-use Rattle.std.proofs.Common.{◌≡◌, ◌≢◌, ℕ, ◌==◌, Bool, true, false, cond, ◌&&◌, List, [], ◌∷◌, ◌++◌, map, filter, find, Some, None, refl, sym, ap, ◌∙◌, subst, arith, eq-eqb}
+use Rattle.std.proofs.Common.{◌≡◌, ◌≢◌, ℕ, ◌==◌, Bool, true, false, cond, ◌&&◌, List, [], ◌∷◌, ◌++◌, map, filter, find, Some, refl, sym, ap, ◌∙◌, subst, arith, eq-eqb}
 use Rattle.std.proofs.lemmas.Bool.Decides.{nat_tests}
 use Rattle.vm_facts.specs.Flat.{Space, Holding, Holds, Process}
 use Rattle.page_model.specs.Change.{replaced_by, replaced, returned_by, returned, lends_to, is_zombie_child, is_zombie}
-use Rattle.flat_laws.specs.Others.{HaveOwnNumbers}
+use Rattle.page_laws.specs.FlatStands.{IsAbsent, AllDistinct}
 
 -- the process of this number in a list holds this space
 pub record FoundHolding (qs : List Process) (pid : ℕ) (s : Space) : Type 0 where
@@ -94,20 +94,40 @@ found_passes test (q ∷ qs) z h = go (λ k. found_passes test qs z k) (test q) 
     go later true e k = let same : q ≡ z = cc in subst (λ (r : Process). test r ≡ true) same e
     go later false e k = later k
 
+abbrev pub pids : List Process → List ℕ
+pids qs = map (λ (q : Process). q.pid) qs
+
+-- who is found has a number of the list
+found_present : (test : Process → Bool) (qs : List Process) (z : Process) (n : ℕ) → IsAbsent n (pids qs) → find test qs ≡ Some z → z.pid ≢ n
+found_present test [] z n absent h = absurd cc
+found_present test (q ∷ qs) z n absent h = go (λ k. found_present test qs z n absent.1 k) (test q) h
+  where
+    go : (find test qs ≡ Some z → z.pid ≢ n) → (b : Bool) → cond b (Some q) (find test qs) ≡ Some z → z.pid ≢ n
+    go later true k = let same : q ≡ z = cc in subst (λ (r : Process). r.pid ≢ n) same absent.0
+    go later false k = later k
+
 -- where no two processes have one number, who is found by a test is found by his number
-pub found_by_number : (test : Process → Bool) (qs : List Process) (z : Process) → HaveOwnNumbers qs → find test qs ≡ Some z → find (λ r. r.pid == z.pid) qs ≡ Some z
+pub found_by_number : (test : Process → Bool) (qs : List Process) (z : Process) → AllDistinct (pids qs) → find test qs ≡ Some z → find (λ r. r.pid == z.pid) qs ≡ Some z
 found_by_number test [] z own h = absurd cc
 found_by_number test (q ∷ qs) z own h = go (λ k. found_by_number test qs z own.1 k) (test q) h
   where
+    last : (b : Bool) → (q.pid == z.pid) ≡ b → find test qs ≡ Some z → find (λ r. r.pid == z.pid) qs ≡ Some z → cond b (Some q) (find (λ r. r.pid == z.pid) qs) ≡ Some z
+    last true e k f = absurd (found_present test qs z q.pid own.0 k (sym (number_is q.pid z.pid e)))
+    last false e k f = f
+
     go : (find test qs ≡ Some z → find (λ r. r.pid == z.pid) qs ≡ Some z) → (b : Bool) → cond b (Some q) (find test qs) ≡ Some z → cond (q.pid == z.pid) (Some q) (find (λ r. r.pid == z.pid) qs) ≡ Some z
     go later true k = let same : q ≡ z = cc in ap (λ (b : Bool). cond b (Some q) (find (λ r. r.pid == z.pid) qs)) (eq-eqb q.pid z.pid (ap (λ (r : Process). r.pid) same)) ∙ ap (λ (r : Process). Some r) same
-    go later false k = last (q.pid == z.pid) refl (later k)
-      where
-        last : (b : Bool) → (q.pid == z.pid) ≡ b → find (λ r. r.pid == z.pid) qs ≡ Some z → cond b (Some q) (find (λ r. r.pid == z.pid) qs) ≡ Some z
-        last true e f =
-            let same : z.pid ≡ q.pid = sym (number_is q.pid z.pid e) in
-            absurd (let none : None ≡ Some z = sym own.0 ∙ ap (λ (n : ℕ). find (λ (r : Process). r.pid == n) qs) (sym same) ∙ f in cc)
-        last false e f = f
+    go later false k = last (q.pid == z.pid) refl k (later k)
+
+-- who takes the place of one of his number changes no number
+pub pids_replaced : (qs : List Process) (p : Process) → pids (replaced qs p) ≡ pids qs
+unfolding replaced
+pids_replaced [] p = refl
+pids_replaced (q ∷ qs) p = go (pids_replaced qs p) (q.pid == p.pid) refl
+  where
+    go : pids (replaced qs p) ≡ pids qs → (b : Bool) → (q.pid == p.pid) ≡ b → pids (replaced_by b p q qs (replaced qs p)) ≡ q.pid ∷ pids qs
+    go later true e = ap (λ (n : ℕ). n ∷ pids qs) (sym (number_is q.pid p.pid e))
+    go later false e = ap (λ (ns : List ℕ). q.pid ∷ ns) later
 
 pub zombie_passes : (pid : ℕ) (qs : List Process) (z : Process) → find (is_zombie_child pid) qs ≡ Some z → is_zombie_child pid z ≡ true
 zombie_passes pid qs z h = found_passes (is_zombie_child pid) qs z h
@@ -119,26 +139,3 @@ holder_is_none of q s h = ap (λ (x : Holding). (q.parent == of) && is_zombie x)
     never : (b : Bool) → (b && false) ≡ false
     never true = refl
     never false = refl
-
--- where no two have one number, none has that of another one that took its place
-none_replaced : (qs : List Process) (p : Process) (n : ℕ) → find (λ r. r.pid == n) qs ≡ None → find (λ r. r.pid == n) (replaced qs p) ≡ None
-unfolding replaced
-none_replaced [] p n h = refl
-none_replaced (q ∷ qs) p n h = go (λ k. none_replaced qs p n k) (q.pid == p.pid) refl (q.pid == n) refl h
-  where
-    go : (find (λ r. r.pid == n) qs ≡ None → find (λ r. r.pid == n) (replaced qs p) ≡ None) → (b : Bool) → (q.pid == p.pid) ≡ b → (c : Bool) → (q.pid == n) ≡ c → cond c (Some q) (find (λ r. r.pid == n) qs) ≡ None
-        → find (λ r. r.pid == n) (replaced_by b p q qs (replaced qs p)) ≡ None
-    go later b e true f k = absurd cc
-    go later true e false f k =
-        let apart : (p.pid == n) ≡ false = ap (λ (m : ℕ). m == n) (sym (number_is q.pid p.pid e)) ∙ f in
-        ap (λ (b : Bool). cond b (Some p) (find (λ r. r.pid == n) qs)) apart ∙ k
-    go later false e false f k = ap (λ (b : Bool). cond b (Some q) (find (λ r. r.pid == n) (replaced qs p))) f ∙ later k
-
-pub own_replaced : (qs : List Process) (p : Process) → HaveOwnNumbers qs → HaveOwnNumbers (replaced qs p)
-unfolding replaced
-own_replaced [] p own = tt
-own_replaced (q ∷ qs) p own = go (own_replaced qs p own.1) (q.pid == p.pid) refl
-  where
-    go : HaveOwnNumbers (replaced qs p) → (b : Bool) → (q.pid == p.pid) ≡ b → HaveOwnNumbers (replaced_by b p q qs (replaced qs p))
-    go later true e = (ap (λ (n : ℕ). find (λ (r : Process). r.pid == n) qs) (sym (number_is q.pid p.pid e)) ∙ own.0, own.1)
-    go later false e = (none_replaced qs p q.pid own.0, later)

@@ -4,3 +4,4 @@ pub mod Shown
 pub mod Finding
 pub mod Replies
 pub mod Others
+pub mod Numbers

@@ -1,5 +1,5 @@
 -- A step of one process leaves what the others hold.
-use Rattle.std.proofs.Common.{◌≡◌, ◌≢◌, ℕ, ◌==◌, Bool, true, false, not, List, [], find, Option, Some, None, Result, Ok, Err, ℤ, refl, sym, ap, ◌∙◌, arith}
+use Rattle.std.proofs.Common.{◌≡◌, ◌≢◌, ℕ, ◌==◌, Bool, true, false, not, List, [], find, Option, Some, None, Result, Ok, Err, ℤ, refl, sym, ap, ◌∙◌, subst, arith}
 use Rattle.std.proofs.lemmas.Bool.Decides.{nat_tests}
 use Rattle.vm_facts.specs.Answers.{ByteWrite}
 use Rattle.vm_facts.specs.Flat.{Space, Holding, Holds, Lends, Zombie, Process, FlatState}
@@ -18,23 +18,32 @@ use Rattle.flat_model.specs.declared.calls.SystemCall.{SystemCall}
 use Rattle.flat_model.specs.Calls.{call_of}
 use Rattle.flat_model.specs.Instruction.{instruction_in}
 use Rattle.flat_model.specs.Step.{step_of, step_behind, called_step, replied_step, step_holding, step_if, flat_step, written_process, reply_behind}
-use Rattle.flat_laws.specs.Others.{HoldsStill, HaveOwnNumbers}
-use Rattle.flat_laws.proofs.Finding.{FoundHolding, found_replaced, found_returned, found_filtered, found_mapped, found_front, own_replaced, holder_is_none, found_passes}
-use Rattle.flat_laws.proofs.Replies.{Spares, ReplySpares, reply_spares}
+use Rattle.page_laws.specs.FlatStands.{AllDistinct, pids_of, MayChange}
+use Rattle.flat_laws.specs.Others.{HoldsStill}
+use Rattle.flat_laws.proofs.Finding.{FoundHolding, found_replaced, found_returned, found_filtered, found_mapped, found_front, pids_replaced, holder_is_none, found_passes}
+use Rattle.flat_laws.proofs.Replies.{ReplyFits, reply_fits}
 
 number_is : (a b : ℕ) → (a == b) ≡ true → a ≡ b
 number_is a b h = grind (arith, nat_tests)
 
 -- the number of a process that is found by it
-number_of_found : (qs : List Process) (pid : ℕ) (p : Process) → find (λ q. q.pid == pid) qs ≡ Some p → p.pid ≡ pid
+pub number_of_found : (qs : List Process) (pid : ℕ) (p : Process) → find (λ q. q.pid == pid) qs ≡ Some p → p.pid ≡ pid
 number_of_found qs pid p h = number_is p.pid pid (found_passes (λ q. q.pid == pid) qs p h)
 
 -- all but the processes of another number
-without_stays : (qs : List Process) (of pid : ℕ) (s : Space) → of ≢ pid → FoundHolding qs pid s → FoundHolding (Rattle.std.specs.Prelude.filter (λ q. not (q.pid == of)) qs) pid s
+pub without_stays : (qs : List Process) (of pid : ℕ) (s : Space) → of ≢ pid → FoundHolding qs pid s → FoundHolding (Rattle.std.specs.Prelude.filter (λ q. not (q.pid == of)) qs) pid s
 without_stays qs of pid s other h =
     found_filtered (λ q. not (q.pid == of)) qs pid s (λ q holds k. let apart : (q.pid == of) ≡ false = (let is : q.pid ≡ pid = number_is q.pid pid k in grind (arith, nat_tests)) in ap not apart) h
 
 -- Changes.
+
+-- a zombie isn't one that holds a space
+zombie_apart : (F : FlatState) (child pid : ℕ) (s : Space) → MayChange F (Reap child) → FoundHolding F.processes pid s → child ≢ pid
+zombie_apart F child pid s may found = λ same.
+    let one : Some may.0 ≡ Some found.process = sym may.2 ∙ ap (λ (n : ℕ). process_of F n) same ∙ found.here in
+    let it : may.0 ≡ found.process = cc in
+    let held : Zombie may.1 ≡ Holds s = sym may.3 ∙ ap (λ (r : Process). r.holding) it ∙ found.holds in
+    absurd cc
 
 left_stays : (b : Bool) (F : FlatState) (of parent pid : ℕ) (s : Space) → of ≢ pid → FoundHolding F.processes pid s → FoundHolding (left b F of parent).processes pid s
 left_stays true F of parent pid s other h = without_stays F.processes of pid s other h
@@ -51,30 +60,30 @@ entered_stays F p t image (Some named) top pid s other h =
     found_returned p.pid t (with_process F record p { holding = Holds (space_with F.next_sid image named.image top) }).processes pid s
     (found_replaced F.processes (record p { holding = Holds (space_with F.next_sid image named.image top) }) pid s other h)
 
-changed_stays : (images : List NamedImage) (F : FlatState) (p : Process) (t : Space) (change : Change) (pid : ℕ) (s : Space) → Spares F change → p.pid ≢ pid → FoundHolding F.processes pid s → FoundHolding (changed images F p t change).processes pid s
-changed_stays images F p t Keep pid s spares other h = found_replaced F.processes p pid s other h
-changed_stays images F p t (Resize a b) pid s spares other h = found_replaced F.processes (record p { holding = Holds (resized t a b) }) pid s other h
-changed_stays images F p t (Fork child) pid s spares other h =
+changed_stays : (images : List NamedImage) (F : FlatState) (p : Process) (t : Space) (change : Change) (pid : ℕ) (s : Space) → MayChange F change → p.pid ≢ pid → FoundHolding F.processes pid s → FoundHolding (changed images F p t change).processes pid s
+changed_stays images F p t Keep pid s fits other h = found_replaced F.processes p pid s other h
+changed_stays images F p t (Resize a b) pid s fits other h = found_replaced F.processes (record p { holding = Holds (resized t a b) }) pid s other h
+changed_stays images F p t (Fork child) pid s fits other h =
     found_front (with_process F p).processes (child_of p child (record t { sid = F.next_sid })) pid s (found_replaced F.processes p pid s other h)
-changed_stays images F p t (Lend child) pid s spares other h =
+changed_stays images F p t (Lend child) pid s fits other h =
     found_front (with_process F record p { holding = Lends t.sid child }).processes (child_of p child t) pid s
     (found_replaced F.processes (record p { holding = Lends t.sid child }) pid s other h)
-changed_stays images F p t (Exec image top) pid s spares other h = entered_stays F p t image (image_numbered images image) top pid s other h
-changed_stays images F p t (Reap child) pid s spares other h =
-    found_replaced (without_process F child).processes p pid s other (without_stays F.processes child pid s (spares pid s h) h)
-changed_stays images F p t Sleep pid s spares other h = found_replaced F.processes (record p { asleep = true }) pid s other h
-changed_stays images F p t (End status) pid s spares other h =
+changed_stays images F p t (Exec image top) pid s fits other h = entered_stays F p t image (image_numbered images image) top pid s other h
+changed_stays images F p t (Reap child) pid s fits other h =
+    found_replaced (without_process F child).processes p pid s other (without_stays F.processes child pid s (zombie_apart F child pid s fits h) h)
+changed_stays images F p t Sleep pid s fits other h = found_replaced F.processes (record p { asleep = true }) pid s other h
+changed_stays images F p t (End status) pid s fits other h =
     let dead : Process = record p { holding = Zombie status } in
     left_stays (p.parent == 0) (orphaned (given_back (with_process F dead) p.pid t) p.pid) p.pid p.parent pid s other
     (orphaned_stays (given_back (with_process F dead) p.pid t) p.pid pid s
     (found_returned p.pid t (with_process F dead).processes pid s (found_replaced F.processes dead pid s other h)))
 
-change_stays : (images : List NamedImage) (F : FlatState) (of : ℕ) (regs : Regs) (change : Change) (pid : ℕ) (s : Space) → Spares F change → of ≢ pid → FoundHolding F.processes pid s → FoundHolding (apply_change images F of regs change).processes pid s
+change_stays : (images : List NamedImage) (F : FlatState) (of : ℕ) (regs : Regs) (change : Change) (pid : ℕ) (s : Space) → MayChange F change → of ≢ pid → FoundHolding F.processes pid s → FoundHolding (apply_change images F of regs change).processes pid s
 unfolding apply_change
-change_stays images F of regs change pid s spares other h = go (process_of F of) refl
+change_stays images F of regs change pid s fits other h = go (process_of F of) refl
   where
     by : (p : Process) (held : Holding) → p.pid ≢ pid → FoundHolding (changed_by images F p change held).processes pid s
-    by p (Holds t) apart = changed_stays images F p t change pid s spares apart h
+    by p (Holds t) apart = changed_stays images F p t change pid s fits apart h
     by p (Lends sid child) apart = h
     by p (Zombie status) apart = h
 
@@ -97,56 +106,56 @@ writes_stay F of ws pid s other h = go (process_of F of) refl
     go None e = h
     go (Some p) e = by p p.holding (λ k. other (sym (number_of_found F.processes of p e) ∙ k))
 
-own_written : (F : FlatState) (of : ℕ) (ws : List ByteWrite) → HaveOwnNumbers F.processes → HaveOwnNumbers (apply_writes F of ws).processes
+pub pids_written : (F : FlatState) (of : ℕ) (ws : List ByteWrite) → pids_of (apply_writes F of ws) ≡ pids_of F
 unfolding apply_writes
-own_written F of ws own = go (process_of F of)
+pids_written F of ws = go (process_of F of)
   where
-    by : (p : Process) (held : Holding) → HaveOwnNumbers (wrote_by F p ws held).processes
-    by p (Holds t) = own_replaced F.processes (record p { holding = Holds (puts t ws) }) own
-    by p (Lends sid child) = own
-    by p (Zombie status) = own
+    by : (p : Process) (held : Holding) → pids_of (wrote_by F p ws held) ≡ pids_of F
+    by p (Holds t) = pids_replaced F.processes (record p { holding = Holds (puts t ws) })
+    by p (Lends sid child) = refl
+    by p (Zombie status) = refl
 
-    go : (o : Option Process) → HaveOwnNumbers (wrote_if F ws o).processes
-    go None = own
+    go : (o : Option Process) → pids_of (wrote_if F ws o) ≡ pids_of F
+    go None = refl
     go (Some p) = by p p.holding
 
 -- Steps.
 
 with_stays : (images : List NamedImage) (F : FlatState) (p : Process) (ws : List ByteWrite) (regs : Regs) (change : Change) (pid : ℕ) (s : Space)
-    → Spares (apply_writes F p.pid ws) change → p.pid ≢ pid → FoundHolding F.processes pid s → FoundHolding (apply_change images (apply_writes F p.pid ws) p.pid regs change).processes pid s
-with_stays images F p ws regs change pid s spares other h =
-    change_stays images (apply_writes F p.pid ws) p.pid regs change pid s spares other (writes_stay F p.pid ws pid s other h)
+    → MayChange (apply_writes F p.pid ws) change → p.pid ≢ pid → FoundHolding F.processes pid s → FoundHolding (apply_change images (apply_writes F p.pid ws) p.pid regs change).processes pid s
+with_stays images F p ws regs change pid s fits other h =
+    change_stays images (apply_writes F p.pid ws) p.pid regs change pid s fits other (writes_stay F p.pid ws pid s other h)
 
 replied_stays : (images : List NamedImage) (F : FlatState) (p : Process) (call : SystemCall) (effect : Effect) (reply : Reply) (pid : ℕ) (s : Space)
-    → ReplySpares (apply_writes F p.pid effect.writes) reply → p.pid ≢ pid → FoundHolding F.processes pid s → FoundHolding (replied_step images F p call effect reply).after.processes pid s
-replied_stays images F p call effect (replies.Fails error) pid s spares other h = with_stays images F p effect.writes _ Keep pid s tt other h
-replied_stays images F p call effect (replies.Does regs change) pid s spares other h = with_stays images F p effect.writes regs change pid s spares other h
-replied_stays images F p call effect (replies.Writes bytes) pid s spares other h = with_stays images F p effect.writes _ Keep pid s tt other h
-replied_stays images F p call effect replies.Waits pid s spares other h = with_stays images F p effect.writes p.regs Sleep pid s tt other h
-replied_stays images F p call effect (replies.Exits status) pid s spares other h = with_stays images F p effect.writes p.regs (End status) pid s tt other h
+    → ReplyFits (apply_writes F p.pid effect.writes) reply → p.pid ≢ pid → FoundHolding F.processes pid s → FoundHolding (replied_step images F p call effect reply).after.processes pid s
+replied_stays images F p call effect (replies.Fails error) pid s fits other h = with_stays images F p effect.writes _ Keep pid s tt other h
+replied_stays images F p call effect (replies.Does regs change) pid s fits other h = with_stays images F p effect.writes regs change pid s fits other h
+replied_stays images F p call effect (replies.Writes bytes) pid s fits other h = with_stays images F p effect.writes _ Keep pid s tt other h
+replied_stays images F p call effect replies.Waits pid s fits other h = with_stays images F p effect.writes p.regs Sleep pid s tt other h
+replied_stays images F p call effect (replies.Exits status) pid s fits other h = with_stays images F p effect.writes p.regs (End status) pid s tt other h
 
 called_stays : (images : List NamedImage) (F : FlatState) (p : Process) (t : Space) (refused : Bool) (effect : Effect) (call : Option SystemCall) (pid : ℕ) (s : Space)
-    → HaveOwnNumbers F.processes → p.pid ≢ pid → FoundHolding F.processes pid s → FoundHolding (called_step images F p t refused effect call).after.processes pid s
+    → AllDistinct (pids_of F) → p.pid ≢ pid → FoundHolding F.processes pid s → FoundHolding (called_step images F p t refused effect call).after.processes pid s
 called_stays images F p t refused effect None pid s own other h = with_stays images F p effect.writes p.regs (End 12) pid s tt other h
 called_stays images F p t refused effect (Some call) pid s own other h =
     replied_stays images F p call effect (reply_behind images F p t refused call effect) pid s
-    (reply_spares images (apply_writes F p.pid effect.writes) (answers_of (puts t effect.writes)) (written_process p t effect.writes) (puts t effect.writes) call effect.regs refused (own_written F p.pid effect.writes own))
+    (reply_fits images (apply_writes F p.pid effect.writes) (answers_of (puts t effect.writes)) (written_process p t effect.writes) (puts t effect.writes) call effect.regs refused (subst (λ (ns : List ℕ). AllDistinct ns) (sym (pids_written F p.pid effect.writes)) own))
     other h
 
 behind_stays : (images : List NamedImage) (F : FlatState) (p : Process) (t : Space) (refused : Bool) (effect : Effect) (number : Option ℤ) (pid : ℕ) (s : Space)
-    → HaveOwnNumbers F.processes → p.pid ≢ pid → FoundHolding F.processes pid s → FoundHolding (step_behind images F p t refused effect number).after.processes pid s
+    → AllDistinct (pids_of F) → p.pid ≢ pid → FoundHolding F.processes pid s → FoundHolding (step_behind images F p t refused effect number).after.processes pid s
 behind_stays images F p t refused effect None pid s own other h = with_stays images F p effect.writes effect.regs Keep pid s tt other h
 behind_stays images F p t refused effect (Some number) pid s own other h = called_stays images F p t refused effect (call_of number) pid s own other h
 
 of_stays : (images : List NamedImage) (F : FlatState) (p : Process) (t : Space) (refused : Bool) (result : Result Effect Refused) (pid : ℕ) (s : Space)
-    → HaveOwnNumbers F.processes → p.pid ≢ pid → FoundHolding F.processes pid s → FoundHolding (step_of images F p t refused result).after.processes pid s
+    → AllDistinct (pids_of F) → p.pid ≢ pid → FoundHolding F.processes pid s → FoundHolding (step_of images F p t refused result).after.processes pid s
 of_stays images F p t refused (Ok effect) pid s own other h = behind_stays images F p t refused effect effect.call pid s own other h
 of_stays images F p t refused (Err (Miss a w)) pid s own other h = h
 of_stays images F p t true (Err (Below a)) pid s own other h = with_stays images F p [] p.regs (End 11) pid s tt other h
 of_stays images F p t false (Err (Below a)) pid s own other h = with_stays images F p [] p.regs _ pid s tt other h
 of_stays images F p t refused (Err (Signal n)) pid s own other h = with_stays images F p [] p.regs (End n) pid s tt other h
 
-step_stays : (A : Inputs) (F : FlatState) (of : ℕ) (refused : Bool) (pid : ℕ) (s : Space) → HaveOwnNumbers F.processes → of ≢ pid → FoundHolding F.processes pid s → FoundHolding (flat_step A F of refused).after.processes pid s
+step_stays : (A : Inputs) (F : FlatState) (of : ℕ) (refused : Bool) (pid : ℕ) (s : Space) → AllDistinct (pids_of F) → of ≢ pid → FoundHolding F.processes pid s → FoundHolding (flat_step A F of refused).after.processes pid s
 unfolding flat_step
 step_stays A F of refused pid s own other h = go (process_of F of) refl
   where
@@ -159,7 +168,7 @@ step_stays A F of refused pid s own other h = go (process_of F of) refl
     go None e = h
     go (Some p) e = by p p.holding (λ k. other (sym (number_of_found F.processes of p e) ∙ k))
 
-pub others_hold : (A : Inputs) (F : FlatState) (pid other : ℕ) (refused : Bool) (s : Space) → HaveOwnNumbers F.processes → other ≢ pid → HoldsStill F other s → HoldsStill (flat_step A F pid refused).after other s
+pub others_hold : (A : Inputs) (F : FlatState) (pid other : ℕ) (refused : Bool) (s : Space) → AllDistinct (pids_of F) → other ≢ pid → HoldsStill F other s → HoldsStill (flat_step A F pid refused).after other s
 others_hold A F pid other refused s own apart h =
     let found : FoundHolding (flat_step A F pid refused).after.processes other s =
     step_stays A F pid refused other s own (λ k. apart (sym k)) record { process = h.process; here = h.here; holds = h.holds } in

@@ -1,5 +1,5 @@
 -- What a process holds, behind a step of another one.
-use Rattle.std.specs.Prelude.{◌≡◌, ℕ, ◌==◌, Bool, true, false, List, [], ◌∷◌, find, Option, Some, None}
+use Rattle.std.specs.Prelude.{◌≡◌, ℕ, ◌==◌, Bool, true, false, Option, Some}
 use Rattle.vm_facts.specs.Flat.{Space, Holds, Process, FlatState}
 use Rattle.vm_facts.specs.declared.entry.Entry.{Entry}
 use Rattle.vm_facts.specs.declared.entry.Entry.TheVariants.{Out, Refused}
@@ -20,8 +20,3 @@ is_refusal _ = false
 abbrev pub is_writing : Option Entry → ℕ → Bool
 is_writing (Some (Out p bytes)) pid = p == pid
 is_writing _ pid = false
-
--- no two processes have one number
-abbrev pub HaveOwnNumbers : List Process → Type 0
-HaveOwnNumbers [] = Unit {0}
-HaveOwnNumbers (q ∷ qs) = (find (λ (r : Process). r.pid == q.pid) qs ≡ None) × HaveOwnNumbers qs

@@ -7,25 +7,27 @@
 //!   what they come to in the whole space, and all that the instruction writes is of touched pages.
 //! - `others_keep_their_spaces`: behind a step of a process every other one that holds a space holds it still, byte for
 //!   byte.
+//! - `numbers_are_kept`: in each run each process has a number of its own, and so has each space, below the next ones.
 #![tactic(auto)]
 
-ghost use Rattle.std.specs.Prelude.{◌≡◌, ◌≢◌, ℕ, Bool, true, false, Some, Ok};
+ghost use Rattle.std.specs.Prelude.{◌≡◌, ◌≢◌, ℕ, Bool, true, false, List, Some, Ok};
 ghost use Rattle.vm_facts.specs.Flat.{Space, Holds, Process, FlatState};
 ghost use Rattle.vm_facts.specs.declared.entry.Entry.{Entry};
 ghost use Rattle.user_vax.specs.Effects.{Effect};
 ghost use Rattle.user_vax.specs.Instruction.{instruction};
 ghost use Rattle.user_vax.specs.Program.{run};
-ghost use Rattle.page_model.specs.Flat.{Inputs, process_of, is_ready};
+ghost use Rattle.page_model.specs.Flat.{Inputs, start_state, process_of, is_ready};
 ghost use Rattle.page_model.specs.Change.{apply_writes};
+ghost use Rattle.page_laws.specs.FlatStands.{AllDistinct, pids_of, IsNumbered};
 ghost use Rattle.page_model.specs.Space.{answers_of, puts};
 ghost use Rattle.flat_model.specs.declared.calls.SystemCall.{SystemCall};
 ghost use Rattle.flat_model.specs.Calls.{call_of, reply_of};
 ghost use Rattle.flat_model.specs.Instruction.{instruction_in};
 ghost use Rattle.flat_model.specs.Step.{flat_step, written_process};
-ghost use Rattle.flat_model.specs.Run.{Point, is_refused, act, process_of_entry, flat_entry};
+ghost use Rattle.flat_model.specs.Run.{Point, is_refused, act, process_of_entry, flat_entry, flat_run};
 ghost use Rattle.flat_model.specs.Touched.{touched};
 ghost use Rattle.flat_laws.specs.Shown.{shown, AreOf, IsCallOf};
-ghost use Rattle.flat_laws.specs.Others.{HoldsStill, HaveOwnNumbers, is_refusal, is_writing};
+ghost use Rattle.flat_laws.specs.Others.{HoldsStill, is_refusal, is_writing};
 
 /// The next entry of a process's step follows from the flat state, from whether its pieces were refused, and from
 /// whether it has bytes out. So two entries of a process that may come next, neither of which says that pieces found no
@@ -46,5 +48,13 @@ pub fn touched_is_enough()
 
 /// Behind a step of a process every other process that holds a space holds it still, byte for byte.
 pub fn others_keep_their_spaces()
-    ensures { (A : Inputs) (F : FlatState) (pid other : ℕ) (refused : Bool) (s : Space) → HaveOwnNumbers F.processes → other ≢ pid → HoldsStill F other s → HoldsStill (flat_step A F pid refused).after other s }
+    ensures { (A : Inputs) (F : FlatState) (pid other : ℕ) (refused : Bool) (s : Space) → AllDistinct (pids_of F) → other ≢ pid → HoldsStill F other s → HoldsStill (flat_step A F pid refused).after other s }
+{}
+
+/// Each process has a number of its own, below the next one, and so has each space: at the start, behind each step, and
+/// in each run of the flat machine.
+pub fn numbers_are_kept()
+    ensures start { (A : Inputs) → IsNumbered (start_state A) }
+    ensures step { (A : Inputs) (F : FlatState) (pid : ℕ) (refused : Bool) → IsNumbered F → IsNumbered (flat_step A F pid refused).after }
+    ensures run { (A : Inputs) (journal : List Entry) (point : Point) → flat_run A journal ≡ Some point → IsNumbered point.flat }
 {}

@@ -54,11 +54,11 @@ drop_sharers p v image = go (frame_of (state_of p v))
     go None = put_sharers p v Unfilled false image
     go (Some g) = put_sharers p v Unfilled false image
 
-drop_all_frees : (qs : List Page) (p : Placement) (f : ℕ) → 0 < times f p.free → 0 < times f (drop_all p qs).free
+pub drop_all_frees : (qs : List Page) (p : Placement) (f : ℕ) → 0 < times f p.free → 0 < times f (drop_all p qs).free
 drop_all_frees [] p f b = b
 drop_all_frees (v ∷ qs) p f b = drop_all_frees qs (drop_page p v) f (drop_frees p v f b)
 
-drop_all_sharers : (qs : List Page) (p : Placement) (image : ℕ) → sharers (drop_all p qs) image ≡ sharers p image
+pub drop_all_sharers : (qs : List Page) (p : Placement) (image : ℕ) → sharers (drop_all p qs) image ≡ sharers p image
 drop_all_sharers [] p image = refl
 drop_all_sharers (v ∷ qs) p image = drop_all_sharers qs (drop_page p v) image ∙ drop_sharers p v image
 
@@ -79,7 +79,7 @@ resize_aside p sid d s a = text_still p (resize p sid d s)
 
 -- A new space.
 
-sharers-append : (image : ℕ) (ss rs : List SpacePages) → sharers_in image (ss ++ rs) ≡ sharers_in image ss + sharers_in image rs
+pub sharers-append : (image : ℕ) (ss rs : List SpacePages) → sharers_in image (ss ++ rs) ≡ sharers_in image ss + sharers_in image rs
 sharers-append image [] rs = omega arith
 sharers-append image (s ∷ ss) rs = omega (arith, sharers-append image ss rs)
 
@@ -119,7 +119,7 @@ differs : (a b : ℕ) → a ≢ b → (a == b) ≡ false
 differs a b n = grind (arith, nat_tests)
 
 -- no other image loses a sharer
-removed_sharers : (sid image j : ℕ) (ss : List SpacePages) → HasImage sid image ss → j ≢ image → sharers_in j (filter (λ (s : SpacePages). not (s.sid == sid)) ss) ≡ sharers_in j ss
+pub removed_sharers : (sid image j : ℕ) (ss : List SpacePages) → HasImage sid image ss → j ≢ image → sharers_in j (filter (λ (s : SpacePages). not (s.sid == sid)) ss) ≡ sharers_in j ss
 removed_sharers sid image j [] h n = refl
 removed_sharers sid image j (s ∷ ss) h n = go (s.sid == sid) refl (removed_sharers sid image j ss h.1 n)
   where
@@ -144,7 +144,7 @@ leave_frees p v f b = go (state_of p v) (listed p v)
     go (Coming g) n = b
     go (Going g) n = b
 
-leave_other : (p : Placement) (v w : Page) → w ≢ v → slot_of (leave_page p v) w ≡ slot_of p w
+pub leave_other : (p : Placement) (v w : Page) → w ≢ v → slot_of (leave_page p v) w ≡ slot_of p w
 leave_other p v w d = go (state_of p v) (listed p v)
   where
     go : (s : PageState) (n : ℕ) → slot_of (leave_by p v s n) w ≡ slot_of p w
@@ -156,7 +156,7 @@ leave_other p v w d = go (state_of p v) (listed p v)
     go (Coming g) n = refl
     go (Going g) n = refl
 
-leave_length : (p : Placement) (v w : Page) → length (slots_of (leave_page p v) w) ≡ length (slots_of p w)
+pub leave_length : (p : Placement) (v w : Page) → length (slots_of (leave_page p v) w) ≡ length (slots_of p w)
 leave_length p v w = go (state_of p v) (listed p v)
   where
     go : (s : PageState) (n : ℕ) → length (slots_of (leave_by p v s n) w) ≡ length (slots_of p w)
@@ -168,7 +168,7 @@ leave_length p v w = go (state_of p v) (listed p v)
     go (Coming g) n = refl
     go (Going g) n = refl
 
-leave_sharers : (p : Placement) (v : Page) (image : ℕ) → sharers (leave_page p v) image ≡ sharers p image
+pub leave_sharers : (p : Placement) (v : Page) (image : ℕ) → sharers (leave_page p v) image ≡ sharers p image
 leave_sharers p v image = go (state_of p v) (listed p v)
   where
     go : (s : PageState) (n : ℕ) → sharers (leave_by p v s n) image ≡ sharers p image
@@ -239,11 +239,11 @@ leave_all_aside (v ∷ qs) p c =
     let d = Rattle.page_laws.proofs.RunLaws.each_page_imp (CanLeave p) (CanLeave (leave_page p v)) qs c.1 (λ x d. can_still p v x c.0 d) in
     (leave_all_keeps qs (leave_page p v) v d (leave_here p v c.0.0 c.0.1), leave_all_aside qs (leave_page p v) d)
 
-leave_all_sharers : (qs : List Page) (p : Placement) (image : ℕ) → sharers (leave_all p qs) image ≡ sharers p image
+pub leave_all_sharers : (qs : List Page) (p : Placement) (image : ℕ) → sharers (leave_all p qs) image ≡ sharers p image
 leave_all_sharers [] p image = refl
 leave_all_sharers (v ∷ qs) p image = leave_all_sharers qs (leave_page p v) image ∙ leave_sharers p v image
 
-leave_all_length : (qs : List Page) (p : Placement) (w : Page) → length (slots_of (leave_all p qs) w) ≡ length (slots_of p w)
+pub leave_all_length : (qs : List Page) (p : Placement) (w : Page) → length (slots_of (leave_all p qs) w) ≡ length (slots_of p w)
 leave_all_length [] p w = refl
 leave_all_length (v ∷ qs) p w = leave_all_length qs (leave_page p v) w ∙ leave_length p v w
 
@@ -289,7 +289,7 @@ filtered_by sid j x y xs ys e i h = ap (λ (k : ℕ). sharers_in j (cond (not (k
     go true = h
     go false = ap (λ (k : ℕ). cond (k == j) 1 0 + sharers_in j ys) i ∙ ap (λ (k : ℕ). cond (x.image == j) 1 0 + k) h
 
-abbrev rest_of : ℕ → List SpacePages → List SpacePages
+abbrev pub rest_of : ℕ → List SpacePages → List SpacePages
 rest_of sid ss = filter (λ (s : SpacePages). not (s.sid == sid)) ss
 
 rest_changed_by : (sid j t : ℕ) (change : SpacePages → SpacePages) (b : Bool) (s : SpacePages) (ss rs : List SpacePages) → (change s).sid ≡ s.sid → (change s).image ≡ s.image → sharers_in j (rest_of sid rs) ≡ sharers_in j (rest_of sid ss)
@@ -313,7 +313,7 @@ rest_drop p v sid j = go (frame_of (state_of p v))
     go None = rest_put p v Unfilled false sid j
     go (Some g) = rest_put p v Unfilled false sid j
 
-rest_drop_all : (qs : List Page) (p : Placement) (sid j : ℕ) → sharers_in j (rest_of sid (drop_all p qs).spaces) ≡ sharers_in j (rest_of sid p.spaces)
+pub rest_drop_all : (qs : List Page) (p : Placement) (sid j : ℕ) → sharers_in j (rest_of sid (drop_all p qs).spaces) ≡ sharers_in j (rest_of sid p.spaces)
 rest_drop_all [] p sid j = refl
 rest_drop_all (v ∷ qs) p sid j = rest_drop_all qs (drop_page p v) sid j ∙ rest_drop p v sid j
 

@@ -23,7 +23,7 @@ before_k b r i n k la =
     (rw (take-append-le n (drop i (take (i + (n + k)) b)) r (omega (arith, length-drop i (take (i + (n + k)) b))))
     (rw (drop-take i (n + k) b) (take-take n (n + k) (drop i b) (omega arith))))
 
-before : (b r : List ℕ) (a i n : ℕ) → i + n ≤ a → a ≤ length b → take n (drop i (take a b ++ r)) ≡ take n (drop i b)
+pub before : (b r : List ℕ) (a i n : ℕ) → i + n ≤ a → a ≤ length b → take n (drop i (take a b ++ r)) ≡ take n (drop i b)
 before b r a i n h la =
     let e : i + (n + (a - (i + n))) ≡ a = omega arith in
     subst (λ (x : ℕ). take n (drop i (take x b ++ r)) ≡ take n (drop i b)) e (before_k b r i n (a - (i + n)) (omega arith))

@@ -25,13 +25,19 @@ pub record Beside (p q : Placement) (v : Page) (f : ℕ) (b c : Bytes) : Type 0 
   pub text_due : (image n : ℕ) → due_at p.due (Text image n) ≡ None → due_at q.due (Text image n) ≡ None
   pub errands : (g : ℕ) → g ≢ f → errand_at (parts_of q.transfers) g ≡ errand_at (parts_of p.transfers) g
 
+-- nothing is due of a page that is copied from another
+abbrev pub NoCopy : Option Due → Type 0
+NoCopy None = Unit {0}
+NoCopy (Some (Start r)) = Unit {0}
+NoCopy (Some (CopyOf r parent)) = ⊥
+
 unfilled_same : (b c : Bytes) (w : Page) (d : Option Due) (x : Filling) → c.file w ≡ b.file w → c.start w ≡ b.start w → c.memory w ≡ b.memory w
-    → ((parent : Page) → c.memory parent ≡ b.memory parent) ⊎ (d ≡ None) → KeepsUnfilled b w d x → KeepsUnfilled c w d x
+    → ((parent : Page) → c.memory parent ≡ b.memory parent) ⊎ NoCopy d → KeepsUnfilled b w d x → KeepsUnfilled c w d x
 unfilled_same b c w None Zeros fi st me cp k = k ∙ sym me
 unfilled_same b c w None OfImage fi st me cp k = fi ∙ k ∙ sym me
 unfilled_same b c w (Some (Start r)) x fi st me cp k = st ∙ k ∙ sym me
 unfilled_same b c w (Some (CopyOf r parent)) x fi st me (inl h) k = h parent ∙ k ∙ sym me
-unfilled_same b c w (Some (CopyOf r parent)) x fi st me (inr h) k = absurd (let e : Some (CopyOf r parent) ≡ None = h in cc)
+unfilled_same b c w (Some (CopyOf r parent)) x fi st me (inr h) k = absurd h
 
 coming_same : (b c : Bytes) (w : Page) (m : Bool) (e : Option Errand) → c.file w ≡ b.file w → c.swap w ≡ b.swap w → c.memory w ≡ b.memory w → KeepsComing b w m e → KeepsComing c w m e
 coming_same b c w m None fi sw me k = k
@@ -48,7 +54,7 @@ pub record Unmoved (p q : Placement) (b c : Bytes) (w : Page) : Type 0 where
   pub file : c.file w ≡ b.file w
   pub start : c.start w ≡ b.start w
   pub memory : c.memory w ≡ b.memory w
-  pub copied : ((parent : Page) → c.memory parent ≡ b.memory parent) ⊎ (due_at q.due w ≡ None)
+  pub copied : ((parent : Page) → c.memory parent ≡ b.memory parent) ⊎ NoCopy (due_at q.due w)
 
 mark_same : (p q : Placement) (b c : Bytes) (w : Page) → Unmoved p q b c w → mark_of q w ≡ mark_of p w
 mark_same p q b c w u = ap (λ (x : Slot). x.mark) u.slot
@@ -94,7 +100,7 @@ unmoved p q v f b c o l s w n = record {
   memory = s.memory w n;
   copied = elim s.copied [
     | inl h ↦ inl h
-    | inr h ↦ inr (ap (λ (ds : List Due). due_at ds w) h)
+    | inr h ↦ inr (subst (λ (ds : List Due). NoCopy (due_at ds w)) (sym h) tt)
   ];
 }
 

@@ -166,7 +166,7 @@ due_still p q k less s w d e =
       source = source_still p q d k was.source;
     }
 
-stays_due : (p q : Placement) → Stays p q → DueStand p → DueStand q
+pub stays_due : (p q : Placement) → Stays p q → DueStand p → DueStand q
 stays_due p q s = due_still p q (stays_fills (Waits q.due) p q s) (λ w d e. ap (λ (ds : List Due). due_at ds w) (sym s.due) ∙ e)
 
 filled_less : (ds : List Due) (v w : Page) (d : Due) → NotDue (due_after ds v) v → due_at (due_after ds v) w ≡ Some d → due_at ds w ≡ Some d
@@ -199,7 +199,7 @@ moves_due zero p locked s = s
 moves_due (suc n) p locked s = moves_due n (hand_move p locked) locked (stays_due p (hand_move p locked) (move_stays p locked) s)
 
 -- the parts of what is due don't ask who is resident
-resident_due : (p : Placement) (rs : List Rattle.page_model.specs.Placement.Residence) → DueStand p → DueStand (record p { residents = rs })
+pub resident_due : (p : Placement) (rs : List Rattle.page_model.specs.Placement.Residence) → DueStand p → DueStand (record p { residents = rs })
 resident_due p rs s w d e = let was : IsDue p w d = s w d e in record { writable = was.writable; there = was.there; unfilled = was.unfilled; zeros = was.zeros; source = go d was.source }
   where
     go : (d : Due) → HasSource p d → HasSource (record p { residents = rs }) d

@@ -13,7 +13,7 @@ use Rattle.page_laws.proofs.PageLaws.{mapped, changed_same, changed_other}
 use Rattle.page_laws.proofs.RunLaws.{each_page_append, pages_from_each}
 use Rattle.page_laws.proofs.OwnsSpaces.{drop_all_other, drop_all_length}
 use Rattle.page_laws.proofs.OwnsChanges.{dropped_pages, removed_other, removed_same}
-use Rattle.page_laws.proofs.Couples.{Unmoved, unmoved_keeps}
+use Rattle.page_laws.proofs.Couples.{NoCopy, Unmoved, unmoved_keeps}
 
 -- each page that is there is as it was, or is right by itself
 pub changed_coupled : (p q : Placement) (b c : Bytes) → CouplesPages p b → ((w : Page) → IsThere q w → (IsThere p w × Unmoved p q b c w) ⊎ Keeps q c w)
@@ -50,12 +50,12 @@ still_unmoved p q b c w s t d e x = record {
   file = x.file;
   start = x.start;
   memory = x.memory;
-  copied = inr d;
+  copied = inr (subst NoCopy (sym d) tt);
 }
 
 -- Sizes.
 
-length_sized : (n : ℕ) (xs : List Slot) → length (sized n xs) ≡ n
+pub length_sized : (n : ℕ) (xs : List Slot) → length (sized n xs) ≡ n
 length_sized zero xs = refl
 length_sized (suc n) [] = ap suc (length_sized n [])
 length_sized (suc n) (x ∷ xs) = ap suc (length_sized n xs)
@@ -77,7 +77,7 @@ sized_new (suc n) (suc w) (x ∷ xs) l m = sized_new n w xs (omega arith) (omega
 abbrev Sizes : List Slot → List Slot → ℕ → Type 0
 Sizes new old w = (new ≡ old) ⊎ ((n : ℕ) × (new ≡ sized n old))
 
-abbrev cut : ℕ → ℕ → SpacePages → SpacePages
+abbrev pub cut : ℕ → ℕ → SpacePages → SpacePages
 cut d s x = record x { data_pages = sized d x.data_pages; stack_pages = sized s x.stack_pages }
 
 -- a new page, of zeros
@@ -145,19 +145,19 @@ stack_cut : (d s : ℕ) (o : Option SpacePages) → ((stack_in (mapped (cut d s)
 stack_cut d s None = inl (refl, refl)
 stack_cut d s (Some x) = inr refl
 
-data_bound : (p : Placement) (sid d s v : ℕ) → IsThere (cut_space p sid d s) (Data sid v) → v < d
+pub data_bound : (p : Placement) (sid d s v : ℕ) → IsThere (cut_space p sid d s) (Data sid v) → v < d
 data_bound p sid d s v there = cut_within d v (slots_of (cut_space p sid d s) (Data sid v)) (slots_of p (Data sid v))
     (subst (λ (o : Option SpacePages). ((data_in o ≡ slots_of p (Data sid v)) × (slots_of p (Data sid v) ≡ [])) ⊎ (data_in o ≡ sized d (slots_of p (Data sid v)))) (sym (changed_same space_number sid (cut d s) (λ x. refl) p.spaces)) (data_cut d s (numbered space_number sid p.spaces))) there
 
-stack_bound : (p : Placement) (sid d s v : ℕ) → IsThere (cut_space p sid d s) (Stack sid v) → v < s
+pub stack_bound : (p : Placement) (sid d s v : ℕ) → IsThere (cut_space p sid d s) (Stack sid v) → v < s
 stack_bound p sid d s v there = cut_within s v (slots_of (cut_space p sid d s) (Stack sid v)) (slots_of p (Stack sid v))
     (subst (λ (o : Option SpacePages). ((stack_in o ≡ slots_of p (Stack sid v)) × (slots_of p (Stack sid v) ≡ [])) ⊎ (stack_in o ≡ sized s (slots_of p (Stack sid v)))) (sym (changed_same space_number sid (cut d s) (λ x. refl) p.spaces)) (stack_cut d s (numbered space_number sid p.spaces))) there
 
 -- pages of a space from a number on, and a page that isn't among them
-apart_data : (sid lo n : ℕ) (w : Page) → ((v : ℕ) → lo ≤ v → w ≢ Data sid v) → EachPage (λ r. w ≢ r) (data_from sid lo n)
+pub apart_data : (sid lo n : ℕ) (w : Page) → ((v : ℕ) → lo ≤ v → w ≢ Data sid v) → EachPage (λ r. w ≢ r) (data_from sid lo n)
 apart_data sid lo n w h = pages_from_each (λ r. w ≢ r) (Data sid lo) lo n (λ v l m. h v l)
 
-apart_stack : (sid lo n : ℕ) (w : Page) → ((v : ℕ) → lo ≤ v → w ≢ Stack sid v) → EachPage (λ r. w ≢ r) (stack_from sid lo n)
+pub apart_stack : (sid lo n : ℕ) (w : Page) → ((v : ℕ) → lo ≤ v → w ≢ Stack sid v) → EachPage (λ r. w ≢ r) (stack_from sid lo n)
 apart_stack sid lo n w h = pages_from_each (λ r. w ≢ r) (Stack sid lo) lo n (λ v l m. h v l)
 
 -- a page that is there after a new size was not dropped
@@ -195,7 +195,7 @@ resize_coupled p sid d s b c k due same new text = changed_coupled p (resize p s
 
 -- A space that goes: the pages of all others have their bytes.
 
-removed_there : (p : Placement) (sid : ℕ) (w : Page) → IsThere (remove_space p sid) w → ((v : ℕ) → w ≢ Data sid v) × ((v : ℕ) → w ≢ Stack sid v) × (slots_of (remove_space p sid) w ≡ slots_of p w)
+pub removed_there : (p : Placement) (sid : ℕ) (w : Page) → IsThere (remove_space p sid) w → ((v : ℕ) → w ≢ Data sid v) × ((v : ℕ) → w ≢ Stack sid v) × (slots_of (remove_space p sid) w ≡ slots_of p w)
 removed_there p sid (Data t v) there = elim (cases_eq t sid) [
   | inl e ↦ absurd (let h : numbered space_number t (remove_space p sid).spaces ≡ None = ap (λ (x : ℕ). numbered space_number x (remove_space p sid).spaces) e ∙ removed_same sid p.spaces in let l = ap (λ (o : Option SpacePages). length (data_in o)) h in omega arith)
   | inr n ↦ ((λ x h. n (data_sid t sid v x h)), (λ x h. absurd cc), ap data_in (removed_other sid t p.spaces n))

@@ -57,7 +57,7 @@ get_slot p e v w o n h = go p.free
     go [] = refl
     go (f ∷ rest) = put_other (evict p f) v (Coming f) (mark_of p v) w n ∙ evict_other p f w o h
 
-get_due : (p : Placement) (e : Errand) (v : Page) → (get_one p e v).due ≡ p.due
+pub get_due : (p : Placement) (e : Errand) (v : Page) → (get_one p e v).due ≡ p.due
 get_due p e v = go p.free
   where
     go : (fr : List ℕ) → (get_at p e v fr).due ≡ p.due
@@ -223,7 +223,7 @@ each_both : (P Q : Page → Type 0) (R : Page → Type 0) (qs : List Page) → E
 each_both P Q R qs h g k = each_page_both P Q R qs h g k
 
 -- each page of the run is read from where the demanded one is
-run_in_reads : (p : Placement) (b : Bytes) (q : Page) → CouplesPages p b → ReadsFrom p (source_for (state_of p q)) q q → EachPage (ReadsFrom p (source_for (state_of p q)) q) (pages_of_run q (run_in p q))
+pub run_in_reads : (p : Placement) (b : Bytes) (q : Page) → CouplesPages p b → ReadsFrom p (source_for (state_of p q)) q q → EachPage (ReadsFrom p (source_for (state_of p q)) q) (pages_of_run q (run_in p q))
 run_in_reads p b q k h = go q (state_of p q) (spare_frames p) h
   where
     alone : (q : Page) (source : Source) → ReadsFrom p source q q → EachPage (ReadsFrom p source q) (pages_of_run q (run_alone q))

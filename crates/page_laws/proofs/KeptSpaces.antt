@@ -139,7 +139,7 @@ due_skip (d ∷ ds) es q e = go (same_page (due_page d) q) e (due_skip ds es q)
 abbrev pub Numbers : (ℕ → Page) → Type 0
 Numbers make = (a b : ℕ) → make a ≡ make b → a ≡ b
 
-apart_page : (q r : Page) → q ≢ r → same_page q r ≡ false
+pub apart_page : (q r : Page) → q ≢ r → same_page q r ≡ false
 apart_page q r n = go (same_page q r) refl
   where
     go : (b : Bool) → same_page q r ≡ b → b ≡ false
@@ -327,12 +327,12 @@ fills_keeps : (c : Bytes) (q : Page) (x : Filling) → FillsBy c q x → KeepsUn
 fills_keeps c q Zeros k = k
 fills_keeps c q OfImage k = k
 
-unfilled_at : (facts : Image) (lo n v : ℕ) → v < n → get_or (unfilled_data facts lo n) v no_slot ≡ unfilled (data_filling facts (lo + v))
+pub unfilled_at : (facts : Image) (lo n v : ℕ) → v < n → get_or (unfilled_data facts lo n) v no_slot ≡ unfilled (data_filling facts (lo + v))
 unfilled_at facts lo zero v l = absurd (omega arith)
 unfilled_at facts lo (suc n) zero l = ap (λ (w : ℕ). unfilled (data_filling facts w)) (let e : lo ≡ lo + 0 = omega arith in e)
 unfilled_at facts lo (suc n) (suc v) l = unfilled_at facts (lo + 1) n v (omega arith) ∙ ap (λ (w : ℕ). unfilled (data_filling facts w)) (let e : (lo + 1) + v ≡ lo + suc v = omega arith in e)
 
-unfilled_length : (facts : Image) (lo n : ℕ) → length (unfilled_data facts lo n) ≡ n
+pub unfilled_length : (facts : Image) (lo n : ℕ) → length (unfilled_data facts lo n) ≡ n
 unfilled_length facts lo zero = refl
 unfilled_length facts lo (suc n) = ap suc (unfilled_length facts (lo + 1) n)
 

@@ -263,16 +263,19 @@ leave_text_owner p image o = go (sharers p image)
     go zero = leave_all_owner (pages_of_text p image) p o
     go (suc n) = o
 
--- Giving up a space of which no page is in a transfer.
-pub give_up_owner : (p : Placement) (sid : ℕ) → OwnsFrames p → EachPage (λ q. AtRest (state_of p q)) (pages_of_space p sid) → OwnsFrames (give_up p sid)
-give_up_owner p sid o r = leave_text_owner (remove_space (drop_all p (pages_of_space p sid)) sid) (image_of p sid)
-    (remove_owner (drop_all p (pages_of_space p sid)) sid (drop_all_owner (pages_of_space p sid) p o r)
+-- A space goes of which no page is in a transfer.
+pub gone_owner : (p : Placement) (sid : ℕ) → OwnsFrames p → EachPage (λ q. AtRest (state_of p q)) (pages_of_space p sid) → OwnsFrames (remove_space (drop_all p (pages_of_space p sid)) sid)
+gone_owner p sid o r = remove_owner (drop_all p (pages_of_space p sid)) sid (drop_all_owner (pages_of_space p sid) p o r)
     (λ w. blank_from (drop_all p (pages_of_space p sid)) (Data sid 0) 0 (data_count p sid)
     (each_front (IsBlank (drop_all p (pages_of_space p sid))) (data_from sid 0 (data_count p sid)) (stack_from sid 0 (stack_count p sid)) (drop_all_blank (pages_of_space p sid) p))
     (λ w l. let h = drop_all_length (pages_of_space p sid) p (Data sid w) in omega arith) (λ w. refl) w (omega arith))
     (λ w. blank_from (drop_all p (pages_of_space p sid)) (Stack sid 0) 0 (stack_count p sid)
     (each_back (IsBlank (drop_all p (pages_of_space p sid))) (data_from sid 0 (data_count p sid)) (stack_from sid 0 (stack_count p sid)) (drop_all_blank (pages_of_space p sid) p))
-    (λ w l. let h = drop_all_length (pages_of_space p sid) p (Stack sid w) in omega arith) (λ w. refl) w (omega arith)))
+    (λ w l. let h = drop_all_length (pages_of_space p sid) p (Stack sid w) in omega arith) (λ w. refl) w (omega arith))
+
+-- And its text is left.
+pub give_up_owner : (p : Placement) (sid : ℕ) → OwnsFrames p → EachPage (λ q. AtRest (state_of p q)) (pages_of_space p sid) → OwnsFrames (give_up p sid)
+give_up_owner p sid o r = leave_text_owner (remove_space (drop_all p (pages_of_space p sid)) sid) (image_of p sid) (gone_owner p sid o r)
 
 -- where processes reside says nothing of owners
 pub begin_residence_owner : (p : Placement) (pid at : ℕ) → OwnsFrames p → OwnsFrames (begin_residence p pid at)

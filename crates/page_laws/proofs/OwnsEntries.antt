@@ -1,5 +1,5 @@
 -- Each entry keeps the ownership of frames.
-use Rattle.std.proofs.Common.{◌≡◌, ℕ, ◌-◌, Bool, true, false, List, ◌++◌, Option, Some, None, refl, sym, subst}
+use Rattle.std.proofs.Common.{◌≡◌, ℕ, ◌-◌, Bool, true, false, List, ◌++◌, Option, Some, None, inl, inr, refl, sym, subst, arith}
 use Rattle.vm_facts.specs.declared.page.Page.{Page}
 use Rattle.vm_facts.specs.declared.page.Page.TheVariants.{Data, Stack}
 use Rattle.vm_facts.specs.declared.entry.Entry.{Entry}
@@ -13,7 +13,7 @@ use Rattle.page_model.specs.Placement.{Placement, state_of}
 use Rattle.page_model.specs.Moves.{fill, touch_all}
 use Rattle.page_model.specs.Place.{filled, moved, data_from, stack_from, data_count, stack_count, give_up_unless, enter_image, fork_space, place_change, place_entry, place_step, space_of_process, is_borrower}
 use Rattle.page_model.specs.Serve.{source_for}
-use Rattle.page_model.specs.Conditions.{AtRest, AllAtRest, CanEnter, IsNew, IsSettled, CanPlace, CanChange}
+use Rattle.page_model.specs.Conditions.{AtRest, AllAtRest, CanEnter, IsNew, IsSettled, LosesPages, CanPlace, CanChange}
 use Rattle.page_model.specs.Ownership.{OwnsFrames}
 use Rattle.page_laws.proofs.Owns.{fill_owner, reclaim_owner}
 use Rattle.page_laws.proofs.RunLaws.{each_page_append, pages_from_each, pages_from_apart}
@@ -46,21 +46,27 @@ place_entry_owner locked at p (entries.Ended pid status) o c = o
 place_entry_owner locked at p (entries.Owners a b m h) o c = o
 
 -- all pages of a settled space rest
-settled_from : (p : Placement) (sid : ℕ) → IsSettled p sid → (d dn s sn : ℕ) → AllAtRest p (data_from sid d dn ++ stack_from sid s sn)
+pub settled_from : (p : Placement) (sid : ℕ) → IsSettled p sid → (d dn s sn : ℕ) → AllAtRest p (data_from sid d dn ++ stack_from sid s sn)
 settled_from p sid k d dn s sn = each_page_append (λ q. AtRest (state_of p q)) (data_from sid d dn) (stack_from sid s sn)
     (pages_from_each (λ q. AtRest (state_of p q)) (Data sid d) d dn (λ w l m. k.data_rests w))
     (pages_from_each (λ q. AtRest (state_of p q)) (Stack sid s) s sn (λ w l m. k.stack_rests w))
+
+-- so do those that a smaller size drops, where that asks for a settled space
+lost_from : (p : Placement) (sid d s : ℕ) → (LosesPages p sid d s → IsSettled p sid) → AllAtRest p (data_from sid d (data_count p sid - d) ++ stack_from sid s (stack_count p sid - s))
+lost_from p sid d s k = each_page_append (λ q. AtRest (state_of p q)) (data_from sid d (data_count p sid - d)) (stack_from sid s (stack_count p sid - s))
+    (pages_from_each (λ q. AtRest (state_of p q)) (Data sid d) d (data_count p sid - d) (λ w l m. let r : IsSettled p sid = k (inl (omega arith)) in r.data_rests w))
+    (pages_from_each (λ q. AtRest (state_of p q)) (Stack sid s) s (stack_count p sid - s) (λ w l m. let r : IsSettled p sid = k (inr (omega arith)) in r.stack_rests w))
 
 give_up_unless_owner : (borrowed : Bool) (p : Placement) (sid : ℕ) → OwnsFrames p → (borrowed ≡ false → IsSettled p sid) → OwnsFrames (give_up_unless borrowed p sid)
 give_up_unless_owner true p sid o k = o
 give_up_unless_owner false p sid o k = give_up_owner p sid o (settled_from p sid (k refl) 0 (data_count p sid) 0 (stack_count p sid))
 
-enter_image_owner : (p : Placement) (sid image : ℕ) (named : Option NamedImage) → OwnsFrames p → IsNew p sid → OwnsFrames (enter_image p sid image named)
+pub enter_image_owner : (p : Placement) (sid image : ℕ) (named : Option NamedImage) → OwnsFrames p → IsNew p sid → OwnsFrames (enter_image p sid image named)
 enter_image_owner p sid image None o n = o
 enter_image_owner p sid image (Some named) o n = enter_space_owner p sid image named.image.facts o n
 
 -- a new image leaves all pages of a settled space at rest
-enter_settled : (p : Placement) (next_sid image sid : ℕ) (named : Option NamedImage) → OwnsFrames p → IsNew p next_sid → IsSettled p sid → IsSettled (enter_image p next_sid image named) sid
+pub enter_settled : (p : Placement) (next_sid image sid : ℕ) (named : Option NamedImage) → OwnsFrames p → IsNew p next_sid → IsSettled p sid → IsSettled (enter_image p next_sid image named) sid
 enter_settled p next_sid image sid None o n k = k
 enter_settled p next_sid image sid (Some named) o n k = record {
   data_rests = λ v. subst AtRest (sym ((Rattle.page_laws.proofs.OwnsChanges.enter_alike p next_sid image named.image.facts n (Data sid v)).0)) (k.data_rests v);
@@ -69,7 +75,7 @@ enter_settled p next_sid image sid (Some named) o n k = record {
 
 pub place_change_owner : (images : List NamedImage) (p : Placement) (pid sid : ℕ) (borrowed : Bool) (next_sid at : ℕ) (change : Change) → OwnsFrames p → CanChange p sid borrowed next_sid change → OwnsFrames (place_change images p pid sid borrowed next_sid at change)
 place_change_owner images p pid sid borrowed next_sid at Keep o c = o
-place_change_owner images p pid sid borrowed next_sid at (Resize d s) o c = resize_owner p sid d s o (settled_from p sid c d (data_count p sid - d) s (stack_count p sid - s))
+place_change_owner images p pid sid borrowed next_sid at (Resize d s) o c = resize_owner p sid d s o (lost_from p sid d s c)
 place_change_owner images p pid sid borrowed next_sid at (Fork child) o c = begin_residence_owner (fork_space p sid next_sid) child at (fork_owner p sid next_sid o c)
 place_change_owner images p pid sid borrowed next_sid at (Lend child) o c = begin_residence_owner p child at o
 place_change_owner images p pid sid borrowed next_sid at (Exec image top) o c =

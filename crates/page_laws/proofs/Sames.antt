@@ -122,7 +122,7 @@ other_frames p e [] w f o m n h = tt
 other_frames p e (x ∷ xs) w f o m n h =
     ((λ z. n.0 (some_is w x.page (sym (o.names w f h) ∙ ap (page_of p) z ∙ o.names x.page x.frame (ap frame_of m.0 ∙ frame_of_moving e x.frame)))), other_frames p e xs w f o m.1 n.1 h)
 
-each_front : (P : Moving → Type 0) (ms ns : List Moving) → Each P (ms ++ ns) → Each P ms
+pub each_front : (P : Moving → Type 0) (ms ns : List Moving) → Each P (ms ++ ns) → Each P ms
 each_front P [] ns h = tt
 each_front P (m ∷ ms) ns h = (h.0, each_front P ms ns h.1)
 
@@ -244,7 +244,7 @@ unnamed_rests p test q o t n = go (state_of p q) refl
     go (Going f) e = never f (Going f) e refl refl (λ x. absurd cc)
     go OnSwap e = tt
 
-not_true : (b : Bool) → not b ≡ true → b ≡ false
+pub not_true : (b : Bool) → not b ≡ true → b ≡ false
 not_true true e = absurd cc
 not_true false e = refl
 

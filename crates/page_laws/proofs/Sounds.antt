@@ -35,7 +35,7 @@ use Rattle.page_laws.proofs.AsideSteps.{place_entry_one}
 use Rattle.page_laws.proofs.Transfers.{entry_count}
 
 -- The hands, and how many frames there are.
-record KeepsHands (p q : Placement) : Type 0 where
+pub record KeepsHands (p q : Placement) : Type 0 where
   pub stand : HandsStand p → HandsStand q
   pub frames : length q.holds ≡ length p.holds
 
@@ -61,7 +61,7 @@ get_keep p v qs = let s = get_all_hands qs (begin p (read_errand p v)) (read_err
 keep_self : (p : Placement) → KeepsHands p p
 keep_self p = keeps_same p p (hands_self p)
 
-entry_keep : (locked : List Page) (at : ℕ) (p : Placement) (e : Entry) → OwnsFrames p → KeepsHands p (place_entry locked at p e)
+pub entry_keep : (locked : List Page) (at : ℕ) (p : Placement) (e : Entry) → OwnsFrames p → KeepsHands p (place_entry locked at p e)
 entry_keep locked at p (entries.Zero q) o = fill_keep p q
 entry_keep locked at p (entries.Get q lo n) o = get_keep p q (pages_from q lo n)
 entry_keep locked at p (entries.Copy q) o = fill_keep p q
@@ -204,7 +204,7 @@ alive_owner size a b p hs e o =
       aside = o.aside;
     }
 
-eq_is : (a b : ℕ) → (a == b) ≡ true → a ≡ b
+pub eq_is : (a b : ℕ) → (a == b) ≡ true → a ≡ b
 eq_is a b e = grind (arith, nat_tests)
 
 lives_head : (c : Bool) (x y : Proc) (xs ys : Option Proc) → has_life x.life ≡ has_life y.life → lives_in xs ≡ lives_in ys → lives_in (cond c (Some x) xs) ≡ lives_in (cond c (Some y) ys)
@@ -241,7 +241,7 @@ ran_sound size k pid regs e s =
 
 -- A space that passes.
 
-proc_number : (ps : List Proc) (n : ℕ) (q : Proc) → numbered (λ (x : Proc). x.pid) n ps ≡ Some q → q.pid ≡ n
+pub proc_number : (ps : List Proc) (n : ℕ) (q : Proc) → numbered (λ (x : Proc). x.pid) n ps ≡ Some q → q.pid ≡ n
 proc_number [] n q e = none_some q e
 proc_number (p ∷ ps) n q e = go (p.pid == n) refl e (proc_number ps n q)
   where

@@ -9,7 +9,7 @@ use Rattle.vm_facts.specs.declared.entry.Entry.TheVariants as entries
 use Rattle.page_model.specs.Pages.{numbered, number_of, pages_from, frame_of, is_valid, is_among, SpacePages}
 use Rattle.page_model.specs.declared.change.Change.{Change}
 use Rattle.page_model.specs.declared.change.Change.TheVariants.{Resize, Fork, Exec, End}
-use Rattle.page_model.specs.Place.{remove_space, enter_image}
+use Rattle.page_model.specs.Place.{data_count, stack_count, remove_space, enter_image}
 use Rattle.page_model.specs.Flat.{NamedImage, image_numbered}
 use Rattle.page_model.specs.Frames.{times}
 use Rattle.page_model.specs.Placement.{Placement, Transfer, space_number, state_of, IsThere, sharers, image_of}
@@ -71,10 +71,14 @@ pub record IsSettled (p : Placement) (sid : ℕ) : Type 0 where
   pub data_rests : (v : ℕ) → AtRest (state_of p (Data sid v))
   pub stack_rests : (v : ℕ) → AtRest (state_of p (Stack sid v))
 
+-- these are fewer pages of data, or of stack, than the space has
+abbrev pub LosesPages : Placement → ℕ → ℕ → ℕ → Type 0
+LosesPages p sid data_pages stack_pages = (data_pages < data_count p sid) ⊎ (stack_pages < stack_count p sid)
+
 -- what a change asks, of a process's space and the number of the next space: a space that is given up or loses pages
 -- is settled, and a new one is new
 abbrev pub CanChange : Placement → ℕ → Bool → ℕ → Change → Type 0
-CanChange p sid borrowed next_sid (Resize data_pages stack_pages) = IsSettled p sid
+CanChange p sid borrowed next_sid (Resize data_pages stack_pages) = LosesPages p sid data_pages stack_pages → IsSettled p sid
 CanChange p sid borrowed next_sid (Fork child) = IsNew p next_sid
 CanChange p sid borrowed next_sid (Exec image top) = IsNew p next_sid × (borrowed ≡ false → IsSettled p sid)
 CanChange p sid borrowed next_sid (End status) = borrowed ≡ false → IsSettled p sid

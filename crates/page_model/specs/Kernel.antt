@@ -1,24 +1,24 @@
 -- The whole machine as lists, and what each of its steps does to them.
-use Rattle.std.specs.Prelude.{◌≡◌, ℕ, ◌+◌, ◌*◌, ◌≤◌, ◌==◌, Bool, true, false, cond, not, List, [], ◌∷◌, ◌++◌, length, map, filter, take, drop, replicate, flat_map, set, Option, Some, None, ◌/◌, ◌%◌, ◌^◌, suc, zero, get_or, ◌<◌}
+use Rattle.std.specs.Prelude.{◌≡◌, ℕ, ◌+◌, ◌*◌, ◌≤◌, ◌==◌, Bool, true, false, cond, not, ◌||◌, List, [], ◌∷◌, ◌++◌, length, map, filter, take, drop, replicate, flat_map, set, Option, Some, None, ◌/◌, ◌%◌, ◌^◌, suc, zero, get_or, ◌<◌}
 use Rattle.vm_facts.specs.Flat.{Space, Holding, Holds, Lends, Zombie, Process, FlatState}
 use Rattle.vm_facts.specs.declared.page.Page.{Page}
 use Rattle.vm_facts.specs.declared.page.Page.TheVariants.{Data, Stack, Text}
 use Rattle.vm_facts.specs.declared.regs.Regs.{Regs}
 use Rattle.vm_facts.specs.declared.entry.Entry.{Entry}
 use Rattle.vm_facts.specs.declared.entry.Entry.TheVariants as entries
-use Rattle.aout_image.specs.Image.{page_at, word_bytes}
+use Rattle.aout_image.specs.Image.{Loaded, data_given, data_pages_of, page_at, word_bytes}
 use Rattle.swap_book.specs.declared.Owner.TheVariants as owners
 use Rattle.swap_book.specs.Holdings.{Holdings, block_in}
 use Rattle.page_model.specs.Flat.{NamedImage, image_numbered}
 use Rattle.page_model.specs.Journal.{append}
-use Rattle.page_model.specs.Pages.{same_page, frame_of, numbered}
+use Rattle.page_model.specs.Pages.{SpacePages, same_page, frame_of, numbered}
 use Rattle.page_model.specs.Frames.{at_frame, set_frame}
-use Rattle.page_model.specs.Placement.{Placement, Transfer, Part, Errand, Writes, Reads, Due, Start, CopyOf, state_of, due_at, image_of, slots_of}
+use Rattle.page_model.specs.Placement.{Placement, Transfer, Part, Errand, Writes, Reads, Due, Start, CopyOf, space_number, state_of, due_at, image_of, slots_of}
 use Rattle.page_model.specs.Moves.{touch}
 use Rattle.page_model.specs.Place.{filled, put_step, moved, place_entry}
 use Rattle.page_model.specs.Rank.{HandsStand}
 use Rattle.page_model.specs.Ownership.{OneOwner, block_of}
-use Rattle.page_model.specs.Coupled.{zeros, Bytes, CouplesPages}
+use Rattle.page_model.specs.Coupled.{zeros, Bytes, CouplesPages, source_bytes}
 
 -- what a process has: nothing yet; a space; a space that it lent to a child; or an exit status
 pub data Life : Type 0 where
@@ -267,6 +267,16 @@ beside_kernel k images image flat = record {
   memory = memory_of images flat;
 }
 
+-- what a read brings, page by page: what each page has where it is read from
+abbrev pub AreReadBy : Bytes → Errand → List Part → List (List ℕ) → Type 0
+AreReadBy b Writes xs read = Unit {0}
+AreReadBy b (Reads source demanded) xs read = read ≡ map (λ (x : Part). source_bytes b source x.page) xs
+
+-- what the oldest transfer brings
+abbrev pub AreRead : Bytes → List Transfer → List (List ℕ) → Type 0
+AreRead b [] read = Unit {0}
+AreRead b (t ∷ ts) read = AreReadBy b t.errand t.parts read
+
 -- Coupling.
 
 abbrev pub life_of : Holding → Life
@@ -287,14 +297,27 @@ outline_of q = record { pid = q.pid; parent = q.parent; life = life_of q.holding
 abbrev pub outline_kept : Proc → Outline
 outline_kept p = record { pid = p.pid; parent = p.parent; life = p.life; asleep = p.asleep }
 
+-- a space of the flat state has its pages in the placement
+pub record IsSized (s : Space) (x : SpacePages) : Type 0 where
+  pub image : x.image ≡ s.image
+  pub data_size : length s.data_bytes ≡ 1024 * length x.data_pages
+  pub stack_size : length s.stack_bytes ≡ 1024 * length x.stack_pages
+
+-- a space is in both, or in neither
+abbrev pub Fits : Option Space → Option SpacePages → Type 0
+Fits None None = Unit {0}
+Fits (Some s) (Some x) = IsSized s x
+Fits _ _ = ⊥
+
+abbrev pub AllFit : FlatState → Placement → Type 0
+AllFit flat p = (sid : ℕ) → Fits (numbered (λ (s : Space). s.sid) sid (spaces_of flat)) (numbered space_number sid p.spaces)
+
 -- the processes, spaces and next numbers of the machine are those of the flat state
 pub record SameTables (k : Kernel) (flat : FlatState) : Type 0 where
   pub processes : map outline_kept k.processes ≡ map outline_of flat.processes
   pub next_pid : k.next_pid ≡ flat.next_pid
   pub next_sid : k.next_sid ≡ flat.next_sid
-  pub image : (s : Space) → numbered (λ (x : Space). x.sid) s.sid (spaces_of flat) ≡ Some s → image_of k.place s.sid ≡ s.image
-  pub data_size : (s : Space) → numbered (λ (x : Space). x.sid) s.sid (spaces_of flat) ≡ Some s → length s.data_bytes ≡ 1024 * length (slots_of k.place (Data s.sid 0))
-  pub stack_size : (s : Space) → numbered (λ (x : Space). x.sid) s.sid (spaces_of flat) ≡ Some s → length s.stack_bytes ≡ 1024 * length (slots_of k.place (Stack s.sid 0))
+  pub spaces : AllFit flat k.place
 
 -- a process that is out has its registers in its u page, another in its record
 abbrev pub KeepsRegs : Kernel → List ℕ → Bool → Process → Regs → ℕ → Type 0
@@ -331,6 +354,28 @@ pub record Sound (size : ℕ) (k : Kernel) : Type 0 where
 
 abbrev pub IsSound : ℕ → Kernel → Type 0
 IsSound size k = k.stopped ≡ false → Sound size k
+
+abbrev pub has_start : List StartBytes → Page → Bool
+has_start [] q = false
+has_start (s ∷ ss) q = same_page s.page q || has_start ss q
+
+abbrev pub is_start : Option Due → Bool
+is_start None = false
+is_start (Some (Start q)) = true
+is_start (Some (CopyOf q parent)) = false
+
+-- bytes are kept for no page but one that is due with them
+abbrev pub KeepsStarts : Kernel → Type 0
+KeepsStarts k = (q : Page) → is_start (due_at k.place.due q) ≡ false → has_start k.starts q ≡ false
+
+-- the data of an image is as long as its pages, and zeros behind what its file gives
+pub record DataFits (image : Loaded) : Type 0 where
+  pub size : length image.data ≡ 1024 * data_pages_of image.facts
+  pub rest : (v : ℕ) → data_given image.facts ≤ 1024 * v → v < data_pages_of image.facts → page_at v image.data ≡ zeros
+
+-- the text of each image is as long as its pages
+abbrev pub TextFits : List NamedImage → Placement → Type 0
+TextFits images p = (image : ℕ) → length (text_of (image_numbered images image)) ≡ 1024 * length (slots_of p (Text image 0))
 
 -- all are longwords
 abbrev pub AllLongwords : List ℕ → Type 0

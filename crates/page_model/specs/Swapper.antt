@@ -39,19 +39,27 @@ seated_count p (q ∷ qs) = cond (is_seated p q) 1 0 + seated_count p qs
 abbrev pub size_in_frames : Placement → Runner → ℕ
 size_in_frames p r = seated_count p (pages_of_space p r.sid)
 
--- the first of those that are in or out longest
+-- in or out longer; of two that are so equally long the one of the lower pid
+abbrev pub is_longer : Placement → Runner → Runner → Bool
+is_longer p x r = nat_lt (since p x) (since p r) || ((since p x == since p r) && nat_lt x.pid r.pid)
+
+-- the one that is in or out longest
 abbrev pub longest_of : Placement → Runner → List Runner → Runner
 longest_of p r [] = r
-longest_of p r (x ∷ xs) = longest_of p (cond (nat_lt (since p x) (since p r)) x r) xs
+longest_of p r (x ∷ xs) = longest_of p (cond (is_longer p x r) x r) xs
 
 abbrev pub longest : Placement → List Runner → Option Runner
 longest p [] = None
 longest p (r ∷ rs) = Some (longest_of p r rs)
 
--- the largest first, those of one size by their order
+-- more pages in frames; of two of one size the one of the lower pid
+abbrev pub is_larger : Placement → Runner → Runner → Bool
+is_larger p x r = nat_lt (size_in_frames p r) (size_in_frames p x) || ((size_in_frames p x == size_in_frames p r) && nat_lt x.pid r.pid)
+
+-- the largest first
 abbrev pub ranked_in : Placement → Runner → List Runner → List Runner
 ranked_in p r [] = r ∷ []
-ranked_in p r (x ∷ xs) = cond (nat_lt (size_in_frames p r) (size_in_frames p x)) (x ∷ ranked_in p r xs) (r ∷ x ∷ xs)
+ranked_in p r (x ∷ xs) = cond (is_larger p x r) (x ∷ ranked_in p r xs) (r ∷ x ∷ xs)
 
 abbrev pub ranked : Placement → List Runner → List Runner
 ranked p [] = []
@@ -87,7 +95,7 @@ abbrev pub choice_by : Placement → List Runner → Bool → Choice
 choice_by p rs true = brings (longest p (filter (may_come_in p) rs))
 choice_by p rs false = choice_of_out p (filter (may_go_out p) rs)
 
--- One turn of the swapper, over the processes that hold a space, by rising pid: the one that is out longest comes in
+-- One turn of the swapper, over the processes that hold a space: the one that is out longest comes in
 -- where enough frames are free, and one goes out where they aren't.
 abbrev pub swap_choice : Placement → List Runner → Choice
 swap_choice p rs = choice_by p rs (nat_le (desired_free p) (length p.free))

@@ -1,7 +1,9 @@
 -- Bytes written into a space, each where it might be.
-use Rattle.std.specs.Prelude.{◌≡◌, ℕ, ◌<◌, List, [], ◌∷◌, length}
+use Rattle.std.specs.Prelude.{◌≡◌, ℕ, ◌/◌, ◌%◌, ◌<◌, List, [], ◌∷◌, length}
 use Rattle.vm_facts.specs.Answers.{ByteWrite}
 use Rattle.vm_facts.specs.Flat.{Space}
+use Rattle.vm_facts.specs.declared.page.Page.{Page}
+use Rattle.vm_facts.specs.declared.page.Page.TheVariants as pages
 use Rattle.vm_facts.specs.declared.memory.MayWrite.TheVariants as tests
 use Rattle.page_model.specs.declared.spot.Spot.{Spot}
 use Rattle.page_model.specs.declared.spot.Spot.TheVariants.{Text, Data, Stack, Below, Outside}
@@ -24,3 +26,11 @@ pub record MayPut (s : Space) (address : ℕ) : Type 0 where
 abbrev pub Wrote : Space → List ByteWrite → Space → Type 0
 Wrote old [] new = old ≡ new
 Wrote old (w ∷ ws) new = MayPut old w.address × Wrote (put old w) ws new
+
+-- the page of a byte of data or stack, and the byte's place in it
+abbrev pub IsByteOf : Space → Spot → Page → ℕ → Type 0
+IsByteOf s (Text i) q at = ⊥
+IsByteOf s (Data i) q at = (q ≡ pages.Data s.sid (i / 1024)) × (at ≡ i % 1024)
+IsByteOf s (Stack i) q at = (q ≡ pages.Stack s.sid (i / 1024)) × (at ≡ i % 1024)
+IsByteOf s Below q at = ⊥
+IsByteOf s Outside q at = ⊥

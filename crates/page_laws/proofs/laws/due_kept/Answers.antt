@@ -1,5 +1,6 @@
 use Rattle.page_laws.proofs.DueLaws.{entry_due, force_due, serve_due, start_due}
 use Rattle.page_laws.proofs.DueSpaces.{fork_due, enter_due}
+use Rattle.page_laws.proofs.DueChanges.{touch_due, change_due}
 use Rattle.page_laws.proofs.laws.due_kept.Goals as goal
 
 pub returns-clause-entry : goal.returns-clause-entry
@@ -19,3 +20,9 @@ returns-clause-fork c = fork_due
 
 pub returns-clause-enter : goal.returns-clause-enter
 returns-clause-enter c = enter_due
+
+pub returns-clause-write : goal.returns-clause-write
+returns-clause-write c = touch_due
+
+pub returns-clause-changes : goal.returns-clause-changes
+returns-clause-changes c = change_due

@@ -1,4 +1,8 @@
 use Rattle.page_laws.proofs.Sounds.{plain_sound, zero_sound, copy_sound, done_sound, write_sound, note_sound, in_sound, ran_sound, pass_sound}
+use Rattle.page_laws.proofs.SoundChanges.{flat_sound}
+use Rattle.page_laws.proofs.Founds.{found_sound}
+use Rattle.page_laws.proofs.Askings.{asked_for}
+use Rattle.page_laws.proofs.Allowed.{ready_sound}
 use Rattle.page_laws.proofs.laws.sound_kept.Goals as goal
 
 pub returns-clause-plain : goal.returns-clause-plain
@@ -27,3 +31,15 @@ returns-clause-ran c = ran_sound
 
 pub returns-clause-passes : goal.returns-clause-passes
 returns-clause-passes c = pass_sound
+
+pub returns-clause-changes : goal.returns-clause-changes
+returns-clause-changes c = flat_sound
+
+pub returns-clause-found : goal.returns-clause-found
+returns-clause-found c = found_sound
+
+pub returns-clause-asks : goal.returns-clause-asks
+returns-clause-asks c = asked_for
+
+pub returns-clause-ready : goal.returns-clause-ready
+returns-clause-ready c = ready_sound

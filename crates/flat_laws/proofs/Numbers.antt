@@ -1,0 +1,211 @@
+-- Each process has a number of its own, and so has each space, below the next ones.
+use Rattle.std.proofs.Common.{◌≡◌, ℕ, ◌+◌, ◌<◌, ◌≤◌, Bool, true, false, List, [], ◌∷◌, ◌++◌, length, map, flat_map, Option, Some, None, Result, Ok, Err, ℤ, refl, sym, ap, ◌∙◌, subst, arith}
+use Rattle.vm_facts.specs.Answers.{ByteWrite}
+use Rattle.vm_facts.specs.Flat.{Space, Holding, Holds, Lends, Zombie, Process, FlatState}
+use Rattle.vm_facts.specs.declared.entry.Entry.{Entry}
+use Rattle.vm_facts.specs.declared.entry.Entry.TheVariants.{Refused}
+use Rattle.vm_facts.specs.declared.regs.Regs.{Regs}
+use Rattle.user_vax.specs.Effects.{Effect}
+use Rattle.user_vax.specs.declared.refused.Refused.{Refused as Refusal}
+use Rattle.user_vax.specs.declared.refused.Refused.TheVariants.{Miss, Below, Signal}
+use Rattle.page_model.specs.Flat.{NamedImage, Inputs, image_numbered, process_of, can_step, start_if, start_processes, start_state}
+use Rattle.page_model.specs.Journal.{units_of}
+use Rattle.page_model.specs.Space.{answers_of, puts}
+use Rattle.page_model.specs.Change.{changed_by, changed_if, apply_change, apply_writes, wrote_by, wrote_if}
+use Rattle.page_model.specs.Kernel.{space_held}
+use Rattle.page_laws.specs.FlatStands.{IsAbsent, AllDistinct, AllBelow, AllLower, IsNumbered, MayChange}
+use Rattle.page_laws.proofs.FlatNumbers.{writes_numbered, changes_numbered}
+use Rattle.page_model.specs.declared.change.Change.{Change}
+use Rattle.page_model.specs.declared.change.Change.TheVariants.{Keep, Sleep, End}
+use Rattle.flat_model.specs.declared.calls.Reply.{Reply}
+use Rattle.flat_model.specs.declared.calls.Reply.TheVariants as replies
+use Rattle.flat_model.specs.declared.calls.SystemCall.{SystemCall}
+use Rattle.flat_model.specs.Calls.{call_of}
+use Rattle.flat_model.specs.Instruction.{instruction_in}
+use Rattle.flat_model.specs.Step.{step_of, step_behind, called_step, replied_step, step_holding, step_if, flat_step, written_process, reply_behind}
+use Rattle.flat_model.specs.Run.{Point, step_at, due_at, act, behind, point_after, same_as, process_of_entry, may_follow, where_so, flat_entry_of, flat_entry_if, flat_entry_by, flat_entry, flat_units, flat_run, start_point}
+use Rattle.flat_laws.proofs.Finding.{pids}
+use Rattle.flat_laws.proofs.Replies.{ReplyFits, reply_fits}
+use Rattle.flat_laws.proofs.Others.{pids_written}
+
+applied : (images : List NamedImage) (F : FlatState) (of : ℕ) (regs : Regs) (change : Change) → apply_change images F of regs change ≡ changed_if images F regs change (process_of F of)
+unfolding apply_change
+applied images F of regs change = refl
+
+change_kept : (images : List NamedImage) (F : FlatState) (of : ℕ) (regs : Regs) (change : Change) → MayChange F change → IsNumbered F → IsNumbered (apply_change images F of regs change)
+change_kept images F of regs change fits h = go (process_of F of) refl
+  where
+    is : (o : Option Process) → process_of F of ≡ o → apply_change images F of regs change ≡ changed_if images F regs change o
+    is o here = applied images F of regs change ∙ ap (changed_if images F regs change) here
+
+    by : (p : Process) → process_of F of ≡ Some p → (held : Holding) → p.holding ≡ held → IsNumbered (apply_change images F of regs change)
+    by p here (Holds t) holds = changes_numbered images F of regs change p t here holds fits h
+    by p here (Lends sid child) holds = subst (λ (G : FlatState). IsNumbered G) (sym (is (Some p) here ∙ ap (changed_by images F (record p { regs = regs }) change) holds)) h
+    by p here (Zombie status) holds = subst (λ (G : FlatState). IsNumbered G) (sym (is (Some p) here ∙ ap (changed_by images F (record p { regs = regs }) change) holds)) h
+
+    go : (o : Option Process) → process_of F of ≡ o → IsNumbered (apply_change images F of regs change)
+    go None here = subst (λ (G : FlatState). IsNumbered G) (sym (is None here)) h
+    go (Some p) here = by p here p.holding refl
+
+wrote : (F : FlatState) (of : ℕ) (ws : List ByteWrite) → apply_writes F of ws ≡ wrote_if F ws (process_of F of)
+unfolding apply_writes
+wrote F of ws = refl
+
+writes_kept : (F : FlatState) (of : ℕ) (ws : List ByteWrite) → IsNumbered F → IsNumbered (apply_writes F of ws)
+writes_kept F of ws h = go (process_of F of) refl
+  where
+    is : (o : Option Process) → process_of F of ≡ o → apply_writes F of ws ≡ wrote_if F ws o
+    is o here = wrote F of ws ∙ ap (wrote_if F ws) here
+
+    by : (p : Process) → process_of F of ≡ Some p → (held : Holding) → p.holding ≡ held → IsNumbered (apply_writes F of ws)
+    by p here (Holds t) holds = writes_numbered F of ws p t here holds h
+    by p here (Lends sid child) holds = subst (λ (G : FlatState). IsNumbered G) (sym (is (Some p) here ∙ ap (wrote_by F p ws) holds)) h
+    by p here (Zombie status) holds = subst (λ (G : FlatState). IsNumbered G) (sym (is (Some p) here ∙ ap (wrote_by F p ws) holds)) h
+
+    go : (o : Option Process) → process_of F of ≡ o → IsNumbered (apply_writes F of ws)
+    go None here = subst (λ (G : FlatState). IsNumbered G) (sym (is None here)) h
+    go (Some p) here = by p here p.holding refl
+
+-- Steps.
+
+after_kept : (images : List NamedImage) (F : FlatState) (p : Process) (ws : List ByteWrite) (regs : Regs) (change : Change) → MayChange (apply_writes F p.pid ws) change → IsNumbered F → IsNumbered (apply_change images (apply_writes F p.pid ws) p.pid regs change)
+after_kept images F p ws regs change fits h = change_kept images (apply_writes F p.pid ws) p.pid regs change fits (writes_kept F p.pid ws h)
+
+replied_kept : (images : List NamedImage) (F : FlatState) (p : Process) (call : SystemCall) (effect : Effect) (reply : Reply) → ReplyFits (apply_writes F p.pid effect.writes) reply → IsNumbered F → IsNumbered (replied_step images F p call effect reply).after
+replied_kept images F p call effect (replies.Fails error) fits h = after_kept images F p effect.writes _ Keep tt h
+replied_kept images F p call effect (replies.Does regs change) fits h = after_kept images F p effect.writes regs change fits h
+replied_kept images F p call effect (replies.Writes bytes) fits h = after_kept images F p effect.writes _ Keep tt h
+replied_kept images F p call effect replies.Waits fits h = after_kept images F p effect.writes p.regs Sleep tt h
+replied_kept images F p call effect (replies.Exits status) fits h = after_kept images F p effect.writes p.regs (End status) tt h
+
+called_kept : (images : List NamedImage) (F : FlatState) (p : Process) (t : Space) (refused : Bool) (effect : Effect) (call : Option SystemCall) → IsNumbered F → IsNumbered (called_step images F p t refused effect call).after
+called_kept images F p t refused effect None h = after_kept images F p effect.writes p.regs (End 12) tt h
+called_kept images F p t refused effect (Some call) h =
+    replied_kept images F p call effect (reply_behind images F p t refused call effect)
+    (reply_fits images (apply_writes F p.pid effect.writes) (answers_of (puts t effect.writes)) (written_process p t effect.writes) (puts t effect.writes) call effect.regs refused (subst (λ (ns : List ℕ). AllDistinct ns) (sym (pids_written F p.pid effect.writes)) h.pids))
+    h
+
+behind_kept : (images : List NamedImage) (F : FlatState) (p : Process) (t : Space) (refused : Bool) (effect : Effect) (number : Option ℤ) → IsNumbered F → IsNumbered (step_behind images F p t refused effect number).after
+behind_kept images F p t refused effect None h = after_kept images F p effect.writes effect.regs Keep tt h
+behind_kept images F p t refused effect (Some number) h = called_kept images F p t refused effect (call_of number) h
+
+of_kept : (images : List NamedImage) (F : FlatState) (p : Process) (t : Space) (refused : Bool) (result : Result Effect Refusal) → IsNumbered F → IsNumbered (step_of images F p t refused result).after
+of_kept images F p t refused (Ok effect) h = behind_kept images F p t refused effect effect.call h
+of_kept images F p t refused (Err (Miss a w)) h = h
+of_kept images F p t true (Err (Below a)) h = after_kept images F p [] p.regs (End 11) tt h
+of_kept images F p t false (Err (Below a)) h = after_kept images F p [] p.regs _ tt h
+of_kept images F p t refused (Err (Signal n)) h = after_kept images F p [] p.regs (End n) tt h
+
+step_stays : (A : Inputs) (F : FlatState) (of : ℕ) (refused : Bool) → IsNumbered F → IsNumbered (flat_step A F of refused).after
+unfolding flat_step
+step_stays A F of refused h = go (process_of F of)
+  where
+    by : (p : Process) (held : Holding) → IsNumbered (step_holding A.images F p refused held).after
+    by p (Holds t) = of_kept A.images F p t refused (instruction_in t p.regs) h
+    by p (Lends sid child) = h
+    by p (Zombie status) = h
+
+    go : (o : Option Process) → IsNumbered (step_if A.images F refused o).after
+    go None = h
+    go (Some p) = by p p.holding
+
+pub step_numbered : (A : Inputs) (F : FlatState) (pid : ℕ) (refused : Bool) → IsNumbered F → IsNumbered (flat_step A F pid refused).after
+step_numbered A F pid refused h = step_stays A F pid refused h
+
+-- The start.
+
+absent_started : (images : List NamedImage) (first : List ℕ) (m n : ℕ) → m < n → IsAbsent m (pids (start_processes images n first))
+absent_started images [] m n low = tt
+absent_started images (number ∷ more) m n low = go (image_numbered images number) (absent_started images more m (n + 1) (omega (arith, low)))
+  where
+    go : (o : Option NamedImage) → IsAbsent m (pids (start_processes images (n + 1) more)) → IsAbsent m (pids (start_if n number o ++ start_processes images (n + 1) more))
+    go None k = k
+    go (Some named) k = (λ e. absurd (omega (arith, e, low)), k)
+
+distinct_started : (images : List NamedImage) (first : List ℕ) (n : ℕ) → AllDistinct (pids (start_processes images n first))
+distinct_started images [] n = tt
+distinct_started images (number ∷ more) n = go (image_numbered images number) (distinct_started images more (n + 1))
+  where
+    go : (o : Option NamedImage) → AllDistinct (pids (start_processes images (n + 1) more)) → AllDistinct (pids (start_if n number o ++ start_processes images (n + 1) more))
+    go None k = k
+    go (Some named) k = (absent_started images more n (n + 1) (omega arith), k)
+
+below_started : (images : List NamedImage) (first : List ℕ) (n end : ℕ) → n + length first ≤ end → AllBelow end (pids (start_processes images n first))
+below_started images [] n end room = tt
+below_started images (number ∷ more) n end room = go (image_numbered images number) (below_started images more (n + 1) end (omega (arith, room)))
+  where
+    go : (o : Option NamedImage) → AllBelow end (pids (start_processes images (n + 1) more)) → AllBelow end (pids (start_if n number o ++ start_processes images (n + 1) more))
+    go None k = k
+    go (Some named) k = (omega (arith, room), k)
+
+-- a first process has a space of its own number
+same_sids : (images : List NamedImage) (first : List ℕ) (n : ℕ) → map (λ (s : Space). s.sid) (flat_map (λ (q : Process). space_held q.holding) (start_processes images n first)) ≡ pids (start_processes images n first)
+same_sids images [] n = refl
+same_sids images (number ∷ more) n = go (image_numbered images number) (same_sids images more (n + 1))
+  where
+    go : (o : Option NamedImage) → map (λ (s : Space). s.sid) (flat_map (λ (q : Process). space_held q.holding) (start_processes images (n + 1) more)) ≡ pids (start_processes images (n + 1) more)
+        → map (λ (s : Space). s.sid) (flat_map (λ (q : Process). space_held q.holding) (start_if n number o ++ start_processes images (n + 1) more)) ≡ pids (start_if n number o ++ start_processes images (n + 1) more)
+    go None k = k
+    go (Some named) k = ap (λ (ns : List ℕ). n ∷ ns) k
+
+lower_started : (images : List NamedImage) (first : List ℕ) (n : ℕ) → 0 < n → AllLower (start_processes images n first)
+lower_started images [] n some = tt
+lower_started images (number ∷ more) n some = go (image_numbered images number) (lower_started images more (n + 1) (omega arith))
+  where
+    go : (o : Option NamedImage) → AllLower (start_processes images (n + 1) more) → AllLower (start_if n number o ++ start_processes images (n + 1) more)
+    go None k = k
+    go (Some named) k = (some, k)
+
+pub start_numbered : (A : Inputs) → IsNumbered (start_state A)
+start_numbered A =
+    let own : AllDistinct (pids (start_processes A.images 1 A.first)) = distinct_started A.images A.first 1 in
+    let below : AllBelow (length A.first + 1) (pids (start_processes A.images 1 A.first)) = below_started A.images A.first 1 (length A.first + 1) (omega arith) in
+    let same = same_sids A.images A.first 1 in
+    record {
+      pids = own;
+      sids = subst (λ (ns : List ℕ). AllDistinct ns) (sym same) own;
+      pids_below = below;
+      sids_below = subst (λ (ns : List ℕ). AllBelow (length A.first + 1) ns) (sym same) below;
+      parents = lower_started A.images A.first 1 (omega arith);
+    }
+
+-- Runs.
+
+behind_numbered : (point : Point) (after : FlatState) (es : List Entry) → IsNumbered point.flat → IsNumbered after → IsNumbered (behind point after es).flat
+behind_numbered point after [] h k = h
+behind_numbered point after (e ∷ []) h k = k
+behind_numbered point after (e ∷ f ∷ es) h k = h
+
+where_numbered : (b : Bool) (p q : Point) → where_so b p ≡ Some q → IsNumbered p.flat → IsNumbered q.flat
+where_numbered true p q e h = let same : p ≡ q = cc in subst (λ (x : Point). IsNumbered x.flat) same h
+where_numbered false p q e h = absurd cc
+
+of_numbered : (A : Inputs) (point q : Point) (pid : ℕ) (e : Entry) → flat_entry_of A point pid e ≡ Some q → IsNumbered point.flat → IsNumbered q.flat
+of_numbered A point q pid (Refused p) h k = where_numbered (can_step point.flat pid) (record point { last = Some (Refused p) }) q h k
+of_numbered A point q pid e h k =
+    where_numbered (same_as (act A point pid) e) (point_after A point pid) q h
+    (behind_numbered point (step_at A point pid).after (due_at A point pid) k (step_numbered A point.flat pid (Rattle.flat_model.specs.Run.is_refused point.last pid) k))
+
+if_numbered : (b : Bool) (A : Inputs) (point q : Point) (pid : ℕ) (e : Entry) → flat_entry_if b A point pid e ≡ Some q → IsNumbered point.flat → IsNumbered q.flat
+if_numbered true A point q pid e h k = of_numbered A point q pid e h k
+if_numbered false A point q pid e h k = absurd cc
+
+by_numbered : (A : Inputs) (point q : Point) (o : Option ℕ) (e : Entry) → flat_entry_by A point o e ≡ Some q → IsNumbered point.flat → IsNumbered q.flat
+by_numbered A point q None e h k = where_numbered true point q h k
+by_numbered A point q (Some pid) e h k = if_numbered (may_follow point.last e) A point q pid e h k
+
+entry_numbered : (A : Inputs) (point q : Point) (e : Entry) → flat_entry A point e ≡ Some q → IsNumbered point.flat → IsNumbered q.flat
+unfolding flat_entry
+entry_numbered A point q e h k = by_numbered A point q (process_of_entry e) e h k
+
+units_numbered : (A : Inputs) (us : List Entry) (point q : Point) → flat_units A (Some point) us ≡ Some q → IsNumbered point.flat → IsNumbered q.flat
+unfolding flat_units
+units_numbered A [] point q h k = where_numbered true point q h k
+units_numbered A (u ∷ us) point q h k = go (λ next l m. units_numbered A us next q l m) (flat_entry A point u) refl h
+  where
+    go : ((next : Point) → flat_units A (Some next) us ≡ Some q → IsNumbered next.flat → IsNumbered q.flat) → (o : Option Point) → flat_entry A point u ≡ o → flat_units A o us ≡ Some q → IsNumbered q.flat
+    go later None e l = absurd cc
+    go later (Some next) e l = later next l (entry_numbered A point next u e k)
+
+pub run_numbered : (A : Inputs) (journal : List Entry) (point : Point) → flat_run A journal ≡ Some point → IsNumbered point.flat
+run_numbered A journal point h = units_numbered A (units_of journal) (start_point A) point h (start_numbered A)
