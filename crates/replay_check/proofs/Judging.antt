@@ -1,17 +1,24 @@
--- Entries that the judge judges.
-use Rattle.std.proofs.Common.{◌≡◌, ℕ, ◌==◌, Bool, true, false, ◌&&◌, List, [], ◌∷◌, Option, Some, None, refl, sym, ap, ◌∙◌, subst, eq-eqb}
+-- Where the judge stands, and which entries follow there.
+use Rattle.std.proofs.Common.{◌≡◌, ℕ, ◌==◌, Bool, true, false, List, [], ◌∷◌, Option, Some, None, refl, sym, ap, ◌∙◌, subst, eq-eqb, arith}
+use Rattle.std.specs.Prelude.{if◌then◌else◌}
+use Rattle.std.proofs.lemmas.Bool.Decides.{nat_tests}
 use Rattle.vm_facts.specs.Flat.{FlatState}
+use Rattle.vm_facts.specs.declared.regs.Regs.{Regs}
 use Rattle.vm_facts.specs.declared.entry.Entry.{Entry}
 use Rattle.vm_facts.specs.declared.entry.Entry.TheVariants as entries
 use Rattle.page_model.specs.Flat.{Inputs, can_step}
-use Rattle.flat_model.specs.Step.{Step, flat_step}
-use Rattle.flat_model.specs.Run.{Point, flat_entry, flat_entry_if, where_so, same_as, act, first_if, due, due_at, is_refused, step_at, point_after, behind, may_follow}
+use Rattle.flat_model.specs.declared.calls.SystemCall.{SystemCall}
+use Rattle.flat_model.specs.Step.{Step, flat_step, call_entry}
+use Rattle.flat_model.specs.Run.{Point, flat_entry, flat_entry_by, flat_entry_of, flat_entry_if, where_so, same_as, same_entry, act, first_if, due, due_at, is_refused, step_at, point_after, behind, may_follow, is_outcome_of, is_call_of, process_of_entry}
 use Rattle.replay_check.specs.declared.deed.Did.{Did}
 use Rattle.replay_check.specs.declared.deed.Did.TheVariants as deeds
 use Rattle.replay_check.specs.declared.replaying.Last.{Last}
 use Rattle.replay_check.specs.declared.replaying.Last.TheVariants as lasts
 use Rattle.replay_check.specs.Machine.{entries_of}
-use Rattle.replay_check.specs.Judging.{state_if, entries_if, is_other, begins, IsFree, IsAt, IsVerdict}
+use Rattle.replay_check.specs.Judging.{state_if, entries_if, is_other, refused_in, begins, IsFree, IsAt, IsVerdict}
+
+pub self : (n : ℕ) → (n == n) ≡ true
+self n = eq-eqb n n refl
 
 free_last : (o : Option Entry) (pid : ℕ) (es : List Entry) (e : Entry) → IsFree o → (is_refused o pid ≡ false) × (due o pid es ≡ es) × (may_follow o e ≡ true)
 free_last None pid es e free = (refl, refl, refl)
@@ -35,46 +42,102 @@ free_last (Some (entries.SwapOut x0)) pid es e free = (refl, refl, refl)
 free_last (Some (entries.SwapIn x0)) pid es e free = (refl, refl, refl)
 free_last (Some (entries.Owners x0 x1 x2 x3)) pid es e free = (refl, refl, refl)
 
--- where no step is begun, an entry follows that is the first of the process's step
-follows : (A : Inputs) (point : Point) (F : FlatState) (pid : ℕ) (e : Entry) → point.flat ≡ F → IsFree point.last
-    → flat_entry_if (may_follow point.last e) A point pid e ≡ flat_entry_if true A point pid e
-follows A point F pid e flat free =
-    ap (λ (b : Bool). flat_entry_if b A point pid e) (free_last point.last pid [] e free).2
+-- Where the judge stands.
 
-made : (A : Inputs) (point : Point) (F : FlatState) (pid : ℕ) (e : Entry) → point.flat ≡ F → IsFree point.last
-    → where_so (same_as (act A point pid) e) (point_after A point pid)
-    ≡ where_so (same_as (first_if (can_step F pid) (flat_step A F pid false).entries) e) (behind point (flat_step A F pid false).after (flat_step A F pid false).entries)
-made A point F pid e flat free =
-    let step : step_at A point pid ≡ flat_step A F pid false =
-    ap (λ (b : Bool). flat_step A point.flat pid b) (free_last point.last pid [] e free).0 ∙ ap (λ (G : FlatState). flat_step A G pid false) flat in
-    let es : due_at A point pid ≡ (flat_step A F pid false).entries =
-    (free_last point.last pid (step_at A point pid).entries e free).1 ∙ ap (λ (s : Step). s.entries) step in
-    ap (λ (G : FlatState). where_so (same_as (first_if (can_step G pid) (due_at A point pid)) e) (point_after A point pid)) flat
-    ∙ ap (λ (xs : List Entry). where_so (same_as (first_if (can_step F pid) xs) e) (behind point (step_at A point pid).after xs)) es
-    ∙ ap (λ (s : Step). where_so (same_as (first_if (can_step F pid) (flat_step A F pid false).entries) e) (behind point s.after (flat_step A F pid false).entries)) step
+-- the process begins a step at this point, its pieces refused or not
+pub record Opens (F : FlatState) (pid : ℕ) (refused : Bool) (point : Point) : Type 0 where
+  pub flat : point.flat ≡ F
+  pub refuses : is_refused point.last pid ≡ refused
+  pub whole : (es : List Entry) → due point.last pid es ≡ es
 
-self : (n : ℕ) → (n == n) ≡ true
-self n = eq-eqb n n refl
+free_opens : (F : FlatState) (pid : ℕ) (point : Point) → point.flat ≡ F → IsFree point.last → Opens F pid false point
+free_opens F pid point flat free = record {
+  flat = flat;
+  refuses = (free_last point.last pid [] entries.Done free).0;
+  whole = λ es. (free_last point.last pid es entries.Done free).1;
+}
 
-pub grown_begins : (pid grown pages : ℕ) → (grown == pages) ≡ begins pid (deeds.Grew grown) (entries.Grew pid pages)
-grown_begins pid grown pages = sym (ap (λ (b : Bool). b && grown == pages) (self pid))
+refused_opens : (F : FlatState) (pid : ℕ) (point : Point) → point.flat ≡ F → point.last ≡ Some (entries.Refused pid) → Opens F pid true point
+refused_opens F pid point flat last = record {
+  flat = flat;
+  refuses = ap (λ (o : Option Entry). is_refused o pid) last ∙ self pid;
+  whole = λ es. ap (λ (o : Option Entry). due o pid es) last;
+}
 
-grown_verdict : (A : Inputs) (point : Point) (pid pages : ℕ) (did : Did) (F : FlatState) (b : Bool) → b ≡ begins pid did (entries.Grew pid pages)
-    → IsVerdict A b F lasts.Other (where_so (same_as (first_if true (entries_of pid did)) (entries.Grew pid pages)) (behind point F (entries_of pid did)))
-grown_verdict A point pid pages deeds.Nothing F b e = rw e tt
-grown_verdict A point pid pages deeds.Ran F b e = rw e tt
-grown_verdict A point pid pages (deeds.Grew grown) F b e = go b (grown == pages) (e ∙ sym (grown_begins pid grown pages)) (sym (grown_begins pid grown pages))
+-- where no step is begun, an entry may follow
+pub free_at : (A : Inputs) (F : FlatState) (last : Last) (pid : ℕ) (e : Entry) (point : Point) → is_other last ≡ true → IsAt A F last point
+    → Opens F pid false point × (may_follow point.last e ≡ true)
+free_at A F lasts.Other pid e point other at = (free_opens F pid point at.0 at.1, (free_last point.last pid [] e at.1).2)
+free_at A F (lasts.Refused q) pid e point other at = absurd cc
+free_at A F (lasts.Wrote q call regs) pid e point other at = absurd cc
+
+-- where its pieces found no place too, the outcome of a process may follow
+pub open_at : (A : Inputs) (F : FlatState) (last : Last) (pid : ℕ) (refused : Bool) (e : Entry) (point : Point) → refused_in pid last ≡ Some refused → IsAt A F last point
+    → is_outcome_of pid e ≡ true → Opens F pid refused point × (may_follow point.last e ≡ true)
+open_at A F lasts.Other pid refused e point taken at outcome =
+    let is : false ≡ refused = cc in
+    subst (λ (b : Bool). Opens F pid b point × (may_follow point.last e ≡ true)) is (free_opens F pid point at.0 at.1, (free_last point.last pid [] e at.1).2)
+open_at A F (lasts.Refused q) pid refused e point taken at outcome = go (q == pid) refl taken
   where
-    go : (b c : Bool) → b ≡ c → begins pid (deeds.Grew grown) (entries.Grew pid pages) ≡ c → IsVerdict A b F lasts.Other (where_so (begins pid (deeds.Grew grown) (entries.Grew pid pages)) (behind point F (entries_of pid (deeds.Grew grown))))
-    go true true k l = rw l (refl, tt)
-    go false false k l = rw l tt
-    go true false k l = absurd cc
-    go false true k l = absurd cc
-grown_verdict A point pid pages (deeds.Replied call regs) F b e = rw e tt
-grown_verdict A point pid pages (deeds.Wrote call [] regs) F b e = rw e tt
-grown_verdict A point pid pages (deeds.Wrote call (x ∷ xs) regs) F b e = rw e tt
-grown_verdict A point pid pages deeds.Slept F b e = rw e tt
-grown_verdict A point pid pages (deeds.Ended status) F b e = rw e tt
+    go : (b : Bool) → (q == pid) ≡ b → (if b then Some true else None) ≡ Some refused → Opens F pid refused point × (may_follow point.last e ≡ true)
+    go false k t = absurd cc
+    go true k t =
+        let same : q ≡ pid = grind (arith, nat_tests) in
+        let is : true ≡ refused = cc in
+        let last : point.last ≡ Some (entries.Refused pid) = at.1 ∙ ap (λ (n : ℕ). Some (entries.Refused n)) same in
+        subst (λ (b : Bool). Opens F pid b point × (may_follow point.last e ≡ true)) is
+        (refused_opens F pid point at.0 last, ap (λ (o : Option Entry). may_follow o e) last ∙ outcome)
+open_at A F (lasts.Wrote q call regs) pid refused e point taken at outcome = absurd cc
+
+-- where a step is begun, only an outcome may follow
+pub busy_at : (A : Inputs) (F : FlatState) (last : Last) (e : Entry) (point : Point) → is_other last ≡ false → IsAt A F last point
+    → ((q : ℕ) → is_outcome_of q e ≡ false) → ((q : ℕ) → is_call_of q e ≡ false) → may_follow point.last e ≡ false
+busy_at A F lasts.Other e point other at outcome call = absurd cc
+busy_at A F (lasts.Refused q) e point other at outcome call = ap (λ (o : Option Entry). may_follow o e) at.1 ∙ outcome q
+busy_at A F (lasts.Wrote q number regs) e point other at outcome call = ap (λ (o : Option Entry). may_follow o e) at.out ∙ call q
+
+-- where another step is begun, no outcome may follow
+pub shut_at : (A : Inputs) (F : FlatState) (last : Last) (pid : ℕ) (e : Entry) (point : Point) → refused_in pid last ≡ None → IsAt A F last point
+    → ((q : ℕ) → is_outcome_of q e ≡ (pid == q)) → ((q : ℕ) (call : SystemCall) (regs : Regs) → last ≡ lasts.Wrote q call regs → is_call_of q e ≡ false)
+    → may_follow point.last e ≡ false
+shut_at A F lasts.Other pid e point taken at outcome call = absurd cc
+shut_at A F (lasts.Refused q) pid e point taken at outcome call = go (q == pid) refl taken
+  where
+    go : (b : Bool) → (q == pid) ≡ b → (if b then Some true else None) ≡ None → may_follow point.last e ≡ false
+    go true k t = absurd cc
+    go false k t =
+        let other : (pid == q) ≡ false = grind (arith, nat_tests) in
+        ap (λ (o : Option Entry). may_follow o e) at.1 ∙ outcome q ∙ other
+shut_at A F (lasts.Wrote q number regs) pid e point taken at outcome call = ap (λ (o : Option Entry). may_follow o e) at.out ∙ call q number regs refl
+
+-- What follows there.
+
+-- an entry of a step of this process
+pub record IsOf (pid : ℕ) (e : Entry) : Type 0 where
+  pub owner : process_of_entry e ≡ Some pid
+  pub made : (A : Inputs) (point : Point) → flat_entry_of A point pid e ≡ where_so (same_as (act A point pid) e) (point_after A point pid)
+
+pub followed : (A : Inputs) (point : Point) (pid : ℕ) (e : Entry) (may : Bool) → process_of_entry e ≡ Some pid → may_follow point.last e ≡ may
+    → flat_entry A point e ≡ flat_entry_if may A point pid e
+unfolding flat_entry
+followed A point pid e may owner follows =
+    ap (λ (o : Option ℕ). flat_entry_by A point o e) owner ∙ ap (λ (b : Bool). flat_entry_if b A point pid e) follows
+
+-- an entry that may not follow is none
+pub blocked : (A : Inputs) (point : Point) (G : FlatState) (new : Last) (pid : ℕ) (e : Entry) → process_of_entry e ≡ Some pid → may_follow point.last e ≡ false
+    → IsVerdict A false G new (flat_entry A point e)
+blocked A point G new pid e owner follows = subst (λ (o : Option Point). IsVerdict A false G new o) (sym (followed A point pid e false owner follows)) tt
+
+made : (A : Inputs) (point : Point) (F : FlatState) (pid : ℕ) (refused : Bool) (e : Entry) → Opens F pid refused point
+    → where_so (same_as (act A point pid) e) (point_after A point pid)
+    ≡ where_so (same_as (first_if (can_step F pid) (flat_step A F pid refused).entries) e) (behind point (flat_step A F pid refused).after (flat_step A F pid refused).entries)
+made A point F pid refused e opens =
+    let step : step_at A point pid ≡ flat_step A F pid refused =
+    ap (λ (b : Bool). flat_step A point.flat pid b) opens.refuses ∙ ap (λ (G : FlatState). flat_step A G pid refused) opens.flat in
+    let es : due_at A point pid ≡ (flat_step A F pid refused).entries = opens.whole (step_at A point pid).entries ∙ ap (λ (s : Step). s.entries) step in
+    ap (λ (G : FlatState). where_so (same_as (first_if (can_step G pid) (due_at A point pid)) e) (point_after A point pid)) opens.flat
+    ∙ ap (λ (xs : List Entry). where_so (same_as (first_if (can_step F pid) xs) e) (behind point (step_at A point pid).after xs)) es
+    ∙ ap (λ (s : Step). where_so (same_as (first_if (can_step F pid) (flat_step A F pid refused).entries) e) (behind point s.after (flat_step A F pid refused).entries)) step
 
 if_made : (point : Point) (F : FlatState) (c : Bool) (step : Step) (e : Entry)
     → where_so (same_as (first_if c step.entries) e) (behind point step.after step.entries) ≡ where_so (same_as (first_if true (entries_if c step)) e) (behind point (state_if c F step) (entries_if c step))
@@ -82,91 +145,37 @@ if_made point F true step e = refl
 if_made point F false step e = refl
 
 -- what a process did begins with an entry, where that entry follows
-entry_of : (A : Inputs) (point : Point) (F G : FlatState) (pid : ℕ) (e : Entry) (did : Did) → point.flat ≡ F → IsFree point.last
-    → entries_of pid did ≡ entries_if (can_step F pid) (flat_step A F pid false) → G ≡ state_if (can_step F pid) F (flat_step A F pid false)
-    → flat_entry_if true A point pid e ≡ where_so (same_as (act A point pid) e) (point_after A point pid)
-    → flat_entry_if (may_follow point.last e) A point pid e ≡ where_so (begins pid did e) (behind point G (entries_of pid did))
-entry_of A point F G pid e did flat free es after is =
-    follows A point F pid e flat free ∙ is ∙ made A point F pid e flat free ∙ if_made point F (can_step F pid) (flat_step A F pid false) e
-    ∙ sym (ap (λ (H : FlatState). where_so (same_as (first_if true (entries_if (can_step F pid) (flat_step A F pid false))) e) (behind point H (entries_if (can_step F pid) (flat_step A F pid false)))) after)
+pub entry_of : (A : Inputs) (point : Point) (F G : FlatState) (pid : ℕ) (refused : Bool) (e : Entry) (did : Did) → Opens F pid refused point × (may_follow point.last e ≡ true) → IsOf pid e
+    → entries_of pid did ≡ entries_if (can_step F pid) (flat_step A F pid refused) → G ≡ state_if (can_step F pid) F (flat_step A F pid refused)
+    → flat_entry A point e ≡ where_so (begins pid did e) (behind point G (entries_of pid did))
+entry_of A point F G pid refused e did opens of es after =
+    followed A point pid e true of.owner opens.1 ∙ of.made A point ∙ made A point F pid refused e opens.0 ∙ if_made point F (can_step F pid) (flat_step A F pid refused) e
+    ∙ sym (ap (λ (H : FlatState). where_so (same_as (first_if true (entries_if (can_step F pid) (flat_step A F pid refused))) e) (behind point H (entries_if (can_step F pid) (flat_step A F pid refused)))) after)
     ∙ sym (ap (λ (xs : List Entry). where_so (same_as (first_if true xs) e) (behind point G xs)) es)
 
-pub grown_at : (A : Inputs) (point : Point) (F G : FlatState) (last new : Last) (pid pages : ℕ) (did : Did) (b : Bool) → is_other last ≡ true → new ≡ last → IsAt A F last point
-    → entries_of pid did ≡ entries_if (can_step F pid) (flat_step A F pid false) → G ≡ state_if (can_step F pid) F (flat_step A F pid false)
-    → b ≡ begins pid did (entries.Grew pid pages)
-    → IsVerdict A b G new (flat_entry A point (entries.Grew pid pages))
-unfolding flat_entry
-grown_at A point F G lasts.Other new pid pages did b other same at es after is =
-    subst (λ (l : Last). IsVerdict A b G l (flat_entry_if (may_follow point.last (entries.Grew pid pages)) A point pid (entries.Grew pid pages))) (sym same)
-    (subst (λ (o : Option Point). IsVerdict A b G lasts.Other o) (sym (entry_of A point F G pid (entries.Grew pid pages) did at.0 at.1 es after refl))
-    (grown_verdict A point pid pages did G b is))
-grown_at A point F G (lasts.Refused q) new pid pages did b other same at es after is = absurd cc
-grown_at A point F G (lasts.Wrote q call regs) new pid pages did b other same at es after is = absurd cc
+-- the verdict on the last entry of a step
+pub last_verdict : (A : Inputs) (F : FlatState) (x : Entry) (b c : Bool) → IsFree (Some x) → b ≡ c → IsVerdict A b F lasts.Other (where_so c (record { flat = F; last = Some x }))
+last_verdict A F x true true free k = (refl, free)
+last_verdict A F x false false free k = tt
+last_verdict A F x true false free k = absurd cc
+last_verdict A F x false true free k = absurd cc
 
-pub grown_busy : (A : Inputs) (point : Point) (F G : FlatState) (last new : Last) (pid pages : ℕ) → is_other last ≡ false → IsAt A F last point
-    → IsVerdict A false G new (flat_entry A point (entries.Grew pid pages))
-unfolding flat_entry
-grown_busy A point F G lasts.Other new pid pages other at = absurd cc
-grown_busy A point F G (lasts.Refused q) new pid pages other at =
-    subst (λ (o : Option Entry). IsVerdict A false G new (flat_entry_if (may_follow o (entries.Grew pid pages)) A point pid (entries.Grew pid pages))) (sym at.1) tt
-grown_busy A point F G (lasts.Wrote q call regs) new pid pages other at =
-    subst (λ (o : Option Entry). IsVerdict A false G new (flat_entry_if (may_follow o (entries.Grew pid pages)) A point pid (entries.Grew pid pages))) (sym at.out) tt
+-- the verdict on an entry that isn't bytes, by what the process did
+sole_verdict : (A : Inputs) (point : Point) (pid : ℕ) (e : Entry) (did : Did) (F : FlatState) (b : Bool) → ((bytes : List ℕ) → same_entry (entries.Out pid bytes) e ≡ false) → b ≡ begins pid did e
+    → IsVerdict A b F lasts.Other (where_so (begins pid did e) (behind point F (entries_of pid did)))
+sole_verdict A point pid e deeds.Nothing F b sole is = rw is tt
+sole_verdict A point pid e deeds.Ran F b sole is = last_verdict A F (entries.Ran pid 1) b (begins pid deeds.Ran e) tt is
+sole_verdict A point pid e (deeds.Grew grown) F b sole is = last_verdict A F (entries.Grew pid grown) b (begins pid (deeds.Grew grown) e) tt is
+sole_verdict A point pid e (deeds.Replied call regs) F b sole is = last_verdict A F (call_entry pid call regs) b (begins pid (deeds.Replied call regs) e) tt is
+sole_verdict A point pid e (deeds.Wrote call [] regs) F b sole is = last_verdict A F (call_entry pid call regs) b (begins pid (deeds.Wrote call [] regs) e) tt is
+sole_verdict A point pid e (deeds.Wrote call (x ∷ xs) regs) F b sole is = rw (is ∙ sole (x ∷ xs), sole (x ∷ xs)) tt
+sole_verdict A point pid e deeds.Slept F b sole is = last_verdict A F (entries.Sleeps pid) b (begins pid deeds.Slept e) tt is
+sole_verdict A point pid e (deeds.Ended status) F b sole is = last_verdict A F (entries.Ended pid status) b (begins pid (deeds.Ended status) e) tt is
 
-pub slept_begins : (pid : ℕ) → true ≡ begins pid deeds.Slept (entries.Sleeps pid)
-slept_begins pid = sym (self pid)
-
-slept_verdict : (A : Inputs) (point : Point) (pid : ℕ) (did : Did) (F : FlatState) (b : Bool) → b ≡ begins pid did (entries.Sleeps pid)
-    → IsVerdict A b F lasts.Other (where_so (same_as (first_if true (entries_of pid did)) (entries.Sleeps pid)) (behind point F (entries_of pid did)))
-slept_verdict A point pid deeds.Nothing F b e = rw e tt
-slept_verdict A point pid deeds.Ran F b e = rw e tt
-slept_verdict A point pid (deeds.Grew grown) F b e = rw e tt
-slept_verdict A point pid (deeds.Replied call regs) F b e = rw e tt
-slept_verdict A point pid (deeds.Wrote call [] regs) F b e = rw e tt
-slept_verdict A point pid (deeds.Wrote call (x ∷ xs) regs) F b e = rw e tt
-slept_verdict A point pid deeds.Slept F b e = rw (e ∙ self pid, self pid) (refl, tt)
-slept_verdict A point pid (deeds.Ended status) F b e = rw e tt
-
-pub slept_at : (A : Inputs) (point : Point) (F G : FlatState) (last new : Last) (pid : ℕ) (did : Did) (b : Bool) → is_other last ≡ true → new ≡ last → IsAt A F last point
-    → entries_of pid did ≡ entries_if (can_step F pid) (flat_step A F pid false) → G ≡ state_if (can_step F pid) F (flat_step A F pid false)
-    → b ≡ begins pid did (entries.Sleeps pid)
-    → IsVerdict A b G new (flat_entry A point (entries.Sleeps pid))
-unfolding flat_entry
-slept_at A point F G lasts.Other new pid did b other same at es after is =
-    subst (λ (l : Last). IsVerdict A b G l (flat_entry_if (may_follow point.last (entries.Sleeps pid)) A point pid (entries.Sleeps pid))) (sym same)
-    (subst (λ (o : Option Point). IsVerdict A b G lasts.Other o) (sym (entry_of A point F G pid (entries.Sleeps pid) did at.0 at.1 es after refl))
-    (slept_verdict A point pid did G b is))
-slept_at A point F G (lasts.Refused q) new pid did b other same at es after is = absurd cc
-slept_at A point F G (lasts.Wrote q call regs) new pid did b other same at es after is = absurd cc
-
-pub slept_busy : (A : Inputs) (point : Point) (F G : FlatState) (last new : Last) (pid : ℕ) → is_other last ≡ false → IsAt A F last point
-    → IsVerdict A false G new (flat_entry A point (entries.Sleeps pid))
-unfolding flat_entry
-slept_busy A point F G lasts.Other new pid other at = absurd cc
-slept_busy A point F G (lasts.Refused q) new pid other at =
-    subst (λ (o : Option Entry). IsVerdict A false G new (flat_entry_if (may_follow o (entries.Sleeps pid)) A point pid (entries.Sleeps pid))) (sym at.1) tt
-slept_busy A point F G (lasts.Wrote q call regs) new pid other at =
-    subst (λ (o : Option Entry). IsVerdict A false G new (flat_entry_if (may_follow o (entries.Sleeps pid)) A point pid (entries.Sleeps pid))) (sym at.out) tt
-
-pub refused_at : (A : Inputs) (point : Point) (F : FlatState) (last : Last) (pid : ℕ) (b : Bool) → is_other last ≡ true → IsAt A F last point → b ≡ can_step F pid
-    → IsVerdict A b F (lasts.Refused pid) (flat_entry A point (entries.Refused pid))
-unfolding flat_entry
-refused_at A point F lasts.Other pid b other at is =
-    subst (λ (o : Option Point). IsVerdict A b F (lasts.Refused pid) o) (sym (follows A point F pid (entries.Refused pid) at.0 at.1))
-    (go b (can_step point.flat pid) (is ∙ sym (ap (λ (G : FlatState). can_step G pid) at.0)))
-  where
-    go : (b c : Bool) → b ≡ c → IsVerdict A b F (lasts.Refused pid) (where_so c (record point { last = Some (entries.Refused pid) }))
-    go true true k = (at.0, refl)
-    go false false k = tt
-    go true false k = absurd cc
-    go false true k = absurd cc
-refused_at A point F (lasts.Refused q) pid b other at is = absurd cc
-refused_at A point F (lasts.Wrote q call regs) pid b other at is = absurd cc
-
-pub refused_busy : (A : Inputs) (point : Point) (F G : FlatState) (last new : Last) (pid : ℕ) → is_other last ≡ false → IsAt A F last point
-    → IsVerdict A false G new (flat_entry A point (entries.Refused pid))
-unfolding flat_entry
-refused_busy A point F G lasts.Other new pid other at = absurd cc
-refused_busy A point F G (lasts.Refused q) new pid other at =
-    subst (λ (o : Option Entry). IsVerdict A false G new (flat_entry_if (may_follow o (entries.Refused pid)) A point pid (entries.Refused pid))) (sym at.1) tt
-refused_busy A point F G (lasts.Wrote q call regs) new pid other at =
-    subst (λ (o : Option Entry). IsVerdict A false G new (flat_entry_if (may_follow o (entries.Refused pid)) A point pid (entries.Refused pid))) (sym at.out) tt
+pub sole_at : (A : Inputs) (point : Point) (F G : FlatState) (new : Last) (pid : ℕ) (refused : Bool) (e : Entry) (did : Did) (b : Bool) → Opens F pid refused point × (may_follow point.last e ≡ true) → IsOf pid e
+    → ((bytes : List ℕ) → same_entry (entries.Out pid bytes) e ≡ false) → new ≡ lasts.Other
+    → entries_of pid did ≡ entries_if (can_step F pid) (flat_step A F pid refused) → G ≡ state_if (can_step F pid) F (flat_step A F pid refused) → b ≡ begins pid did e
+    → IsVerdict A b G new (flat_entry A point e)
+sole_at A point F G new pid refused e did b opens of sole other es after is =
+    subst (λ (l : Last). IsVerdict A b G l (flat_entry A point e)) (sym other)
+    (subst (λ (o : Option Point). IsVerdict A b G lasts.Other o) (sym (entry_of A point F G pid refused e did opens of es after)) (sole_verdict A point pid e did G b sole is))

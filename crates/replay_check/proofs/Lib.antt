@@ -5,3 +5,10 @@ pub mod Changing
 pub mod Short
 pub mod Stepping
 pub mod Judging
+pub mod JudgingGrowth
+pub mod JudgingOutcomes
+pub mod JudgingWrites
+pub mod Running
+pub mod Verdicts
+pub mod Paging
+pub mod Following

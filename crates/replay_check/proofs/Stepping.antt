@@ -62,7 +62,7 @@ by_call images F p s refused (Err (refusals.Below address)) number call deed rep
 by_call images F p s refused (Err (refusals.Signal other)) number call deed reply e one is does = absurd cc
 
 -- no access to a space misses
-space_hits : {A : Type 0} (s : Space) (p : Program A) (address : ℕ) (write : Bool) → run (answers_of s) p ≡ Err (refusals.Miss address write) → ⊥
+pub space_hits : {A : Type 0} (s : Space) (p : Program A) (address : ℕ) (write : Bool) → run (answers_of s) p ≡ Err (refusals.Miss address write) → ⊥
 space_hits s p address write e = let ends = (keeps_order (answers_of s) p).misses address write e in go ends.1 ends.4
   where
     by_read : (spot : Spot) (a : ℕ) → read_refusal (byte_at s spot) a ≡ Some (refusals.Miss address write) → ⊥

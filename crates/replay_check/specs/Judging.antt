@@ -1,15 +1,18 @@
 -- How the judge follows a run of the flat machine.
-use Rattle.std.specs.Prelude.{◌≡◌, ℕ, Bool, true, false, List, [], ◌∷◌, Option, Some, None}
+use Rattle.std.specs.Prelude.{◌≡◌, ℕ, ◌≤◌, ◌==◌, Bool, true, false, List, [], ◌∷◌, Option, Some, None, if◌then◌else◌}
 use Rattle.vm_facts.specs.Flat.{FlatState}
 use Rattle.vm_facts.specs.declared.entry.Entry.{Entry}
 use Rattle.vm_facts.specs.declared.entry.Entry.TheVariants as entries
 use Rattle.page_model.specs.Flat.{Inputs, can_step}
+use Rattle.page_model.specs.Journal.{instructions_of}
 use Rattle.flat_model.specs.Step.{Step, flat_step, call_entry}
-use Rattle.flat_model.specs.Run.{Point, same_as, first_if}
+use Rattle.flat_model.specs.Run.{Point, same_as, first_if, flat_run}
 use Rattle.replay_check.specs.declared.deed.Did.{Did}
+use Rattle.replay_check.specs.declared.deed.Did.TheVariants as deeds
 use Rattle.replay_check.specs.Machine.{entries_of}
 use Rattle.replay_check.specs.declared.replaying.Last.{Last}
 use Rattle.replay_check.specs.declared.replaying.Last.TheVariants as lasts
+use Rattle.replay_check.specs.Verdicts.{instruction_limit, is_run}
 
 -- the state after a step, where the process can make one
 abbrev pub state_if : Bool → FlatState → Step → FlatState
@@ -31,6 +34,17 @@ abbrev pub is_other : Last → Bool
 is_other lasts.Other = true
 is_other (lasts.Refused pid) = false
 is_other (lasts.Wrote pid call regs) = false
+
+-- whether the pieces of this process found no place; none behind bytes, or where another's found none
+abbrev pub refused_in : ℕ → Last → Option Bool
+refused_in pid lasts.Other = Some false
+refused_in pid (lasts.Refused p) = if p == pid then Some true else None
+refused_in pid (lasts.Wrote p call regs) = None
+
+-- what is to come behind the first entry of a step: the reply, where bytes were written
+abbrev pub last_behind : ℕ → Did → Last
+last_behind pid (deeds.Wrote call bytes regs) = lasts.Wrote pid call regs
+last_behind pid _ = lasts.Other
 
 -- a call of this process whose bytes are out, and whose reply is to come
 pub record IsWriting (A : Inputs) (F : FlatState) (pid : ℕ) (reply : Entry) (point : Point) : Type 0 where
@@ -56,3 +70,16 @@ IsVerdict A false F last None = Unit {0}
 -- the first entry of what a process did is this one
 abbrev pub begins : ℕ → Did → Entry → Bool
 begins pid did e = same_as (first_if true (entries_of pid did)) e
+
+-- the judge has taken these entries as a run: it stands at the point behind them, and has counted their instructions
+pub record HasTaken (A : Inputs) (F : FlatState) (last : Last) (count : ℕ) (journal : List Entry) : Type 0 where
+  pub point : Point
+  pub run : flat_run A journal ≡ Some point
+  pub at : IsAt A F last point
+  pub counts : count ≡ instructions_of journal
+  pub few : count ≤ instruction_limit
+
+-- whether it has taken them, or they are no run
+abbrev pub HasJudged : Inputs → Bool → FlatState → Last → ℕ → List Entry → Type 0
+HasJudged A true F last count journal = HasTaken A F last count journal
+HasJudged A false F last count journal = is_run A journal ≡ false

@@ -3,3 +3,5 @@ pub mod Machine
 pub mod Images
 pub mod Verdicts
 pub mod Judging
+pub mod Present
+pub mod Following

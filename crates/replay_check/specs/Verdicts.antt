@@ -1,5 +1,5 @@
 -- Which entries are no run, and which pages the instructions of a run touch.
-use Rattle.std.specs.Prelude.{ℕ, ◌+◌, nat_le, Bool, true, false, not, ◌&&◌, List, [], ◌∷◌, ◌++◌, length, take, find, is_some, Option, Some, None}
+use Rattle.std.specs.Prelude.{ℕ, ◌+◌, nat_le, Bool, not, ◌&&◌, List, [], ◌∷◌, ◌++◌, length, take, find, is_some, Option, Some, None}
 use Rattle.std.specs.List.{range_with_len}
 use Rattle.vm_facts.specs.declared.page.Page.{Page}
 use Rattle.vm_facts.specs.declared.entry.Entry.{Entry}
@@ -8,6 +8,8 @@ use Rattle.page_model.specs.Flat.{Inputs}
 use Rattle.page_model.specs.Journal.{units_of, instructions_of}
 use Rattle.flat_model.specs.Run.{Point, flat_entry, flat_run, start_point}
 use Rattle.flat_model.specs.Touched.{touched}
+use Rattle.replay_check.specs.declared.replaying.Verdict.{Verdict}
+use Rattle.replay_check.specs.declared.replaying.Verdict.TheVariants as verdicts
 
 -- the instructions that a transcript may have
 abbrev pub instruction_limit : ℕ
@@ -20,6 +22,11 @@ is_run A entries = is_some (flat_run A entries) && nat_le (instructions_of entri
 -- the least number of first entries that are no run; none where all are one
 abbrev pub first_bad : Inputs → List Entry → Option ℕ
 first_bad A entries = find (λ i. not (is_run A (take i entries))) (range_with_len 0 (length entries + 1))
+
+-- the verdict where so many first entries are no run and fewer are one, or where all are one
+abbrev pub verdict_of : Option ℕ → Verdict
+verdict_of None = verdicts.Run
+verdict_of (Some entries) = verdicts.BadEntry entries
 
 -- the pages that a unit touches, where it counts an instruction
 abbrev pub touched_by_unit : Inputs → Point → Entry → List Page

@@ -6,6 +6,8 @@ ghost use Rattle.page_model.specs.Flat.{NamedImage, image_numbered};
 ghost use Rattle.page_model.specs.Change.{is_zombie_child};
 ghost use Rattle.page_model.specs.Space.{answers_of};
 ghost use Rattle.flat_model.specs.Calls.{process_limit, replied, replied_both, child_by, break_reply, arguments_at, starts, path_image, string_from, string_limit, execve_of, execve_reply, wait_by, or_fault, wants_space, refused_reply, reply_of};
+ghost use Rattle.vm_facts.specs.Flat.{Space, Process as Record, FlatState};
+ghost use Rattle.replay_check.specs.Present.{refusal_of};
 ghost use Rattle.replay_check.specs.Images.{IsPathImage, with_number, CanChange, CanReply, CanAnswer};
 
 use crate::process::{Process, with_results};
@@ -18,7 +20,7 @@ use flat_model::{
 };
 use page_model::Change;
 use std::alloc::Global;
-use vm_facts::{NoMemory, Regs};
+use vm_facts::{Memory, NoMemory, Regs};
 
 /// R0 and the carry.
 #[tactic(auto, unfolding(user_vax::specs::Operands::with_register))]
@@ -152,18 +154,18 @@ pub fn refused_reply(refused: bool, reply: Reply) -> Reply
 
 // The image of this number, with the arguments at an address.
 #[tactic(auto, using(user_vax::proofs::Runs::run_bind))]
-fn start_image(
+fn start_image<M: Memory>(
     alloc: Global,
     programs: &[Program],
-    space: &FlatSpace,
+    memory: &M,
     image: u32,
     argv: u32,
 ) -> Result<Asked<Reply>, NoMemory>
     requires { IsSome (image_numbered programs.now image) }
-    ensures value { IfOk result (λ asked. asked ≡ run (answers_of space.now) (execve_of argv (with_number image (image_numbered programs.now image)))) }
+    ensures value { IfOk result (λ asked. asked ≡ run (M.answers memory.now) (execve_of argv (with_number image (image_numbered programs.now image)))) }
     ensures sound { IfOk result (CanAnswer programs.now) }
 {
-    match arguments_at(alloc, space, argv)? {
+    match arguments_at(alloc, memory, argv)? {
         Err(refused) => Ok(Err(refused)),
         Ok(None) => Ok(Ok(Reply::Fails(E2BIG))),
         Ok(Some(arguments)) => {
@@ -179,16 +181,16 @@ fn start_image(
 
 // The number of the image of the path at an address.
 #[tactic(auto, using(user_vax::proofs::Runs::run_bind))]
-fn path_image(
+fn path_image<M: Memory>(
     alloc: Global,
     programs: &[Program],
-    space: &FlatSpace,
+    memory: &M,
     path: u32,
 ) -> Result<Asked<Option<u32>>, NoMemory>
     requires { length programs.now < 2 ^ 31 }
-    ensures { IfOk result (λ asked. IsPathImage programs.now (run (answers_of space.now) (string_from string_limit path)) asked) }
+    ensures { IfOk result (λ asked. IsPathImage programs.now (run (M.answers memory.now) (string_from string_limit path)) asked) }
 {
-    match string_from(alloc, space, path)? {
+    match string_from(alloc, memory, path)? {
         Err(refused) => Ok(Err(refused)),
         Ok(None) => Ok(Ok(None)),
         Ok(Some(name)) => Ok(Ok(numbered(programs, name.as_slice()))),
@@ -196,23 +198,53 @@ fn path_image(
 }
 
 #[tactic(auto, using(user_vax::proofs::Runs::run_bind), unfolding(flat_model::specs::Calls::execve_reply))]
-fn execve_reply(
+fn execve_reply<M: Memory>(
     alloc: Global,
     programs: &[Program],
-    space: &FlatSpace,
+    memory: &M,
     regs: Regs,
 ) -> Result<Asked<Reply>, NoMemory>
     requires { length programs.now < 2 ^ 31 }
-    ensures value { IfOk result (λ asked. asked ≡ run (answers_of space.now) (execve_reply programs.now regs)) }
+    ensures value { IfOk result (λ asked. asked ≡ run (M.answers memory.now) (execve_reply programs.now regs)) }
     ensures sound { IfOk result (CanAnswer programs.now) }
 {
-    match three_arguments(space, regs) {
+    match three_arguments(memory, regs) {
         Err(refused) => Ok(Err(refused)),
-        Ok((path, argv, _)) => match path_image(alloc, programs, space, path)? {
+        Ok((path, argv, _)) => match path_image(alloc, programs, memory, path)? {
             Err(refused) => Ok(Err(refused)),
             Ok(None) => Ok(Ok(Reply::Fails(ENOENT))),
-            Ok(Some(image)) => start_image(alloc, programs, space, image, argv),
+            Ok(Some(image)) => start_image(alloc, programs, memory, image, argv),
         },
+    }
+}
+
+// How what is read of a value is refused, if it is.
+fn refusal_of<T: Drop>(asked: Asked<T>) -> Asked<()>
+    ensures { result ≡ refusal_of asked }
+{
+    match asked {
+        Ok(_) => Ok(()),
+        Err(refused) => Err(refused),
+    }
+}
+
+/// Reads what a call reads, and says how the first refused byte is refused.
+#[tactic(auto, using(crate::proofs::Paging::exit_reads, crate::proofs::Paging::break_reads), unfolding(flat_model::specs::Calls::reply_of))]
+pub fn read_by_call<M: Memory>(
+    alloc: Global,
+    programs: &[Program],
+    memory: &M,
+    call: SystemCall,
+    regs: Regs,
+) -> Result<Asked<()>, NoMemory>
+    requires { length programs.now < 2 ^ 31 }
+    ensures { (F : FlatState) (p : Record) (s : Space) → IfOk result (λ asked. asked ≡ refusal_of (run (M.answers memory.now) (reply_of programs.now F p s call regs))) }
+{
+    match call {
+        SystemCall::Exit | SystemCall::Break => Ok(refusal_of(argument(memory, regs, 1))),
+        SystemCall::Write => Ok(refusal_of(write_reply(alloc, memory, regs)?)),
+        SystemCall::Execve => Ok(refusal_of(execve_reply(alloc, programs, memory, regs)?)),
+        SystemCall::Fork | SystemCall::Getpid | SystemCall::Vfork | SystemCall::Wait => Ok(Ok(())),
     }
 }
 

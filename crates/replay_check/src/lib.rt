@@ -7,13 +7,16 @@
 pub mod calling;
 pub mod deed;
 pub mod machine;
+pub mod present;
 pub mod process;
 pub mod program;
 pub mod replaying;
 pub mod space;
+pub mod touching;
 
 pub use program::{Flat, are_images, are_numbers};
 pub use replaying::{Verdict, replay};
+pub use touching::references;
 
 #[cfg(test)]
 mod tests;

@@ -1,13 +1,14 @@
 ghost use Rattle.std.specs.Prelude.{◌≡◌, ℕ, ◌+◌, ◌-◌, ◌*◌, ◌/◌, ◌^◌, ◌<◌, ◌≤◌, ◌==◌, ◌++◌, ◌∷◌, [], List, Bool, true, false, not, length, map, filter, find, position, slice_set, slice_get, slice_index_or, Option, Some, None, IsSome, IfOk, IfSome, OnOk, IsTrue, All, Result, is_some};
 ghost use Rattle.vm_facts.specs.Flat.{Space, Holds, Lends, Zombie, Process as Record, FlatState};
 ghost use Rattle.page_model.specs.Space.{answers_of, stack_top};
-ghost use Rattle.page_model.specs.Flat.{NamedImage, Inputs, can_step, image_numbered, process_of, holds_space, space_with};
+ghost use Rattle.page_model.specs.Flat.{NamedImage, Inputs, can_step, image_numbered, process_of, holds_space, space_with, start_if, start_state};
 ghost use Rattle.page_model.specs.Change.{changed, resized, apply_change, forked, lent, entered, ended, given_back, returned, orphaned, woken, left, apply_writes, with_process, without_process, child_of, lends_to, is_zombie_child, without_parent, awake};
 ghost use Rattle.flat_model.specs.Step.{pages_down_to, data_pages_of, step_of, replied_step, flat_step};
 ghost use Rattle.user_vax.specs.Effects.{Effect};
 ghost use Rattle.user_vax.specs.declared.refused.Refused.{Refused};
 ghost use Rattle.user_vax.specs.Instruction.{writes_of, answer_of, registers_after};
 ghost use Rattle.flat_model.specs.Instruction.{instruction_in};
+ghost use Rattle.flat_model.specs.Touched.{touched_in, touched};
 ghost use Rattle.replay_check.specs.Images.{CanChange, CanReply};
 ghost use Rattle.replay_check.specs.Judging.{state_if, entries_if};
 ghost use Rattle.replay_check.specs.Machine.{IsPlace, process_at, space_at, space_in, holding_of, IsNear, IsNearStep, IsBehind, step_by, entries_of};
@@ -22,7 +23,7 @@ use page_model::{Change, PAGE, STACK_TOP};
 use std::alloc::Global;
 use std::marker::Model;
 use user_vax::Stepped;
-use vm_facts::{Bytes, NoMemory, Regs};
+use vm_facts::{Bytes, NoMemory, Page, Regs};
 
 /// The flat machine. Contracts see its processes by rising pid, and the numbers of the next process and the
 /// next space.
@@ -155,6 +156,7 @@ impl Machine {
     /// The machine at the start of a run, whose processes begin with these images.
     pub fn started(alloc: Global, programs: &[Program], first: &[u32]) -> Result<Machine, NoMemory>
         requires { All (λ number. IsSome (image_numbered programs.now number)) first.now }
+        ensures { (A : Inputs) → A.images ≡ programs.now → A.first ≡ first.now → IfOk result (λ machine. machine ≡ start_state A) }
     {
         let mut machine = Machine {
             list: Vec::new(alloc),
@@ -170,7 +172,9 @@ impl Machine {
 
     // Starts a first process, of the image of this number.
     fn start(&mut self, alloc: Global, programs: &[Program], number: u32) -> Result<(), NoMemory>
-        requires { IsSome (image_numbered programs.now number) }
+        requires image { IsSome (image_numbered programs.now number) }
+        requires numbers { self.old.next_sid ≡ self.old.next_pid }
+        ensures { OnOk result (self.new ≡ record { processes = self.old.processes ++ start_if self.old.next_pid number (image_numbered programs.now number); next_pid = self.old.next_pid + 1; next_sid = self.old.next_sid + 1 }) }
     {
         let program = program_at(programs, number);
         let Ok(name) = Vec::from_slice(alloc, program.name()) else {
@@ -473,6 +477,63 @@ impl Machine {
         ensures behind { IsBehind self.old (process_at self.old place) (space_at self.old place) (instruction_in (space_at self.old place) (process_at self.old place).regs) self.new place result.0 result.1 }
     {
         self.list[place].run()
+    }
+
+    // Runs the next instruction of the process at this place over its space, and answers with it the pages that the
+    // instruction and its call touch.
+    #[tactic(auto, using(crate::proofs::Stepping::behind_at, crate::proofs::Lists::with_at, crate::proofs::Changing::place_kept))]
+    fn run_touching(
+        &mut self,
+        alloc: Global,
+        programs: &[Program],
+        place: usize,
+    ) -> Result<(Stepped, Regs, Vec<Page>), NoMemory>
+        requires at { IsPlace self.old place }
+        requires few { length programs.now < 2 ^ 31 }
+        ensures near { IfOk result (λ ran. IsNearStep ran.0) }
+        ensures at { OnOk result (IsPlace self.new place) }
+        ensures behind { IfOk result (λ ran. IsBehind self.old (process_at self.old place) (space_at self.old place) (instruction_in (space_at self.old place) (process_at self.old place).regs) self.new place ran.0 ran.1) }
+        ensures pages { IfOk result (λ ran. ran.2.items ≡ touched_in programs.now self.old (process_at self.old place) (process_at self.old place).holding) }
+    {
+        self.list[place].run_touching(alloc, programs)
+    }
+
+    // The next step of the process at this place, and the pages that its instruction touches.
+    fn advance_touching(
+        &mut self,
+        alloc: Global,
+        programs: &[Program],
+        place: usize,
+        refused: bool,
+    ) -> Result<Vec<Page>, NoMemory>
+        requires at { IsPlace self.old place }
+        requires few { length programs.now < 2 ^ 31 }
+        ensures after { (A : Inputs) → A.images ≡ programs.now → OnOk result (self.new ≡ (flat_step A self.old (process_at self.old place).pid refused).after) }
+        ensures pages { IfOk result (λ pages. pages.items ≡ touched_in programs.now self.old (process_at self.old place) (process_at self.old place).holding) }
+    {
+        let (stepped, regs, pages) = self.run_touching(alloc, programs, place)?;
+        let deed = self.deed(alloc, programs, place, stepped, regs, refused)?;
+        self.change(alloc, programs, place, deed.regs, deed.change)?;
+        Ok(pages)
+    }
+
+    /// The next step of the process of this number, as `step` makes it, and the pages that its instruction touches.
+    #[tactic(auto, using(crate::proofs::Paging::touched_at, flat_model::proofs::Wanting::idle_touches))]
+    pub fn step_touching(
+        &mut self,
+        alloc: Global,
+        programs: &[Program],
+        pid: u32,
+        refused: bool,
+    ) -> Result<Vec<Page>, NoMemory>
+        requires { length programs.now < 2 ^ 31 }
+        ensures after { (A : Inputs) → A.images ≡ programs.now → OnOk result (self.new ≡ state_if (can_step self.old pid) self.old (flat_step A self.old pid refused)) }
+        ensures pages { (A : Inputs) → A.images ≡ programs.now → IfOk result (λ pages. pages.items ≡ touched A self.old pid) }
+    {
+        match self.ready_place(pid) {
+            None => Ok(Vec::new(alloc)),
+            Some(place) => self.advance_touching(alloc, programs, place, refused),
+        }
     }
 }
 

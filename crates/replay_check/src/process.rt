@@ -1,5 +1,6 @@
-ghost use Rattle.std.specs.Prelude.{◌≡◌, ℕ, Bool, true, false, ◌==◌, ◌≤◌, IsTrue, OnOk};
-ghost use Rattle.vm_facts.specs.Flat.{Holding, Holds, Lends, Zombie, Process as Record};
+ghost use Rattle.std.specs.Prelude.{◌≡◌, ℕ, Bool, true, false, ◌==◌, ◌≤◌, ◌<◌, ◌^◌, length, IsTrue, IfOk, OnOk};
+ghost use Rattle.vm_facts.specs.Flat.{Holding, Holds, Lends, Zombie, Process as Record, FlatState};
+ghost use Rattle.flat_model.specs.Touched.{touched_in};
 ghost use Rattle.user_vax.specs.Program.{run};
 ghost use Rattle.user_vax.specs.Instruction.{answer_of, registers_after, writes_of};
 ghost use Rattle.page_model.specs.Space.{puts};
@@ -9,10 +10,13 @@ ghost use Rattle.flat_model.specs.Calls.{status_of};
 ghost use Rattle.flat_model.specs.Instruction.{instruction_in};
 ghost use Rattle.replay_check.specs.Machine.{space_in, holding_of, IsNearStep};
 
+use crate::present::Paged;
+use crate::program::Program;
 use crate::space::FlatSpace;
+use std::alloc::Global;
 use std::marker::Model;
 use user_vax::{Stepped, step};
-use vm_facts::{NoMemory, Regs};
+use vm_facts::{NoMemory, Page, Regs};
 
 /// What a process has.
 #[derive(Drop)]
@@ -229,6 +233,35 @@ impl Process {
             Held::Space(space) => {
                 let stepped = step(&mut regs, space);
                 (stepped, regs)
+            }
+            Held::Lent { .. } | Held::Zombie(_) => unreachable!(),
+        }
+    }
+
+    /// Runs its next instruction over its space: what it came to, the registers that it left, and the pages that
+    /// it and its call touch. The process keeps the registers that it had.
+    #[tactic(auto, using(crate::proofs::Falling::near_step))]
+    pub fn run_touching(
+        &mut self,
+        alloc: Global,
+        programs: &[Program],
+    ) -> Result<(Stepped, Regs, Vec<Page>), NoMemory>
+        requires holds { IsTrue (holds_space self.old.holding) }
+        requires few { length programs.now < 2 ^ 31 }
+        ensures answer { IfOk result (λ ran. ran.0 ≡ answer_of (instruction_in (space_in self.old.holding) self.old.regs)) }
+        ensures near { IfOk result (λ ran. IsNearStep ran.0) }
+        ensures registers { IfOk result (λ ran. ran.1 ≡ registers_after self.old.regs (instruction_in (space_in self.old.holding) self.old.regs)) }
+        ensures after { OnOk result (self.new ≡ record self.old { holding = Holds (puts (space_in self.old.holding) (writes_of (instruction_in (space_in self.old.holding) self.old.regs))) }) }
+        ensures pages { (F : FlatState) → IfOk result (λ ran. ran.2.items ≡ touched_in programs.now F self.old self.old.holding) }
+    {
+        let mut regs = self.regs;
+        match std::mem::replace(&mut self.held, Held::Zombie(0)) {
+            Held::Space(space) => {
+                let mut paged = Paged::new(alloc, space);
+                let stepped = paged.step(alloc, programs, &mut regs)?;
+                let (space, pages) = paged.parts();
+                self.held = Held::Space(space);
+                Ok((stepped, regs, pages))
             }
             Held::Lent { .. } | Held::Zombie(_) => unreachable!(),
         }

@@ -1,11 +1,14 @@
-ghost use Rattle.std.specs.Prelude.{◌≡◌, ℕ, ◌^◌, ◌<◌, ◌≤◌, length, IfOk, OnOk};
-ghost use Rattle.replay_check.specs.Images.{AreImageFiles, AreNumbers};
+ghost use Rattle.std.specs.Prelude.{◌≡◌, ℕ, ◌+◌, ◌^◌, ◌<◌, ◌≤◌, ◌==◌, ◌&&◌, ◌++◌, ◌∷◌, [], List, length, Some, IfOk, IfSome, OnOk, MatchOption};
+ghost use Rattle.replay_check.specs.Images.{AreImageFiles, AreNumbers, images_of};
 ghost use Rattle.page_model.specs.Flat.{Inputs, can_step};
-ghost use Rattle.flat_model.specs.Step.{flat_step};
+ghost use Rattle.user_vax.specs.Operands.{register};
+ghost use Rattle.flat_model.specs.Step.{flat_step, call_entry};
 ghost use Rattle.replay_check.specs.Machine.{entries_of};
-ghost use Rattle.replay_check.specs.Judging.{state_if, entries_if, is_other, begins, IsAt, IsVerdict};
-ghost use Rattle.flat_model.specs.Run.{Point, flat_entry};
-ghost use Rattle.vm_facts.specs.declared.entry.Entry.TheVariants.{Grew, Sleeps, Refused};
+ghost use Rattle.replay_check.specs.Judging.{state_if, entries_if, is_other, refused_in, last_behind, begins, IsAt, IsVerdict, HasTaken, HasJudged};
+ghost use Rattle.replay_check.specs.Verdicts.{instruction_limit, first_bad, verdict_of};
+ghost use Rattle.page_model.specs.Journal.{units_with, counted};
+ghost use Rattle.flat_model.specs.Run.{Point, flat_entry, flat_units, same_entry, same_carry};
+ghost use Rattle.vm_facts.specs.declared.entry.Entry.TheVariants.{Ran, Out, Grew, Call, Sleeps, Refused, Ended};
 
 use crate::deed::Did;
 use crate::machine::Machine;
@@ -46,12 +49,58 @@ pub struct Judge<'a> {
     ghost few: { length programs.now < 2 ^ 31 },
 }
 
-fn is_reply(regs: &Regs, carry: bool, r0: u32, r1: u32) -> bool {
+// Whether registers say this carry and these results.
+fn is_reply(regs: &Regs, carry: bool, r0: u32, r1: u32) -> bool
+    ensures { result ≡ (same_carry regs.now.c carry && (register regs.now 0 == r0 && register regs.now 1 == r1)) }
+{
     regs.c == carry && regs.r[0] == r0 && regs.r[1] == r1
 }
 
+// Whether a call that left these registers has this number and says this.
+#[tactic(auto, using(crate::proofs::JudgingOutcomes::answer_same))]
+fn is_answer(call: SystemCall, regs: &Regs, number: u32, carry: bool, r0: u32, r1: u32) -> bool
+    ensures { (pid : ℕ) → result ≡ same_entry (call_entry pid call regs.now) (Call pid number carry r0 r1) }
+{
+    call.number() == number && is_reply(regs, carry, r0, r1)
+}
+
+// Whether the call wrote no byte and answers this.
+fn is_replied(did: Did, number: u32, carry: bool, r0: u32, r1: u32) -> bool
+    ensures { (pid : ℕ) → result ≡ begins pid did (Call pid number carry r0 r1) }
+{
+    match did {
+        Did::Replied(call, regs) => is_answer(call, &regs, number, carry, r0, r1),
+        Did::Wrote(call, bytes, regs) => {
+            bytes.as_slice().is_empty() && is_answer(call, &regs, number, carry, r0, r1)
+        }
+        _ => false,
+    }
+}
+
+// Whether one instruction ran.
+#[tactic(auto, using(crate::proofs::Running::ran_begins))]
+fn is_ran(did: Did) -> bool
+    ensures { (pid : ℕ) → result ≡ begins pid did (Ran pid 1) }
+{
+    match did {
+        Did::Ran => true,
+        _ => false,
+    }
+}
+
+// The instructions that an entry counts.
+fn counted(entry: &Entry) -> u32
+    ensures { result ≡ counted entry.now }
+{
+    match entry {
+        Entry::Ran { count, .. } => *count,
+        Entry::Call { .. } | Entry::Ended { .. } => 1,
+        _ => 0,
+    }
+}
+
 // Whether the stack has so many pages.
-#[tactic(auto, using(crate::proofs::Judging::grown_begins))]
+#[tactic(auto, using(crate::proofs::JudgingGrowth::grown_begins))]
 fn is_grown(did: Did, pages: u32) -> bool
     ensures { (pid : ℕ) → result ≡ begins pid did (Grew pid pages) }
 {
@@ -62,13 +111,44 @@ fn is_grown(did: Did, pages: u32) -> bool
 }
 
 // Whether the process waits.
-#[tactic(auto, using(crate::proofs::Judging::slept_begins))]
+#[tactic(auto, using(crate::proofs::JudgingGrowth::slept_begins))]
 fn is_slept(did: Did) -> bool
     ensures { (pid : ℕ) → result ≡ begins pid did (Sleeps pid) }
 {
     match did {
         Did::Slept => true,
         _ => false,
+    }
+}
+
+// Whether the process ended with this status.
+#[tactic(auto, using(crate::proofs::JudgingOutcomes::ended_begins))]
+fn is_ended(did: Did, status: u32) -> bool
+    ensures { (pid : ℕ) → result ≡ begins pid did (Ended pid status) }
+{
+    match did {
+        Did::Ended(ended) => ended == status,
+        _ => false,
+    }
+}
+
+// Whether the call wrote these bytes, one or more.
+fn is_written(did: &Did, bytes: &[u8]) -> bool
+    ensures { (pid : ℕ) → result ≡ begins pid did.now (Out pid bytes.now) }
+{
+    match did {
+        Did::Wrote(_, written, _) => written.as_slice() == bytes && !bytes.is_empty(),
+        _ => false,
+    }
+}
+
+// What is to come behind the first entry of a step: the reply, where bytes were written.
+fn last_behind(pid: u32, did: Did) -> Last
+    ensures { result ≡ last_behind pid did }
+{
+    match did {
+        Did::Wrote(call, _, regs) => Last::Wrote(pid, call, regs),
+        _ => Last::Other,
     }
 }
 
@@ -83,14 +163,28 @@ impl<'a> Judge<'a> {
         self.machine.step(self.alloc, self.programs, pid, refused)
     }
 
-    fn ran(&mut self, pid: u32, count: u32) -> Result<bool, NoMemory> {
+    // Whether one instruction of a process is the next of a run.
+    #[tactic(auto, using(crate::proofs::Running::ran_busy))]
+    fn ran_once(&mut self, pid: u32) -> Result<bool, NoMemory>
+        ensures verdict { (A : Inputs) (point : Point) → A.images ≡ self.old.programs.now → IsAt A self.old.machine self.old.last point → IfOk result (λ ok. IsVerdict A ok self.new.machine self.new.last (flat_entry A point (Ran pid 1))) }
+        ensures programs { self.new.programs ≡ self.old.programs }
+    {
+        if !self.is_free() {
+            return Ok(false);
+        }
+        let did = self.step(pid, false)?;
+        Ok(is_ran(did))
+    }
+
+    // Whether so many instructions of a process are the next of a run.
+    fn ran(&mut self, pid: u32, count: u32) -> Result<bool, NoMemory>
+        ensures verdict { (A : Inputs) (point : Point) → A.images ≡ self.old.programs.now → IsAt A self.old.machine self.old.last point → IfOk result (λ ok. IsVerdict A ok self.new.machine self.new.last (flat_units A (Some point) (units_with (Ran pid count) []))) }
+        ensures programs { self.new.programs ≡ self.old.programs }
+    {
         for _ in 0..count {
-            let Last::Other = self.last else {
+            if !self.ran_once(pid)? {
                 return Ok(false);
-            };
-            let Did::Ran = self.step(pid, false)? else {
-                return Ok(false);
-            };
+            }
         }
         Ok(true)
     }
@@ -105,9 +199,10 @@ impl<'a> Judge<'a> {
         }
     }
 
-    #[tactic(auto, using(crate::proofs::Judging::grown_busy))]
+    #[tactic(auto, using(crate::proofs::JudgingGrowth::grown_busy))]
     fn grew(&mut self, pid: u32, pages: u32) -> Result<bool, NoMemory>
-        ensures { (A : Inputs) (point : Point) → A.images ≡ self.old.programs.now → IsAt A self.old.machine self.old.last point → IfOk result (λ ok. IsVerdict A ok self.new.machine self.new.last (flat_entry A point (Grew pid pages))) }
+        ensures verdict { (A : Inputs) (point : Point) → A.images ≡ self.old.programs.now → IsAt A self.old.machine self.old.last point → IfOk result (λ ok. IsVerdict A ok self.new.machine self.new.last (flat_entry A point (Grew pid pages))) }
+        ensures programs { self.new.programs ≡ self.old.programs }
     {
         if !self.is_free() {
             return Ok(false);
@@ -116,9 +211,10 @@ impl<'a> Judge<'a> {
         Ok(is_grown(did, pages))
     }
 
-    #[tactic(auto, using(crate::proofs::Judging::slept_busy))]
+    #[tactic(auto, using(crate::proofs::JudgingGrowth::slept_busy))]
     fn slept(&mut self, pid: u32) -> Result<bool, NoMemory>
-        ensures { (A : Inputs) (point : Point) → A.images ≡ self.old.programs.now → IsAt A self.old.machine self.old.last point → IfOk result (λ ok. IsVerdict A ok self.new.machine self.new.last (flat_entry A point (Sleeps pid))) }
+        ensures verdict { (A : Inputs) (point : Point) → A.images ≡ self.old.programs.now → IsAt A self.old.machine self.old.last point → IfOk result (λ ok. IsVerdict A ok self.new.machine self.new.last (flat_entry A point (Sleeps pid))) }
+        ensures programs { self.new.programs ≡ self.old.programs }
     {
         if !self.is_free() {
             return Ok(false);
@@ -127,22 +223,24 @@ impl<'a> Judge<'a> {
         Ok(is_slept(did))
     }
 
-    fn wrote(&mut self, pid: u32, bytes: &[u8]) -> Result<bool, NoMemory> {
-        let Last::Other = self.last else {
+    #[tactic(auto, using(crate::proofs::JudgingWrites::wrote_busy))]
+    fn wrote(&mut self, pid: u32, bytes: &[u8]) -> Result<bool, NoMemory>
+        ensures verdict { (A : Inputs) (point : Point) → A.images ≡ self.old.programs.now → IsAt A self.old.machine self.old.last point → IfOk result (λ ok. IsVerdict A ok self.new.machine self.new.last (flat_entry A point (Out pid bytes.now))) }
+        ensures programs { self.new.programs ≡ self.old.programs }
+    {
+        if !self.is_free() {
             return Ok(false);
-        };
-        match self.step(pid, false)? {
-            Did::Wrote(call, written, regs) => {
-                self.last = Last::Wrote(pid, call, regs);
-                Ok(written.as_slice() == bytes && !bytes.is_empty())
-            }
-            _ => Ok(false),
         }
+        let did = self.step(pid, false)?;
+        let same = is_written(&did, bytes);
+        self.last = last_behind(pid, did);
+        Ok(same)
     }
 
-    #[tactic(auto, using(crate::proofs::Judging::refused_at, crate::proofs::Judging::refused_busy))]
+    #[tactic(auto, using(crate::proofs::JudgingGrowth::refused_at, crate::proofs::JudgingGrowth::refused_busy))]
     fn refused(&mut self, pid: u32) -> bool
-        ensures { (A : Inputs) (point : Point) → IsAt A self.old.machine self.old.last point → IsVerdict A result self.new.machine self.new.last (flat_entry A point (Refused pid)) }
+        ensures verdict { (A : Inputs) (point : Point) → IsAt A self.old.machine self.old.last point → IsVerdict A result self.new.machine self.new.last (flat_entry A point (Refused pid)) }
+        ensures programs { self.new.programs ≡ self.old.programs }
     {
         if !self.is_free() {
             return false;
@@ -151,8 +249,13 @@ impl<'a> Judge<'a> {
         self.machine.ready_place(pid).is_some()
     }
 
-    // Whether the pieces of this process found no place; None where the last entry is another process's.
-    fn take_refused(&mut self, pid: u32) -> Option<bool> {
+    // Whether the pieces of this process found no place; None behind bytes, or where another's found none.
+    fn take_refused(&mut self, pid: u32) -> Option<bool>
+        ensures refused { result ≡ refused_in pid self.old.last }
+        ensures other { IfSome result (λ refused. self.new.last ≡ Last.Other) }
+        ensures machine { self.new.machine ≡ self.old.machine }
+        ensures programs { self.new.programs ≡ self.old.programs }
+    {
         match self.last {
             Last::Other => Some(false),
             Last::Refused(of) if of == pid => {
@@ -163,14 +266,16 @@ impl<'a> Judge<'a> {
         }
     }
 
-    fn ended(&mut self, pid: u32, status: u32) -> Result<bool, NoMemory> {
+    #[tactic(auto, using(crate::proofs::JudgingOutcomes::ended_shut))]
+    fn ended(&mut self, pid: u32, status: u32) -> Result<bool, NoMemory>
+        ensures verdict { (A : Inputs) (point : Point) → A.images ≡ self.old.programs.now → IsAt A self.old.machine self.old.last point → IfOk result (λ ok. IsVerdict A ok self.new.machine self.new.last (flat_entry A point (Ended pid status))) }
+        ensures programs { self.new.programs ≡ self.old.programs }
+    {
         let Some(refused) = self.take_refused(pid) else {
             return Ok(false);
         };
-        match self.step(pid, refused)? {
-            Did::Ended(ended) => Ok(ended == status),
-            _ => Ok(false),
-        }
+        let did = self.step(pid, refused)?;
+        Ok(is_ended(did, status))
     }
 
     fn called(
@@ -180,29 +285,26 @@ impl<'a> Judge<'a> {
         carry: bool,
         r0: u32,
         r1: u32,
-    ) -> Result<bool, NoMemory> {
+    ) -> Result<bool, NoMemory>
+        ensures verdict { (A : Inputs) (point : Point) → A.images ≡ self.old.programs.now → IsAt A self.old.machine self.old.last point → IfOk result (λ ok. IsVerdict A ok self.new.machine self.new.last (flat_entry A point (Call pid number carry r0 r1))) }
+        ensures programs { self.new.programs ≡ self.old.programs }
+    {
         if let Last::Wrote(of, call, regs) = self.last {
             self.last = Last::Other;
-            return Ok(of == pid && call.number() == number && is_reply(&regs, carry, r0, r1));
+            return Ok(of == pid && is_answer(call, &regs, number, carry, r0, r1));
         }
         let Some(refused) = self.take_refused(pid) else {
             return Ok(false);
         };
-        match self.step(pid, refused)? {
-            Did::Replied(call, regs) => {
-                Ok(call.number() == number && is_reply(&regs, carry, r0, r1))
-            }
-            Did::Wrote(call, bytes, regs) => Ok(
-                bytes.as_slice().is_empty()
-                    && call.number() == number
-                    && is_reply(&regs, carry, r0, r1),
-            ),
-            _ => Ok(false),
-        }
+        let did = self.step(pid, refused)?;
+        Ok(is_replied(did, number, carry, r0, r1))
     }
 
     // Whether an entry is the next of a run.
-    fn judge(&mut self, entry: &Entry) -> Result<bool, NoMemory> {
+    fn judge(&mut self, entry: &Entry) -> Result<bool, NoMemory>
+        ensures verdict { (A : Inputs) (point : Point) → A.images ≡ self.old.programs.now → IsAt A self.old.machine self.old.last point → IfOk result (λ ok. IsVerdict A ok self.new.machine self.new.last (flat_units A (Some point) (units_with entry.now []))) }
+        ensures programs { self.new.programs ≡ self.old.programs }
+    {
         match entry {
             Entry::Ran { pid, count } => self.ran(*pid, *count),
             Entry::Out { pid, bytes } => self.wrote(*pid, bytes.as_slice()),
@@ -222,25 +324,40 @@ impl<'a> Judge<'a> {
     }
 
     // The instructions counted with those of an entry; None where they are too many.
-    fn counted(&self, entry: &Entry) -> Option<u32> {
-        let more = match entry {
-            Entry::Ran { count, .. } => *count,
-            Entry::Call { .. } | Entry::Ended { .. } => 1,
-            _ => 0,
-        };
-        let count = u64::from(self.count) + u64::from(more);
+    fn counted(&self, entry: &Entry) -> Option<u32>
+        ensures { MatchOption result (instruction_limit < self.now.count + counted entry.now) (λ count. (count ≡ self.now.count + counted entry.now) × (count ≤ instruction_limit)) }
+    {
+        let count = u64::from(self.count) + u64::from(counted(entry));
         if count > u64::from(INSTRUCTION_LIMIT) {
             return None;
         }
         Some(count as u32)
     }
 
-    fn accepts(&mut self, entry: &Entry) -> Result<bool, NoMemory> {
+    // Whether an entry is the next of a run that may have its instructions.
+    fn accepts(&mut self, entry: &Entry) -> Result<bool, NoMemory>
+        ensures judged { (A : Inputs) (journal : List Entry) → A.images ≡ self.old.programs.now → HasTaken A self.old.machine self.old.last self.old.count journal → IfOk result (λ ok. HasJudged A ok self.new.machine self.new.last self.new.count (journal ++ entry.now ∷ [])) }
+        ensures programs { self.new.programs ≡ self.old.programs }
+    {
         let Some(count) = self.counted(entry) else {
             return Ok(false);
         };
+        let accepted = self.judge(entry)?;
         self.count = count;
-        self.judge(entry)
+        Ok(accepted)
+    }
+
+    // The verdict on these entries, which are the first.
+    fn judge_all(&mut self, entries: &[Entry]) -> Result<Verdict, NoMemory>
+        requires few { length entries.now < 2 ^ 32 }
+        ensures { (A : Inputs) → A.images ≡ self.old.programs.now → HasTaken A self.old.machine self.old.last self.old.count [] → IfOk result (λ verdict. verdict ≡ verdict_of (first_bad A entries.now)) }
+    {
+        for index in 0..entries.len() {
+            if !self.accepts(&entries[index])? {
+                return Ok(Verdict::BadEntry(index as u32 + 1));
+            }
+        }
+        Ok(Verdict::Run)
     }
 }
 
@@ -254,28 +371,16 @@ pub fn replay(
     requires images { AreImageFiles images.now }
     requires first { AreNumbers (length images.now) first.now }
     requires entries { length entries.now < 2 ^ 32 }
+    ensures { (A : Inputs) → A.images ≡ images_of images.now → A.first ≡ first.now → IfOk result (λ verdict. verdict ≡ verdict_of (first_bad A entries.now)) }
 {
     let programs = load_all(alloc, images)?;
     let machine = Machine::started(alloc, programs.as_slice(), first)?;
-    let judge = Judge {
+    let mut judge = Judge {
         alloc,
         programs: programs.as_slice(),
         machine,
         last: Last::Other,
         count: 0,
     };
-    judge_all(judge, entries)
-}
-
-// The verdict on these entries.
-fn judge_all(judge: Judge<'_>, entries: &[Entry]) -> Result<Verdict, NoMemory>
-    requires few { length entries.now < 2 ^ 32 }
-{
-    let mut judge = judge;
-    for index in 0..entries.len() {
-        if !judge.accepts(&entries[index])? {
-            return Ok(Verdict::BadEntry(index as u32 + 1));
-        }
-    }
-    Ok(Verdict::Run)
+    judge.judge_all(entries)
 }

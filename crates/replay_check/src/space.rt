@@ -6,12 +6,13 @@ ghost use Rattle.page_model.specs.Writes.{IsWithin, Wrote};
 ghost use Rattle.page_model.proofs.SpaceLaws.{wrote_more, wrote_answers};
 ghost use Rattle.flat_model.specs.Calls.{pages_up_to, stack_pages_of};
 ghost use Rattle.flat_model.specs.Step.{data_pages_of};
+ghost use Rattle.flat_model.specs.Touched.{page_read, page_tested};
 ghost use Rattle.replay_check.specs.Sizes.{IsSized};
 
 use page_model::{PAGE, Spot, locate};
 use std::alloc::Global;
 use std::marker::Model;
-use vm_facts::{ByteRead, MayWrite, Memory, NoMemory};
+use vm_facts::{ByteRead, MayWrite, Memory, NoMemory, Page};
 
 /// A space: its number, its image's number, and the bytes of its segments. Contracts see just these.
 #[derive(Drop)]
@@ -135,6 +136,44 @@ impl FlatSpace {
         ensures few { result ≤ 512 }
     {
         self.stack.len() as u32 / PAGE
+    }
+
+    /// The page of a byte that is read; none where that is refused.
+    pub fn page_read(&self, address: u32) -> Option<Page>
+        ensures { result ≡ page_read self.now (address_in self.now address) }
+    {
+        match self.spot(address) {
+            Spot::Text(index) => Some(Page::Text {
+                image: self.image,
+                v: index / PAGE,
+            }),
+            Spot::Data(index) => Some(Page::Data {
+                sid: self.sid,
+                v: index / PAGE,
+            }),
+            Spot::Stack(index) => Some(Page::Stack {
+                sid: self.sid,
+                v: index / PAGE,
+            }),
+            Spot::Below | Spot::Outside => None,
+        }
+    }
+
+    /// The page of a byte that is to be written; none where that is refused.
+    pub fn page_tested(&self, address: u32) -> Option<Page>
+        ensures { result ≡ page_tested self.now (address_in self.now address) }
+    {
+        match self.spot(address) {
+            Spot::Data(index) => Some(Page::Data {
+                sid: self.sid,
+                v: index / PAGE,
+            }),
+            Spot::Stack(index) => Some(Page::Stack {
+                sid: self.sid,
+                v: index / PAGE,
+            }),
+            Spot::Text(_) | Spot::Below | Spot::Outside => None,
+        }
     }
 
     /// What an address names.

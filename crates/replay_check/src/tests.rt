@@ -1,10 +1,11 @@
-// The stack page of an execve.
+// The stack page of an execve, and the pages of a loop.
 ghost use Rattle.std.specs.Prelude.{◌≡◌, IfOk};
 
+use crate::{Flat, are_images, are_numbers, references};
 use flat_model::{Arguments, start_page, start_regs};
 use std::alloc::{AllocError, Global};
 use std::test::Fail;
-use vm_facts::Bytes;
+use vm_facts::{Bytes, Entry, Page};
 
 // A string of two bytes.
 fn string(alloc: Global, text: [u8; 2]) -> Result<Bytes, AllocError>
@@ -33,5 +34,37 @@ fn arguments_stand_at_the_end_of_the_stack_page(rt: HostRuntime) -> Result<(), F
         0x69, 0, 0x61, 0x62, 0, 0, 0, 0, 0, 0, 0,
     ];
     assert_eq!(rt; page.as_slice().ends_with(&end), true);
+    Ok(())
+}
+
+#[test]
+fn instructions_touch_their_text_and_their_stack(rt: HostRuntime) -> Result<(), Fail> {
+    let alloc = rt.alloc();
+    let mut file = [0u8; 2048];
+    file[0] = 0x0b;
+    file[1] = 0x01;
+    file[5] = 0x04;
+    // MOVL (SP),R0; MOVL R0,(SP); BRB to the first.
+    let code = [0xd0u8, 0x6e, 0x50, 0xd0, 0x50, 0x6e, 0x11, 0xf8];
+    for index in 0..8usize {
+        file[1026 + index] = code[index];
+    }
+    let name = "loop".to_string(alloc)?;
+    let bytes = file.to_vec(alloc)?;
+    let mut images: Vec<Flat> = Vec::new(alloc);
+    images.push(Flat { name, bytes })?;
+    let mut entries: Vec<Entry> = Vec::new(alloc);
+    entries.push(Entry::Ran { pid: 1, count: 4 })?;
+    let first = [1u32];
+    if !are_images(images.as_slice()) || !are_numbers(images.len(), &first) {
+        return Err(Fail::from("no image"));
+    }
+    let Ok(pages) = references(alloc, images.as_slice(), &first, entries.as_slice()) else {
+        return Err(Fail::from("no memory"));
+    };
+    let text = Page::Text { image: 1, v: 0 };
+    let stack = Page::Stack { sid: 1, v: 0 };
+    let touched = [text, stack, text, stack, text, text, stack];
+    assert_eq!(rt; pages.as_slice() == touched.as_slice(), true);
     Ok(())
 }

@@ -1,4 +1,4 @@
-use Rattle.std.specs.Prelude.{◌≡◌, ℕ, ◌<◌, ◌≤◌, slice_index_or}
+use Rattle.std.specs.Prelude.{ℕ, ◌<◌, slice_index_or}
 use Rattle.replay_check.specs.Images.{FlatFile, IsImageFile}
 use Rattle.replay_check.proofs.program.are_images.Given as goal
 

@@ -1,5 +1,4 @@
-use Rattle.std.specs.Prelude.{◌≡◌, ℕ, ◌<◌, ◌≤◌, slice_index_or}
-use Rattle.replay_check.specs.Images.{FlatFile, IsImageFile}
+use Rattle.std.specs.Prelude.{ℕ, ◌<◌, ◌≤◌, slice_index_or}
 use Rattle.replay_check.proofs.program.are_numbers.Given as goal
 
 abbrev pub invariant-loop-number : goal.invariant-loop-number

@@ -3,6 +3,7 @@ use Rattle.std.specs.Prelude.{IsSome}
 use Rattle.page_model.specs.Flat.{NamedImage, image_numbered}
 use Rattle.replay_check.specs.Images.{images_of}
 use Rattle.replay_check.proofs.Loading.{images_count, first_numbered}
+use Rattle.replay_check.proofs.Verdicts.{taken_none}
 use Rattle.replay_check.proofs.replaying.replay.Goals as goal
 
 pub started-requires : goal.started-requires
@@ -19,3 +20,9 @@ invariant_of-judge c = record {
       let few = c.requires.images.few in
       omega arith;
 }
+
+pub returns : goal.returns
+returns c = λ A images first.
+    let started : A.images ≡ c.as_slice.result.now = images ∙ sym (c.as_slice.ensures.value ∙ c.in_ok-programs.ensures) in
+    let judged : A.images ≡ c.as_slice-2.result.now = images ∙ sym (c.as_slice-2.ensures.value ∙ c.in_ok-programs.ensures) in
+    c.judge_all.ensures A judged (taken_none A c.in_ok-machine.machine (c.in_ok-machine.ensures A started first))

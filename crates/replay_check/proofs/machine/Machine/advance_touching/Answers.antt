@@ -1,0 +1,18 @@
+use Rattle.std.proofs.Common.{ap, ◌∙◌}
+use Rattle.vm_facts.specs.Flat.{Space, Process, FlatState}
+use Rattle.flat_model.specs.Instruction.{instruction_in}
+use Rattle.flat_model.specs.Step.{Step}
+use Rattle.replay_check.specs.Machine.{process_at, space_at}
+use Rattle.replay_check.proofs.Stepping.{step_made, step_left}
+use Rattle.replay_check.proofs.machine.Machine.advance_touching.Goals as goal
+
+pub returns-clause-after : goal.returns-clause-after
+returns-clause-after c = λ A same.
+    let F : FlatState = c.args.self.now in
+    let p : Process = process_at F c.args.place in
+    let s : Space = space_at F c.args.place in
+    c.in_ok-change.ensures
+    ∙ step_left c.args.programs.now F c.run_touching.new.self p s (instruction_in s p.regs) c.args.place c.in_ok-stepped.stepped c.in_ok-stepped.regs c.in_ok-deed.deed c.in_ok-stepped.ensures.behind
+    ∙ ap (λ (step : Step). step.after)
+    (step_made A c.args.programs.now F c.args.place c.args.refused c.in_ok-deed.deed c.requires.at same
+    (c.in_ok-deed.ensures.value F p s (instruction_in s p.regs) c.in_ok-stepped.ensures.behind))

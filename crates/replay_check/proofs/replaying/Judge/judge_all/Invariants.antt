@@ -1,0 +1,12 @@
+use Rattle.std.proofs.Common.{◌≡◌, [], take}
+use Rattle.page_model.specs.Flat.{Inputs}
+use Rattle.replay_check.specs.Judging.{HasTaken}
+use Rattle.replay_check.proofs.Verdicts.{AreRuns}
+use Rattle.replay_check.proofs.replaying.Judge.judge_all.Given as goal
+
+abbrev pub invariant-loop-index : goal.invariant-loop-index
+invariant-loop-index l = record {
+  taken : (A : Inputs) → A.images ≡ l.fn.self.programs.now → HasTaken A l.fn.self.machine l.fn.self.last l.fn.self.count []
+      → HasTaken A l.self.machine l.self.last l.self.count (take l.index l.entries) × AreRuns A l.entries l.index;
+  programs : l.self.programs ≡ l.fn.self.programs;
+}

@@ -1,0 +1,14 @@
+use Rattle.std.proofs.Common.{◌≡◌, true, [], Some}
+use Rattle.vm_facts.specs.declared.entry.Entry.TheVariants.{Ran}
+use Rattle.page_model.specs.Flat.{Inputs}
+use Rattle.page_model.specs.Journal.{units_with}
+use Rattle.flat_model.specs.Run.{Point, flat_units}
+use Rattle.replay_check.specs.Judging.{IsAt, IsVerdict}
+use Rattle.replay_check.proofs.replaying.Judge.ran.Given as goal
+
+abbrev pub invariant-loop : goal.invariant-loop
+invariant-loop l = record {
+  verdict : (A : Inputs) (point : Point) → A.images ≡ l.fn.self.programs.now → IsAt A l.fn.self.machine l.fn.self.last point
+      → IsVerdict A true l.self.machine l.self.last (flat_units A (Some point) (units_with (Ran l.pid l.counter) []));
+  programs : l.self.programs ≡ l.fn.self.programs;
+}
