@@ -1,5 +1,5 @@
 -- What the file of a name is read as, where the files are told.
-use Rattle.std.specs.Prelude.{◌≡◌, ℕ, List, take, Option, Some, None, Result, Ok, Err}
+use Rattle.std.specs.Prelude.{◌≡◌, ℕ, Bool, true, false, nat_le, List, length, take, Option, Some, None, Result, Ok, Err}
 use Rattle.io_edge.specs.FileHolding.{NamedFile, place_of, bytes_at}
 use Rattle.aout_image.specs.declared.Image.{Image}
 use Rattle.aout_image.specs.Image.{Loaded, image_of, file_length_of}
@@ -13,6 +13,19 @@ bytes_told_at files (Some place) most = Ok (take most (bytes_at files place))
 -- the first bytes of the file of this name
 abbrev pub bytes_told : List NamedFile → List ℕ → ℕ → Result (List ℕ) Unread
 bytes_told files name most = bytes_told_at files (place_of files name) most
+
+-- a file's bytes, where they are few enough
+abbrev pub bytes_if : Bool → List ℕ → Option (List ℕ)
+bytes_if true bytes = Some bytes
+bytes_if false bytes = None
+
+abbrev pub whole_told_at : List NamedFile → Option ℕ → ℕ → Result (Option (List ℕ)) Unread
+whole_told_at files None most = Err Absent
+whole_told_at files (Some place) most = Ok (bytes_if (nat_le (length (bytes_at files place)) most) (bytes_at files place))
+
+-- the bytes of the file of this name, where they are no more than so many
+abbrev pub whole_told : List NamedFile → List ℕ → ℕ → Result (Option (List ℕ)) Unread
+whole_told files name most = whole_told_at files (place_of files name) most
 
 -- the facts of the image that a file is, and its bytes up to the end of its text and data; or why it is none
 abbrev pub image_in : List ℕ → Result Loaded ℕ → Result (Image × List ℕ) Unread

@@ -2,12 +2,14 @@
 #![tactic(auto)]
 
 mod answers;
+mod image_words;
 mod loading;
 mod reading;
 
 pub use answers::{Loaded, Unread};
+pub use image_words::{first_images, image_names};
 pub use loading::load_image;
-pub use reading::read_file;
+pub use reading::{read_file, read_whole};
 
 #[cfg(test)]
 mod tests;

@@ -1,7 +1,7 @@
-ghost use Rattle.std.specs.Prelude.{◌≡◌, ◌≤◌, ◌^◌, ◌<◌, ℕ, List, Some, IfOk, IfErr, length};
+ghost use Rattle.std.specs.Prelude.{◌≡◌, ◌≤◌, ◌^◌, ◌<◌, ℕ, List, Some, IfOk, IfErr, IfSome, length, option_map};
 ghost use Rattle.io_edge.specs.FileHolding.{NamedFile, HasRange, HoldsRange};
 ghost use Rattle.run_files.specs.Answering.{Answers, CountsFault, IsFailure, IsOfAnyFile};
-ghost use Rattle.run_files.specs.Told.{bytes_told};
+ghost use Rattle.run_files.specs.Told.{bytes_told, whole_told};
 
 use crate::answers::Unread;
 use io_edge::{Files, Found, Moved};
@@ -53,5 +53,31 @@ pub fn read_file<F: Files>(
         Found::Failed => Err(Unread::FileFault),
         Found::Absent => Err(Unread::Absent),
         Found::Is { id, len } => read_front(alloc, files, id, len.min(most) as usize),
+    }
+}
+
+/// Finds a file and reads all of it, where it isn't empty, by one call. One that has more than `most`
+/// bytes is `None`, and isn't read. Absent comes only where a told list lacks the name, and NotImage never.
+pub fn read_whole<F: Files>(
+    alloc: Global,
+    files: &mut F,
+    name: &str,
+    most: u64,
+) -> Result<Option<Vec<u8>>, Unread>
+    ensures answers { (list : List NamedFile) → F.holds files.old ≡ Some list → Answers (option_map (λ bytes. bytes.items)) (whole_told list name.now most) result }
+    ensures size { IfOk result (λ read. IfSome read (λ bytes. length bytes.items ≤ most)) }
+    ensures error { IfErr result IsOfAnyFile }
+    ensures holds { F.holds files.new ≡ F.holds files.old }
+    ensures open_faults { CountsFault result (F.open_faults files.old) (F.open_faults files.new) }
+    ensures page_faults { F.page_faults files.new ≡ F.page_faults files.old }
+{
+    match files.find(name) {
+        Found::Failed => Err(Unread::FileFault),
+        Found::Absent => Err(Unread::Absent),
+        Found::Is { len, .. } if len > most => Ok(None),
+        Found::Is { id, len } => {
+            let bytes = read_front(alloc, files, id, len as usize)?;
+            Ok(Some(bytes))
+        }
     }
 }

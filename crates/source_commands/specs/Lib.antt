@@ -1,4 +1,3 @@
-pub mod Ending
 pub mod ProgramFile
 pub mod Listing
 pub mod Command

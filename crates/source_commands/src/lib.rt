@@ -1,12 +1,10 @@
 //! The commands that turn sources into images and images into listings.
 #![tactic(auto)]
 
-mod fault;
 mod listing;
 mod program_file;
 mod source;
 mod text;
-mod writing;
 
 pub use listing::list_file;
 pub use source::assemble_file;

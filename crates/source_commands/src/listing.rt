@@ -1,14 +1,14 @@
 ghost use Rattle.std.specs.Prelude.{◌≡◌, ◌≤◌, ◌<◌, ◌+◌, ◌^◌, ◌/◌, Bool, length, min};
 ghost use Rattle.aout_image.specs.Image.{IsSound, file_length_of, pages_of, offset_of, given_of};
 ghost use Rattle.run_files.specs.Told.{image_told};
-ghost use Rattle.source_commands.specs.Ending.{ending_of};
+ghost use Rattle.command_ending.specs.Ending.{ending_of};
+ghost use Rattle.command_ending.specs.Command.{Made};
 ghost use Rattle.source_commands.specs.Listing.{code_at};
-ghost use Rattle.source_commands.specs.Command.{Made, Lists, EndsListing};
+ghost use Rattle.source_commands.specs.Command.{Lists, EndsListing};
 
-use crate::fault::Fault;
 use crate::text::listing_of;
-use crate::writing::write_ending;
 use aout_image::Image;
+use command_ending::{Fault, write_ending};
 use io_edge::{Files, Sink};
 use run_files::load_image;
 use std::alloc::Global;
@@ -42,13 +42,17 @@ fn code_of<'a>(image: &Image, bytes: &'a [u8]) -> &'a [u8]
 }
 
 // The listing of the image of this name.
-fn listing_from<F: Files>(alloc: Global, files: &mut F, name: &str) -> Result<Vec<u8>, Fault>
-    ensures { Made EndsListing (λ list. image_told list name.now) (F.holds files.old)
+fn listing_from<'a, F: Files>(
+    alloc: Global,
+    files: &mut F,
+    name: &'a str,
+) -> Result<Vec<u8>, Fault<'a>>
+    ensures { Made (EndsListing name.now) (λ list. image_told list name.now) (F.holds files.old)
         (record { open_before = F.open_faults files.old; open_after = F.open_faults files.new; page_before = F.page_faults files.old; page_after = F.page_faults files.new }) (ending_of result) }
 {
     let loaded = match load_image(alloc, files, name) {
         Ok(loaded) => loaded,
-        Err(unread) => return Err(Fault::of_unread(unread)),
+        Err(unread) => return Err(Fault::of_unread(name, unread)),
     };
     let code = code_of(&loaded.image, loaded.bytes.as_slice());
     match listing_of(alloc, code, loaded.image.entry + 2) {
@@ -67,5 +71,5 @@ pub fn list_file<F: Files, S: Sink>(alloc: Global, files: &mut F, sink: &mut S, 
         (S.written sink.old) (S.written sink.new) (S.faults sink.old) (S.faults sink.new) result }
 {
     let made = listing_from(alloc, files, name);
-    write_ending(alloc, sink, name, made)
+    write_ending(alloc, sink, made)
 }

@@ -1,11 +1,11 @@
 ghost use Rattle.io_edge.specs.FileHolding.{NamedFile};
 ghost use Rattle.run_files.specs.Told.{bytes_told};
-ghost use Rattle.source_commands.specs.Ending.{ending_of};
-ghost use Rattle.source_commands.specs.Command.{Made, Assembles, EndsAssembly};
+ghost use Rattle.command_ending.specs.Ending.{ending_of};
+ghost use Rattle.command_ending.specs.Command.{Made};
+ghost use Rattle.source_commands.specs.Command.{Assembles, EndsAssembly};
 
-use crate::fault::Fault;
 use crate::program_file::file_of;
-use crate::writing::write_ending;
+use command_ending::{Fault, write_ending};
 use io_edge::{Files, Sink};
 use run_files::read_file;
 use std::alloc::Global;
@@ -15,13 +15,17 @@ use vax_asm::{Assembled, assemble};
 const SOURCE_BYTES: u64 = 495_617;
 
 // The file that a source makes.
-fn file_from<F: Files>(alloc: Global, files: &mut F, name: &str) -> Result<Vec<u8>, Fault>
-    ensures { Made EndsAssembly (λ list. bytes_told list name.now 495617) (F.holds files.old)
+fn file_from<'a, F: Files>(
+    alloc: Global,
+    files: &mut F,
+    name: &'a str,
+) -> Result<Vec<u8>, Fault<'a>>
+    ensures { Made (EndsAssembly name.now) (λ list. bytes_told list name.now 495617) (F.holds files.old)
         (record { open_before = F.open_faults files.old; open_after = F.open_faults files.new; page_before = F.page_faults files.old; page_after = F.page_faults files.new }) (ending_of result) }
 {
     let source = match read_file(alloc, files, name, SOURCE_BYTES) {
         Ok(source) => source,
-        Err(unread) => return Err(Fault::of_unread(unread)),
+        Err(unread) => return Err(Fault::of_unread(name, unread)),
     };
     match assemble(alloc, source.as_slice()) {
         Ok(Assembled::Is(program)) => match file_of(alloc, &program) {
@@ -48,5 +52,5 @@ pub fn assemble_file<F: Files, S: Sink>(
         (S.written sink.old) (S.written sink.new) (S.faults sink.old) (S.faults sink.new) result }
 {
     let made = file_from(alloc, files, name);
-    write_ending(alloc, sink, name, made)
+    write_ending(alloc, sink, made)
 }

@@ -18,3 +18,4 @@ pub mod Judging
 pub mod Finishing
 pub mod Transcribing
 pub mod Scheduling
+pub mod ReplayWords

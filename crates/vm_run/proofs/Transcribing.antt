@@ -14,7 +14,8 @@ use Rattle.vm_run.specs.declared.ending.Ending.{Ending}
 use Rattle.vm_run.specs.declared.opening.Opened.{Opened}
 use Rattle.vm_run.specs.declared.ending.Ending.TheVariants.{Finished, BadWords, NotBuilt, Absent, NotImage, BadSchedule, FileFault, NoMemory, ShortDevice, OutOfFrames}
 use Rattle.vm_run.specs.Opening.{IsLoaded, word_of, first_of, image_ending, device_ending, EndsSchedule, IsJudged, Says, SaysSchedule, IsScheduleEnding, IsImageEnding}
-use Rattle.vm_run.specs.Transcript.{Faults, IsRunOf, IsOpenedAs, LawfulFrom, LawfulBy, EndsOpened, EndsRun, EndsBy, EndsNamed, EndsWords, IsRunEnding, IsCaused, WritesSome, Transcribes}
+use Rattle.command_ending.specs.Command.{Faults}
+use Rattle.vm_run.specs.Transcript.{IsRunOf, IsOpenedAs, LawfulFrom, LawfulBy, EndsOpened, EndsRun, EndsBy, EndsNamed, EndsWords, IsRunEnding, IsCaused, WritesSome, Transcribes}
 
 lawful_by : (numbers : Numbers) (image : List ℕ) (files : List NamedFile) (journal : List Entry) (A : Inputs) → IsRunOf A numbers image files → LawfulFrom A journal → LawfulBy numbers image files journal
 lawful_by numbers image files journal A of l = record { inputs = A; of = of; state = l.state; lawful = l.lawful }

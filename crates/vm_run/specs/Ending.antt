@@ -1,5 +1,6 @@
 -- The endings of a run: their statuses, and the lines that follow the transcript.
 use Rattle.std.specs.Prelude.{ℕ, List, [], ◌++◌, codes, decimal}
+use Rattle.command_ending.specs.Ending.{absent_line, not_image_line, numbered_line}
 use Rattle.vm_run.specs.declared.ending.Named.TheVariants.{Schedule, Image}
 use Rattle.vm_run.specs.declared.ending.Ending.{Ending}
 use Rattle.vm_run.specs.declared.ending.Ending.TheVariants.{Finished, BadWords, NotBuilt, Absent, NotImage, BadSchedule, FileFault, NoMemory, ShortDevice, OutOfFrames}
@@ -16,19 +17,6 @@ status_of NoMemory = 9
 status_of (ShortDevice device blocks needed) = 12
 status_of OutOfFrames = 13
 
--- the status where the output fails
-abbrev pub sink_fault : ℕ
-sink_fault = 8
-
-abbrev pub absent_line : List ℕ → List ℕ
-absent_line name = codes "vmrun: absent " ++ name ++ codes "\n"
-
-abbrev pub not_image_line : List ℕ → ℕ → List ℕ
-not_image_line name reason = codes "vmrun: not an image: " ++ name ++ codes " reason " ++ decimal reason ++ codes "\n"
-
-abbrev pub bad_schedule_line : ℕ → List ℕ
-bad_schedule_line line = codes "vmrun: bad schedule line " ++ decimal line ++ codes "\n"
-
 abbrev pub short_device_line : ℕ → ℕ → ℕ → List ℕ
 short_device_line device blocks needed =
     codes "vmrun: swap device " ++ decimal device ++ codes " has " ++ decimal blocks ++ codes " blocks, " ++ decimal needed ++ codes " needed\n"
@@ -41,7 +29,7 @@ fault_line schedule image NotBuilt = codes "vmrun: not built yet\n"
 fault_line schedule image (Absent Schedule) = absent_line schedule
 fault_line schedule image (Absent Image) = absent_line image
 fault_line schedule image (NotImage reason) = not_image_line image reason
-fault_line schedule image (BadSchedule line) = bad_schedule_line line
+fault_line schedule image (BadSchedule line) = numbered_line (codes "vmrun: bad schedule line ") line
 fault_line schedule image FileFault = codes "vmrun: file fault\n"
 fault_line schedule image NoMemory = codes "vmrun: no memory\n"
 fault_line schedule image (ShortDevice device blocks needed) = short_device_line device blocks needed

@@ -3,7 +3,6 @@ use Rattle.std.specs.Prelude.{◌≡◌, ◌≢◌, ◌⊎◌, ℕ, false, List,
 use Rattle.vm_facts.specs.declared.entry.Entry.{Entry}
 use Rattle.io_edge.specs.Count.{Rose}
 use Rattle.io_edge.specs.FileHolding.{NamedFile, place_of, bytes_at}
-use Rattle.io_edge.specs.Written.{Appends, AppendsSome}
 use Rattle.aout_image.specs.declared.Image.{Image}
 use Rattle.aout_image.specs.Image.{image_of}
 use Rattle.vm_run.specs.InterimInputs.{Inputs}
@@ -14,22 +13,11 @@ use Rattle.vm_run.specs.Words.{IsRun, command_of}
 use Rattle.vm_run.specs.declared.words.Command.{Command}
 use Rattle.vm_run.specs.declared.words.Command.TheVariants.{Run, Unbuilt}
 use Rattle.vm_run.specs.declared.words.Numbers.{Numbers}
-use Rattle.vm_run.specs.Ending.{status_of, sink_fault, fault_line}
+use Rattle.command_ending.specs.Command.{Faults, NoFaults, Writes}
+use Rattle.vm_run.specs.Ending.{status_of, fault_line}
 use Rattle.vm_run.specs.Opening.{word_of, IsJudged}
 use Rattle.vm_run.specs.declared.ending.Ending.{Ending}
 use Rattle.vm_run.specs.declared.ending.Ending.TheVariants.{Finished, BadWords, NotBuilt, FileFault, NoMemory, OutOfFrames}
-
--- the two counts of the files' faults, before and after
-pub record Faults : Type 0 where
-  pub open_before : ℕ
-  pub open_after : ℕ
-  pub page_before : ℕ
-  pub page_after : ℕ
-
--- no count rose
-pub record NoFaults (f : Faults) : Type 0 where
-  pub open_same : f.open_after ≡ f.open_before
-  pub page_same : f.page_after ≡ f.page_before
 
 -- what the run is of: the name, the image that its file is, and the limit
 pub record IsRunOf (A : Inputs) (numbers : Numbers) (image : List ℕ) (files : List NamedFile) : Type 0 where
@@ -137,16 +125,11 @@ IsCaused command f FileFault = IsRun command × (Rose f.open_before f.open_after
 IsCaused command f NoMemory = Unit {0}
 IsCaused command f _ = IsRun command
 
--- the whole text was written, and the status is the ending's; or the output failed, and a prefix was written
-pub data Writes (before after : Option (List ℕ)) (old_faults new_faults : ℕ) (text : List ℕ) (ending : Ending) (status : ℕ) : Type 0 where
-  All : status ≡ status_of ending → Appends before text after → new_faults ≡ old_faults → Writes before after old_faults new_faults text ending status
-  Prefix : status ≡ sink_fault → AppendsSome before text after → Rose old_faults new_faults → Writes before after old_faults new_faults text ending status
-
 -- a run is written as it ended, or as one that found no memory
 abbrev pub WritesSome : Option (List ℕ) → Option (List ℕ) → ℕ → ℕ → List ℕ → List ℕ → Ending → List Entry → ℕ → Type 0
 WritesSome before after old_faults new_faults schedule image ending journal status =
-    Writes before after old_faults new_faults (text_of false journal ++ fault_line schedule image ending) ending status
-    ⊎ Writes before after old_faults new_faults (text_of false journal ++ fault_line schedule image NoMemory) NoMemory status
+    Writes before after old_faults new_faults (text_of false journal ++ fault_line schedule image ending) (status_of ending) status
+    ⊎ Writes before after old_faults new_faults (text_of false journal ++ fault_line schedule image NoMemory) (status_of NoMemory) status
 
 -- A run's status and text: there is one ending and one journal, whose text and fault line were written.
 pub record Transcribes (words : List (List ℕ)) (holds : Option (List NamedFile)) (zero_blocks one_blocks : ℕ) (f : Faults)
@@ -155,4 +138,4 @@ pub record Transcribes (words : List (List ℕ)) (holds : Option (List NamedFile
   pub journal : List Entry
   pub caused : IsCaused (command_of words) f ending
   pub ends : (files : List NamedFile) → holds ≡ Some files → EndsWords (command_of words) words files zero_blocks one_blocks f ending journal
-  pub writes : Writes before after old_faults new_faults (text_of false journal ++ fault_line (word_of words 4) (word_of words 5) ending) ending status
+  pub writes : Writes before after old_faults new_faults (text_of false journal ++ fault_line (word_of words 4) (word_of words 5) ending) (status_of ending) status

@@ -8,7 +8,7 @@ use Rattle.vm_run.specs.declared.words.Numbers.{Numbers}
 use Rattle.vm_run.specs.declared.words.Kept.{Kept}
 use Rattle.vm_run.specs.declared.words.Command.{Command}
 use Rattle.vm_run.specs.declared.words.Tool.{Tool}
-use Rattle.vm_run.specs.declared.words.Tool.TheVariants.{Assemble, Show}
+use Rattle.vm_run.specs.declared.words.Tool.TheVariants.{Assemble, Show, Replay}
 use Rattle.vm_run.specs.declared.words.Command.TheVariants.{Run, Unbuilt}
 use Rattle.vm_run.specs.Opening.{word_of}
 
@@ -143,7 +143,9 @@ command_of words = command_by (numbers_of words) (are_good words)
 
 -- the command of this name, where it is one that runs no process
 abbrev pub tool_named : List ℕ → Option Tool
-tool_named name = if bytes_eq name (codes "as") then Some Assemble else (if bytes_eq name (codes "dis") then Some Show else None)
+tool_named name =
+    if bytes_eq name (codes "as") then Some Assemble
+    else (if bytes_eq name (codes "dis") then Some Show else (if bytes_eq name (codes "replay") then Some Replay else None))
 
 -- the command of good words, where it is one that runs no process
 unfoldable pub tool_of : List (List ℕ) → Option Tool

@@ -4,18 +4,22 @@ ghost use Rattle.aout_image.specs.Image.{IsSound, file_length_of};
 ghost use Rattle.vm_run.specs.InterimInputs.{Inputs};
 ghost use Rattle.run_text.specs.Text.{text_of};
 ghost use Rattle.vm_run.specs.Words.{command_of, tool_of};
+ghost use Rattle.command_ending.specs.Command.{Writes};
 ghost use Rattle.vm_run.specs.Command.{Obeys};
+ghost use Rattle.vm_run.specs.Ending.{status_of};
 ghost use Rattle.vm_run.specs.Halted.{halted};
 ghost use Rattle.vm_run.specs.Resident.{HasBytes};
 ghost use Rattle.vm_run.specs.Opening.{word_of};
-ghost use Rattle.vm_run.specs.Transcript.{EndsOpened, EndsNamed, EndsWords, Transcribes, Writes, WritesSome, IsCaused, IsRunEnding, IsOpenedAs};
+ghost use Rattle.vm_run.specs.Transcript.{EndsOpened, EndsNamed, EndsWords, Transcribes, WritesSome, IsCaused, IsRunEnding, IsOpenedAs};
 
-use crate::ending::{Ending, NO_MEMORY};
+use crate::ending::Ending;
 use crate::journal::Journal;
 use crate::opening::{Opened, judge_devices, open_image, open_schedule};
 use crate::running::{Halt, Running};
-use crate::words::{Command, Numbers, Tool, read_tool, read_words};
+use crate::words::{Command, Numbers, Tool, read_tool, read_words, replay_images};
+use command_ending::NO_MEMORY;
 use io_edge::{Files, Moved, Sink, SwapDev};
+use replay_command::replay_file;
 use run_text::write_text;
 use source_commands::{assemble_file, list_file};
 use std::alloc::Global;
@@ -168,7 +172,7 @@ fn word_or_none<'a>(words: &[&'a str], place: usize) -> &'a str
 
 // Writes a journal's text and the line behind it, and answers the status.
 fn write_as<S: Sink>(sink: &mut S, ending: Ending, journal: &Journal, line: &[u8]) -> u8
-    ensures { Writes (S.written sink.old) (S.written sink.new) (S.faults sink.old) (S.faults sink.new) (text_of false journal.now ++ line.now) ending result }
+    ensures { Writes (S.written sink.old) (S.written sink.new) (S.faults sink.old) (S.faults sink.new) (text_of false journal.now ++ line.now) (status_of ending) result }
 {
     match write_text(sink, false, journal.entries(), line) {
         Moved::Done => ending.status(),
@@ -213,8 +217,8 @@ fn run_command<F: Files, S: Sink>(
 /// output, and answers the exit status: 0 where the run is finished, or what another command makes was written; 1
 /// bad words; 2 an absent file; 3 no image; 4 a bad schedule; 5 a file fault; 8 a fault of the output; 9 want of
 /// memory; 12 a swap device that is too short; 13 words whose command isn't built yet, or out of frames, until the
-/// pager frees them; 17 a bad source. The first thing met decides, but an output that fails gives 8 whatever came
-/// before (this project's profile).
+/// pager frees them; 14 a transcript that is no run; 15 a bad transcript; 16 one that is too long; 17 a bad source.
+/// The first thing met decides, but an output that fails gives 8 whatever came before (this project's profile).
 pub fn vmrun<F: Files, D: SwapDev, E: SwapDev, S: Sink>(
     alloc: Global,
     words: &[&str],
@@ -230,6 +234,10 @@ pub fn vmrun<F: Files, D: SwapDev, E: SwapDev, S: Sink>(
     match read_tool(words) {
         Some(Tool::Assemble) => assemble_file(alloc, files, sink, word_or_none(words, 1)),
         Some(Tool::Show) => list_file(alloc, files, sink, word_or_none(words, 1)),
+        Some(Tool::Replay) => {
+            let images = replay_images(words);
+            replay_file(alloc, files, sink, word_or_none(words, 1), images)
+        }
         None => run_command(alloc, words, files, zero.blocks(), one.blocks(), sink),
     }
 }

@@ -1,7 +1,7 @@
-ghost use Rattle.std.specs.Prelude.{◌≡◌, ℕ, ◌++◌, IfOk, OnOk, decimal};
-ghost use Rattle.vm_run.specs.Ending.{status_of, fault_line, absent_line, not_image_line, bad_schedule_line, short_device_line};
+ghost use Rattle.std.specs.Prelude.{◌≡◌, IfOk};
+ghost use Rattle.vm_run.specs.Ending.{status_of, fault_line, short_device_line};
 
-use itoa::Buffer;
+use command_ending::{NO_MEMORY, absent_line, not_image_line, numbered_line, put_number};
 use std::alloc::{AllocError, Global};
 
 /// The file that a word names.
@@ -74,7 +74,9 @@ impl Ending {
             Ending::Absent(Named::Schedule) => absent_line(alloc, schedule),
             Ending::Absent(Named::Image) => absent_line(alloc, image),
             Ending::NotImage(reason) => not_image_line(alloc, image, reason),
-            Ending::BadSchedule(line) => bad_schedule_line(alloc, line),
+            Ending::BadSchedule(line) => {
+                numbered_line(alloc, b"vmrun: bad schedule line ", line)
+            }
             Ending::FileFault => Vec::from_slice(alloc, b"vmrun: file fault\n"),
             Ending::NoMemory => Vec::from_slice(alloc, NO_MEMORY),
             Ending::ShortDevice {
@@ -85,45 +87,6 @@ impl Ending {
             Ending::OutOfFrames => Vec::from_slice(alloc, b"vmrun: out of frames\n"),
         }
     }
-}
-
-/// The line of want of memory.
-pub const NO_MEMORY: &[u8; 17] = b"vmrun: no memory\n";
-
-fn absent_line(alloc: Global, name: &str) -> Result<Vec<u8>, AllocError>
-    ensures { IfOk result (λ line. line.items ≡ absent_line name.now) }
-{
-    let mut line = Vec::from_slice(alloc, b"vmrun: absent ")?;
-    line.extend_from_slice(name.as_bytes())?;
-    line.push(b'\n')?;
-    Ok(line)
-}
-
-fn put_number(line: &mut Vec<u8>, number: u32) -> Result<(), AllocError>
-    ensures { OnOk result (line.new.items ≡ line.old.items ++ decimal number) }
-{
-    let mut buffer = Buffer::new();
-    line.extend_from_slice(buffer.format(number).as_bytes())
-}
-
-fn not_image_line(alloc: Global, name: &str, reason: u8) -> Result<Vec<u8>, AllocError>
-    ensures { IfOk result (λ line. line.items ≡ not_image_line name.now reason) }
-{
-    let mut line = Vec::from_slice(alloc, b"vmrun: not an image: ")?;
-    line.extend_from_slice(name.as_bytes())?;
-    line.extend_from_slice(b" reason ")?;
-    put_number(&mut line, reason as u32)?;
-    line.push(b'\n')?;
-    Ok(line)
-}
-
-fn bad_schedule_line(alloc: Global, number: u32) -> Result<Vec<u8>, AllocError>
-    ensures { IfOk result (λ line. line.items ≡ bad_schedule_line number) }
-{
-    let mut line = Vec::from_slice(alloc, b"vmrun: bad schedule line ")?;
-    put_number(&mut line, number)?;
-    line.push(b'\n')?;
-    Ok(line)
 }
 
 fn short_device_line(

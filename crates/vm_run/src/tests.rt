@@ -334,11 +334,10 @@ fn assembles_a_source_into_an_image(rt: HostRuntime) -> Result<(), Fail> {
 
 #[test]
 fn tells_good_words_from_bad_ones(rt: HostRuntime) -> Result<(), Fail> {
-    let good: [&[&str]; 7] = [
+    let good: [&[&str]; 6] = [
         &["run", "64", "--trace", "256", "100", "s", "image"],
         &["run", "64", "256", "100", "s", "image", "=image"],
         &["load", "07"],
-        &["replay", "s", "=image", "image"],
         &["opt", "1", "64", "256", "100000", "s", "image"],
         &["curve", "64", "256", "100", "s", "image", "=-x"],
         &[
@@ -374,6 +373,13 @@ fn tells_good_words_from_bad_ones(rt: HostRuntime) -> Result<(), Fail> {
         check(&rt, rt.alloc(), words, image, "vmrun: bad words\n", 1)?;
     }
     Ok(())
+}
+
+#[test]
+fn judges_a_transcript_without_entries(rt: HostRuntime) -> Result<(), Fail> {
+    let words = ["replay", "s", "=image", "image"];
+    let image = writing(rt.alloc(), &TWO_BYTES)?;
+    check(&rt, rt.alloc(), &words, image, "flat run: 0 entries\n", 0)
 }
 
 #[test]

@@ -1,4 +1,6 @@
-ghost use Rattle.std.specs.Prelude.{◌≡◌, ◌&&◌, ◌<◌, ◌≤◌, map, drop, position, length, IsSome, IfSome, bytes_eq, codes};
+ghost use Rattle.std.specs.Prelude.{◌≡◌, ◌&&◌, ◌<◌, ◌≤◌, map, drop, position, length, All, Some, IsSome, IfSome, bytes_eq, codes};
+ghost use Rattle.run_files.specs.ImageWords.{name_in};
+ghost use Rattle.vm_run.specs.declared.words.Tool.TheVariants.{Replay};
 ghost use Rattle.std.specs.Char.{is_ascii_digit};
 ghost use Rattle.std.specs.List.{AllWithin, list_all, list_any};
 ghost use Rattle.vm_run.specs.Opening.{word_of};
@@ -29,6 +31,8 @@ pub enum Tool {
     Assemble,
     /// `dis IMAGE`: the instructions of an image are listed.
     Show,
+    /// `replay TRANSCRIPT IMAGE..`: a transcript is judged as a run of images.
+    Replay,
 }
 
 /// The command that the words after the program's name ask for, where they are good and it is one that runs no
@@ -43,8 +47,19 @@ pub fn read_tool(words: &[&str]) -> Option<Tool>
     match word_or_empty(words, 0) {
         "as" => Some(Tool::Assemble),
         "dis" => Some(Tool::Show),
+        "replay" => Some(Tool::Replay),
         _ => None,
     }
+}
+
+/// The words of the images of `replay`.
+pub fn replay_images<'a>(words: &'a [&'a str]) -> &'a [&'a str]
+    requires { tool_of (map (λ word. word.now) words.now) ≡ Some Replay }
+    ensures words { map (λ word. word.now) result.now ≡ drop 2 (map (λ word. word.now) words.now) }
+    ensures few { length result.now ≤ 16 }
+    ensures names { All (λ word. length (name_in word.now) < 64) result.now }
+{
+    from_place(words, 2)
 }
 
 /// Reads the words after the program's name. They are one of

@@ -1,12 +1,15 @@
 use Rattle.std.proofs.Common.{◌+◌, List, ℕ, Ok, Err, sym, ap, ◌∙◌, subst}
 use Rattle.io_edge.specs.FileHolding.{NamedFile}
 use Rattle.run_files.specs.declared.answers.Loaded.{Loaded}
+use Rattle.run_files.specs.declared.answers.Unread.TheVariants as unreads
 use Rattle.run_files.specs.Told.{image_told}
-use Rattle.source_commands.specs.declared.fault.Fault.{Fault}
-use Rattle.source_commands.specs.declared.fault.Fault.TheVariants.{NoMemory}
+use Rattle.command_ending.specs.declared.fault.Fault.{Fault}
+use Rattle.command_ending.specs.declared.fault.Fault.TheVariants.{NoMemory}
 use Rattle.source_commands.specs.Listing.{IsListing, code_at}
-use Rattle.source_commands.specs.Command.{Faults, Made, EndsListing}
-use Rattle.source_commands.proofs.Makings.{made_by, made_nothing, unread_image}
+use Rattle.command_ending.specs.Command.{Faults, Made}
+use Rattle.source_commands.specs.Command.{EndsListing}
+use Rattle.command_ending.proofs.Makings.{made_by, made_nothing}
+use Rattle.source_commands.proofs.Makings.{unread_image}
 use Rattle.source_commands.proofs.listing.listing_from.Goals as goal
 
 pub returns-in-Err : goal.returns-in-Err
@@ -17,14 +20,14 @@ returns-in-Err g c =
       page_before = g.F.Files.page_faults c.args.files.now;
       page_after = g.F.Files.page_faults c.load_image.new.files;
     } in
-    subst (λ (e : Fault). Made EndsListing (λ (list : List NamedFile). image_told list c.args.name.now) (g.F.Files.holds c.args.files.now) f (Err e)) (sym c.of_unread.ensures)
-    (unread_image {A = Loaded} (λ loaded. (loaded.image, loaded.bytes.items)) (λ (list : List NamedFile). image_told list c.args.name.now) (g.F.Files.holds c.args.files.now) f c.in-Err.unread
+    subst (λ (e : Fault). Made (EndsListing c.args.name.now) (λ (list : List NamedFile). image_told list c.args.name.now) (g.F.Files.holds c.args.files.now) f (Err e)) (sym c.of_unread.ensures)
+    (unread_image {A = Loaded} (λ loaded. (loaded.image, loaded.bytes.items)) c.args.name (λ (list : List NamedFile). image_told list c.args.name.now) (g.F.Files.holds c.args.files.now) f c.in-Err.unread
     c.in-Err.ensures.answers c.in-Err.ensures.faults)
 
 pub returns-in-Ok-listing_of : goal.returns-in-Ok-listing_of
 returns-in-Ok-listing_of g c =
     let image = c.in-Ok.loaded.image in
-    made_by EndsListing (λ (list : List NamedFile). image_told list c.args.name.now) (g.F.Files.holds c.args.files.now) _ (Ok c.in-Ok-listing_of.listing.items) (Ok (image, c.in-Ok.loaded.bytes.items))
+    made_by (EndsListing c.args.name.now) (λ (list : List NamedFile). image_told list c.args.name.now) (g.F.Files.holds c.args.files.now) _ (Ok c.in-Ok-listing_of.listing.items) (Ok (image, c.in-Ok.loaded.bytes.items))
     c.in-Ok.ensures.answers (
       record { open_same = c.in-Ok.ensures.faults.0; page_same = c.in-Ok.ensures.faults.1 },
       subst (λ (code : List ℕ). IsListing (image.entry + 2) code c.in-Ok-listing_of.listing.items)
@@ -33,4 +36,4 @@ returns-in-Ok-listing_of g c =
 
 pub returns : goal.returns
 returns g c =
-    made_nothing EndsListing (λ (list : List NamedFile). image_told list c.args.name.now) (g.F.Files.holds c.args.files.now) _ (Err NoMemory) (λ read. tt)
+    made_nothing (EndsListing c.args.name.now) (Err unreads.NoMemory) (λ (list : List NamedFile). image_told list c.args.name.now) (g.F.Files.holds c.args.files.now) _ (Err NoMemory) (λ read. tt)

@@ -1,9 +1,10 @@
 use Rattle.std.proofs.Common.{List}
 use Rattle.io_edge.specs.FileHolding.{NamedFile}
 use Rattle.run_files.specs.Told.{bytes_told}
-use Rattle.source_commands.specs.Ending.{ending_of}
-use Rattle.source_commands.specs.Command.{Faults, EndsAssembly, source_bytes}
-use Rattle.source_commands.proofs.Makings.{completed}
+use Rattle.command_ending.specs.Ending.{ending_of}
+use Rattle.command_ending.specs.Command.{Faults}
+use Rattle.source_commands.specs.Command.{EndsAssembly, source_bytes}
+use Rattle.command_ending.proofs.Makings.{completed}
 use Rattle.source_commands.proofs.source.assemble_file.Goals as goal
 
 pub returns : goal.returns
@@ -14,6 +15,6 @@ returns g c =
       page_before = g.F.Files.page_faults c.args.files.now;
       page_after = g.F.Files.page_faults c.file_from-made.new.files;
     } in
-    completed EndsAssembly (λ (files : List NamedFile). bytes_told files c.args.name.now source_bytes) c.args.name.now (g.F.Files.holds c.args.files.now) f
+    completed (EndsAssembly c.args.name.now) (λ (files : List NamedFile). bytes_told files c.args.name.now source_bytes) (g.F.Files.holds c.args.files.now) f
     (g.S.Sink.written c.args.sink.now) (g.S.Sink.written c.write_ending.new.sink) (g.S.Sink.faults c.args.sink.now) (g.S.Sink.faults c.write_ending.new.sink) c.write_ending.result
     (ending_of c.file_from-made.result) (λ read. tt) c.file_from-made.ensures c.write_ending.ensures

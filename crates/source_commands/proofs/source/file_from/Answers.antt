@@ -1,12 +1,15 @@
 use Rattle.std.proofs.Common.{List, ℕ, Ok, Err, Vec, Global, sym, subst}
 use Rattle.io_edge.specs.FileHolding.{NamedFile}
 use Rattle.vax_asm.specs.Program.{IsProgramOf, IsFirstBad, AssemblesAs}
+use Rattle.run_files.specs.declared.answers.Unread.TheVariants as unreads
 use Rattle.run_files.specs.Told.{bytes_told}
-use Rattle.source_commands.specs.declared.fault.Fault.{Fault}
-use Rattle.source_commands.specs.declared.fault.Fault.TheVariants.{NoMemory, BadSource}
-use Rattle.source_commands.specs.Command.{Faults, Made, EndsAssembly}
+use Rattle.command_ending.specs.declared.fault.Fault.{Fault}
+use Rattle.command_ending.specs.declared.fault.Fault.TheVariants.{NoMemory, BadSource}
+use Rattle.command_ending.specs.Command.{Faults, Made}
+use Rattle.source_commands.specs.Command.{EndsAssembly}
 use Rattle.source_commands.proofs.Limits.{program_limit}
-use Rattle.source_commands.proofs.Makings.{made_by, made_nothing, unread_source}
+use Rattle.command_ending.proofs.Makings.{made_by, made_nothing}
+use Rattle.source_commands.proofs.Makings.{unread_source}
 use Rattle.source_commands.proofs.source.file_from.Goals as goal
 
 pub returns-in-Err : goal.returns-in-Err
@@ -17,8 +20,8 @@ returns-in-Err g c =
       page_before = g.F.Files.page_faults c.args.files.now;
       page_after = g.F.Files.page_faults c.read_file.new.files;
     } in
-    subst (λ (e : Fault). Made EndsAssembly (λ (list : List NamedFile). bytes_told list c.args.name.now 495617) (g.F.Files.holds c.args.files.now) f (Err e)) (sym c.of_unread.ensures)
-    (unread_source {A = Vec ℕ Global} (λ bytes. bytes.items) (λ (list : List NamedFile). bytes_told list c.args.name.now 495617) (g.F.Files.holds c.args.files.now) f c.in-Err.unread
+    subst (λ (e : Fault). Made (EndsAssembly c.args.name.now) (λ (list : List NamedFile). bytes_told list c.args.name.now 495617) (g.F.Files.holds c.args.files.now) f (Err e)) (sym c.of_unread.ensures)
+    (unread_source {A = Vec ℕ Global} (λ bytes. bytes.items) c.args.name (λ (list : List NamedFile). bytes_told list c.args.name.now 495617) (g.F.Files.holds c.args.files.now) f c.in-Err.unread
     c.in-Err.ensures.answers c.in-Err.ensures.error c.in-Err.ensures.open_faults)
 
 pub file_of-requires : goal.file_of-requires
@@ -26,7 +29,7 @@ file_of-requires g c = program_limit c.as_slice.result.now c.in-Ok-Is.program.by
 
 pub returns-in-Ok-file_of : goal.returns-in-Ok-file_of
 returns-in-Ok-file_of g c =
-    made_by EndsAssembly (λ (list : List NamedFile). bytes_told list c.args.name.now 495617) (g.F.Files.holds c.args.files.now) _ (Ok c.in-Ok-file_of.file.items) (Ok c.in-Ok.source.items)
+    made_by (EndsAssembly c.args.name.now) (λ (list : List NamedFile). bytes_told list c.args.name.now 495617) (g.F.Files.holds c.args.files.now) _ (Ok c.in-Ok-file_of.file.items) (Ok c.in-Ok.source.items)
     c.in-Ok.ensures.answers (
       record { open_same = c.in-Ok.ensures.open_faults; page_same = c.in-Ok.ensures.page_faults },
       record {
@@ -40,14 +43,14 @@ returns-in-Ok-file_of g c =
 
 pub returns-in-Ok-Is : goal.returns-in-Ok-Is
 returns-in-Ok-Is g c =
-    made_nothing EndsAssembly (λ (list : List NamedFile). bytes_told list c.args.name.now 495617) (g.F.Files.holds c.args.files.now) _ (Err NoMemory) (λ read. tt)
+    made_nothing (EndsAssembly c.args.name.now) (Err unreads.NoMemory) (λ (list : List NamedFile). bytes_told list c.args.name.now 495617) (g.F.Files.holds c.args.files.now) _ (Err NoMemory) (λ read. tt)
 
 pub returns-in-Ok-BadLine : goal.returns-in-Ok-BadLine
 returns-in-Ok-BadLine g c =
-    made_by EndsAssembly (λ (list : List NamedFile). bytes_told list c.args.name.now 495617) (g.F.Files.holds c.args.files.now) _ (Err (BadSource c.in-Ok-BadLine.line)) (Ok c.in-Ok.source.items)
+    made_by (EndsAssembly c.args.name.now) (λ (list : List NamedFile). bytes_told list c.args.name.now 495617) (g.F.Files.holds c.args.files.now) _ (Err (BadSource c.in-Ok-BadLine.line)) (Ok c.in-Ok.source.items)
     c.in-Ok.ensures.answers (subst (λ (source : List ℕ). IsFirstBad source c.in-Ok-BadLine.line) c.as_slice.ensures.value
     (subst (AssemblesAs c.as_slice.result.now) c.in-Ok-BadLine.field-0-is c.in-Ok-BadLine.ensures))
 
 pub returns : goal.returns
 returns g c =
-    made_nothing EndsAssembly (λ (list : List NamedFile). bytes_told list c.args.name.now 495617) (g.F.Files.holds c.args.files.now) _ (Err NoMemory) (λ read. tt)
+    made_nothing (EndsAssembly c.args.name.now) (Err unreads.NoMemory) (λ (list : List NamedFile). bytes_told list c.args.name.now 495617) (g.F.Files.holds c.args.files.now) _ (Err NoMemory) (λ read. tt)

@@ -1,5 +1,5 @@
 use Rattle.std.proofs.Common.{map, refl}
-use Rattle.vm_run.specs.Transcript.{Faults}
+use Rattle.command_ending.specs.Command.{Faults}
 use Rattle.vm_run.proofs.Transcribing.{transcribed}
 use Rattle.vm_run.proofs.command.run_command.Goals as goal
 

@@ -1,7 +1,8 @@
 use Rattle.std.proofs.Common.{◌≡◌, ℕ, Some, None, Err, refl, sym, ◌∙◌, subst}
 use Rattle.vm_run.specs.declared.opening.Opened.{Opened}
 use Rattle.vm_run.specs.Opening.{EndsSchedule, Says, image_ending, device_ending}
-use Rattle.vm_run.specs.Transcript.{Faults, IsRunEnding}
+use Rattle.command_ending.specs.Command.{Faults}
+use Rattle.vm_run.specs.Transcript.{IsRunEnding}
 use Rattle.vm_run.proofs.Transcribing.{run_ends, kind_by, ends_by_schedule, ends_by_image, ends_by_device, ends_by_run, ended_early}
 use Rattle.vm_run.proofs.command.run_named.Goals as goal
 

@@ -1,0 +1,51 @@
+-- What a command does: what it reads, how it ends by that, and what it writes.
+use Rattle.std.specs.Prelude.{◌≡◌, ◌⊎◌, ℕ, List, Option, Some, Err}
+use Rattle.io_edge.specs.Count.{Rose}
+use Rattle.io_edge.specs.FileHolding.{NamedFile}
+use Rattle.io_edge.specs.Written.{Appends, AppendsSome}
+use Rattle.command_ending.specs.declared.fault.Fault.TheVariants.{NoMemory}
+use Rattle.command_ending.specs.Ending.{Ending, text_of, status_of, sink_fault}
+
+-- the two counts of the files' faults, before and after
+pub record Faults : Type 0 where
+  pub open_before : ℕ
+  pub open_after : ℕ
+  pub page_before : ℕ
+  pub page_after : ℕ
+
+-- no count rose
+pub record NoFaults (f : Faults) : Type 0 where
+  pub open_same : f.open_after ≡ f.open_before
+  pub page_same : f.page_after ≡ f.page_before
+
+-- one of them rose
+abbrev pub OneRose : Faults → Type 0
+OneRose f = Rose f.open_before f.open_after ⊎ Rose f.page_before f.page_after
+
+-- an end by what was read, which is what is told where the files are told
+pub record Made {R E : Type 0} (Ends : R → Faults → E → Type 0) (told : List NamedFile → R) (holds : Option (List NamedFile)) (f : Faults) (ending : E) : Type 0 where
+  pub read : R
+  pub is_told : (files : List NamedFile) → holds ≡ Some files → read ≡ told files
+  pub ends : Ends read f ending
+
+-- the whole text was written, and the status is the one that goes with it; or the output failed, and a prefix was written
+pub data Writes (before after : Option (List ℕ)) (old_faults new_faults : ℕ) (text : List ℕ) (whole status : ℕ) : Type 0 where
+  All : status ≡ whole → Appends before text after → new_faults ≡ old_faults → Writes before after old_faults new_faults text whole status
+  Prefix : status ≡ sink_fault → AppendsSome before text after → Rose old_faults new_faults → Writes before after old_faults new_faults text whole status
+
+abbrev pub WritesEnding : Option (List ℕ) → Option (List ℕ) → ℕ → ℕ → Ending → ℕ → Type 0
+WritesEnding before after old_faults new_faults ending status =
+    Writes before after old_faults new_faults (text_of ending) (status_of ending) status
+
+-- an ending is written, or one that found no memory
+abbrev pub WritesSome : Option (List ℕ) → Option (List ℕ) → ℕ → ℕ → Ending → ℕ → Type 0
+WritesSome before after old_faults new_faults ending status =
+    WritesEnding before after old_faults new_faults ending status
+    ⊎ WritesEnding before after old_faults new_faults (Err NoMemory) status
+
+-- A command's status and text: there is one ending, by what was read, and its text was written.
+pub record Completes {R : Type 0} (Ends : R → Faults → Ending → Type 0) (told : List NamedFile → R) (holds : Option (List NamedFile)) (f : Faults)
+    (before after : Option (List ℕ)) (old_faults new_faults status : ℕ) : Type 0 where
+  pub ending : Ending
+  pub made : Made Ends told holds f ending
+  pub writes : WritesEnding before after old_faults new_faults ending status

@@ -1,0 +1,66 @@
+-- The endings of a command: what it made, or its fault, with the statuses and the lines of the faults.
+use Rattle.std.specs.Prelude.{ℕ, List, ◌++◌, codes, decimal, Vec, Result, Ok, Err}
+use Rattle.std.specs.Borrow.{Bor}
+use Rattle.run_files.specs.declared.answers.Unread.{Unread}
+use Rattle.run_files.specs.declared.answers.Unread.TheVariants as unreads
+use Rattle.command_ending.specs.declared.fault.Fault.{Fault}
+use Rattle.command_ending.specs.declared.fault.Fault.TheVariants.{Absent, NotImage, FileFault, NoMemory, NotFlatRun, BadTranscript, TooLong, BadSource}
+
+-- what a command makes, or why it doesn't
+abbrev pub Ending : Type 0
+Ending = Result (List ℕ) Fault
+
+abbrev pub ending_of : {A : Type 0} → Result (Vec ℕ A) Fault → Ending
+ending_of (Ok output) = Ok output.items
+ending_of (Err fault) = Err fault
+
+-- the fault of a file of this name that wasn't read
+abbrev pub fault_of : Bor (List ℕ) → Unread → Fault
+fault_of name unreads.Absent = Absent name
+fault_of name (unreads.NotImage reason) = NotImage name reason
+fault_of name unreads.FileFault = FileFault
+fault_of name unreads.NoMemory = NoMemory
+
+abbrev pub fault_status : Fault → ℕ
+fault_status (Absent name) = 2
+fault_status (NotImage name reason) = 3
+fault_status FileFault = 5
+fault_status NoMemory = 9
+fault_status (NotFlatRun line) = 14
+fault_status (BadTranscript line) = 15
+fault_status TooLong = 16
+fault_status (BadSource line) = 17
+
+abbrev pub absent_line : List ℕ → List ℕ
+absent_line name = codes "vmrun: absent " ++ name ++ codes "\n"
+
+abbrev pub not_image_line : List ℕ → ℕ → List ℕ
+not_image_line name reason = codes "vmrun: not an image: " ++ name ++ codes " reason " ++ decimal reason ++ codes "\n"
+
+-- words and a number
+abbrev pub numbered_line : List ℕ → ℕ → List ℕ
+numbered_line words number = words ++ decimal number ++ codes "\n"
+
+-- the line of a fault
+abbrev pub fault_line : Fault → List ℕ
+fault_line (Absent name) = absent_line name.now
+fault_line (NotImage name reason) = not_image_line name.now reason
+fault_line FileFault = codes "vmrun: file fault\n"
+fault_line NoMemory = codes "vmrun: no memory\n"
+fault_line (NotFlatRun line) = numbered_line (codes "not a flat run: line ") line
+fault_line (BadTranscript line) = numbered_line (codes "vmrun: bad transcript line ") line
+fault_line TooLong = codes "vmrun: transcript too long\n"
+fault_line (BadSource line) = numbered_line (codes "vmrun: bad source line ") line
+
+-- what is written at an ending: what was made, or the line of the fault
+abbrev pub text_of : Ending → List ℕ
+text_of (Ok output) = output
+text_of (Err fault) = fault_line fault
+
+abbrev pub status_of : Ending → ℕ
+status_of (Ok output) = 0
+status_of (Err fault) = fault_status fault
+
+-- the status where the output fails
+abbrev pub sink_fault : ℕ
+sink_fault = 8

@@ -1,0 +1,49 @@
+// The lines about faults, which the commands share.
+ghost use Rattle.std.specs.Prelude.{◌≡◌, ◌++◌, IfOk, OnOk, decimal};
+ghost use Rattle.command_ending.specs.Ending.{absent_line, not_image_line, numbered_line};
+
+use itoa::Buffer;
+use std::alloc::{AllocError, Global};
+
+/// The line of want of memory.
+pub const NO_MEMORY: &[u8; 17] = b"vmrun: no memory\n";
+
+/// Puts a number in decimal.
+pub fn put_number(line: &mut Vec<u8>, number: u32) -> Result<(), AllocError>
+    ensures { OnOk result (line.new.items ≡ line.old.items ++ decimal number) }
+{
+    let mut buffer = Buffer::new();
+    line.extend_from_slice(buffer.format(number).as_bytes())
+}
+
+/// The line about a name that no file has.
+pub fn absent_line(alloc: Global, name: &str) -> Result<Vec<u8>, AllocError>
+    ensures { IfOk result (λ line. line.items ≡ absent_line name.now) }
+{
+    let mut line = Vec::from_slice(alloc, b"vmrun: absent ")?;
+    line.extend_from_slice(name.as_bytes())?;
+    line.push(b'\n')?;
+    Ok(line)
+}
+
+/// The line about a file that is no image, and why.
+pub fn not_image_line(alloc: Global, name: &str, reason: u8) -> Result<Vec<u8>, AllocError>
+    ensures { IfOk result (λ line. line.items ≡ not_image_line name.now reason) }
+{
+    let mut line = Vec::from_slice(alloc, b"vmrun: not an image: ")?;
+    line.extend_from_slice(name.as_bytes())?;
+    line.extend_from_slice(b" reason ")?;
+    put_number(&mut line, reason as u32)?;
+    line.push(b'\n')?;
+    Ok(line)
+}
+
+/// The line of these words and a number.
+pub fn numbered_line(alloc: Global, words: &[u8], number: u32) -> Result<Vec<u8>, AllocError>
+    ensures { IfOk result (λ line. line.items ≡ numbered_line words.now number) }
+{
+    let mut line = Vec::from_slice(alloc, words)?;
+    put_number(&mut line, number)?;
+    line.push(b'\n')?;
+    Ok(line)
+}

@@ -1,0 +1,4 @@
+pub mod LastLines
+pub mod Transcripts
+pub mod Loadings
+pub mod Replays

@@ -1,0 +1,3 @@
+pub mod LastLine
+pub mod Reading
+pub mod Command

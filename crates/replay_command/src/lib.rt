@@ -1,0 +1,13 @@
+//! The command that judges a transcript: whether its entries are a run of the flat machine over its images.
+#![tactic(auto)]
+
+mod command;
+mod images;
+mod last_line;
+mod naming;
+mod transcript;
+
+pub use command::replay_file;
+
+#[cfg(test)]
+mod tests;
