@@ -5,3 +5,4 @@ pub mod Finding
 pub mod Replies
 pub mod Others
 pub mod Numbers
+pub mod Asking

@@ -1,10 +1,10 @@
 -- Pages in lists of pages.
-use Rattle.std.proofs.Common.{◌≡◌, ℕ, ◌==◌, Bool, true, false, not, cond, ◌&&◌, ◌||◌, List, [], ◌∷◌, filter, refl, sym, ap, ◌∙◌, arith, eq-eqb}
+use Rattle.std.proofs.Common.{◌≡◌, ℕ, ◌==◌, Bool, true, false, not, cond, ◌&&◌, ◌||◌, List, [], ◌∷◌, filter, refl, ap, ◌∙◌, arith, eq-eqb}
 use Rattle.std.proofs.lemmas.Bool.Decides.{nat_tests}
 use Rattle.vm_facts.specs.declared.page.Page.{Page}
 use Rattle.vm_facts.specs.declared.page.Page.TheVariants.{Data, Stack, Text}
 use Rattle.page_model.specs.Pages.{same_page, is_among}
-use Rattle.flat_model.specs.Touched.{distinct, same_page as same_touched}
+use Rattle.flat_model.specs.Touched.{distinct}
 
 number_is : (a b : ℕ) → (a == b) ≡ true → a ≡ b
 number_is a b h = grind (arith, nat_tests)
@@ -29,18 +29,6 @@ same_is (Stack a v) (Stack b w) h = let p = both_so (a == b) (v == w) h in ap (�
 same_is (Text a v) (Text b w) h = let p = both_so (a == b) (v == w) h in ap (λ (x : ℕ). Text x v) (number_is a b p.0) ∙ ap (λ (x : ℕ). Text b x) (number_is v w p.1)
 same_is _ _ h = absurd cc
 
--- the two tests are one
-same_tests : (q r : Page) → same_touched q r ≡ same_page q r
-same_tests (Data a v) (Data b w) = refl
-same_tests (Data a v) (Stack b w) = refl
-same_tests (Data a v) (Text b w) = refl
-same_tests (Stack a v) (Data b w) = refl
-same_tests (Stack a v) (Stack b w) = refl
-same_tests (Stack a v) (Text b w) = refl
-same_tests (Text a v) (Data b w) = refl
-same_tests (Text a v) (Stack b w) = refl
-same_tests (Text a v) (Text b w) = refl
-
 -- a page stays among those that another test than itself leaves
 among_kept : (test : Page → Bool) (q : Page) (xs : List Page) → test q ≡ true → is_among q xs ≡ true → is_among q (filter test xs) ≡ true
 among_kept test q [] t h = absurd cc
@@ -56,16 +44,16 @@ among_kept test q (x ∷ xs) t h = go (λ k. among_kept test q xs t k) (same_pag
 pub among_distinct : (q : Page) (xs : List Page) → is_among q xs ≡ true → is_among q (distinct xs) ≡ true
 unfolding distinct
 among_distinct q [] h = absurd cc
-among_distinct q (x ∷ xs) h = go (λ k. among_distinct q xs k) (same_page q x) refl h (same_touched x q) refl
+among_distinct q (x ∷ xs) h = go (λ k. among_distinct q xs k) (same_page q x) refl h (same_page x q) refl
   where
-    go : (is_among q xs ≡ true → is_among q (distinct xs) ≡ true) → (a : Bool) → same_page q x ≡ a → (a || is_among q xs) ≡ true → (b : Bool) → same_touched x q ≡ b → (same_page q x || is_among q (filter (λ other. not (same_touched x other)) (distinct xs))) ≡ true
-    go later true e k b f = ap (λ (a : Bool). a || is_among q (filter (λ other. not (same_touched x other)) (distinct xs))) e
+    go : (is_among q xs ≡ true → is_among q (distinct xs) ≡ true) → (a : Bool) → same_page q x ≡ a → (a || is_among q xs) ≡ true → (b : Bool) → same_page x q ≡ b → (same_page q x || is_among q (filter (λ other. not (same_page x other)) (distinct xs))) ≡ true
+    go later true e k b f = ap (λ (a : Bool). a || is_among q (filter (λ other. not (same_page x other)) (distinct xs))) e
     go later false e k true f =
-        let same : x ≡ q = same_is x q (sym (same_tests x q) ∙ f) in
+        let same : x ≡ q = same_is x q f in
         absurd (let self : same_page q x ≡ true = ap (λ (r : Page). same_page q r) same ∙ same_self q in cc)
     go later false e k false f =
-        ap (λ (a : Bool). a || is_among q (filter (λ other. not (same_touched x other)) (distinct xs))) e
-        ∙ among_kept (λ other. not (same_touched x other)) q (distinct xs) (ap not f) (later k)
+        ap (λ (a : Bool). a || is_among q (filter (λ other. not (same_page x other)) (distinct xs))) e
+        ∙ among_kept (λ other. not (same_page x other)) q (distinct xs) (ap not f) (later k)
 
 pub among_first : (q : Page) (xs : List Page) → is_among q (q ∷ xs) ≡ true
 among_first q xs = ap (λ (a : Bool). a || is_among q xs) (same_self q)

@@ -29,7 +29,8 @@ use Rattle.flat_model.specs.Calls.{call_of, reply_of}
 use Rattle.flat_model.specs.Instruction.{instruction_in}
 use Rattle.flat_model.specs.Step.{Step, step_of, step_behind, called_step, replied_step, step_holding, step_if, flat_step, written_process, reply_behind}
 use Rattle.flat_model.specs.Touched.{page_read, page_tested, page_of_access, call_accesses, accesses_behind, accesses_after, step_accesses, touched_in, touched_by, touched_if, touched, distinct}
-use Rattle.flat_laws.specs.Shown.{is_shown, read_where, test_where, shown, IsOneOf, AreOf, IsCallOf}
+use Rattle.flat_model.specs.Shown.{is_shown, read_where, test_where, shown}
+use Rattle.flat_laws.specs.Shown.{IsOneOf, AreOf, IsCallOf}
 use Rattle.flat_laws.proofs.Pages.{among_distinct, among_first, among_later}
 
 -- Answers that are alike.

@@ -1,39 +1,14 @@
--- A space of which some pages alone are there: what the machine's memory answers while the others still have to be
--- brought in.
-use Rattle.std.specs.Prelude.{◌≡◌, Bool, true, false, List, [], ◌∷◌, ℤ, Option, Some, None}
-use Rattle.vm_facts.specs.Answers.{Answers, ByteWrite}
+-- Bytes of some pages alone, and the call of an instruction.
+use Rattle.std.specs.Prelude.{◌≡◌, true, List, [], ◌∷◌, ℤ, Option, Some, None}
+use Rattle.vm_facts.specs.Answers.{ByteWrite}
 use Rattle.vm_facts.specs.Flat.{Space}
-use Rattle.vm_facts.specs.declared.memory.ByteRead.{ByteRead}
-use Rattle.vm_facts.specs.declared.memory.ByteRead.TheVariants as reads
-use Rattle.vm_facts.specs.declared.memory.MayWrite.{MayWrite}
-use Rattle.vm_facts.specs.declared.memory.MayWrite.TheVariants as tests
 use Rattle.vm_facts.specs.declared.page.Page.{Page}
 use Rattle.page_model.specs.Pages.{is_among}
-use Rattle.page_model.specs.Space.{address_in, byte_at, may_write_at}
+use Rattle.page_model.specs.Space.{address_in}
 use Rattle.user_vax.specs.Effects.{Effect}
 use Rattle.flat_model.specs.declared.calls.SystemCall.{SystemCall}
 use Rattle.flat_model.specs.Calls.{call_of}
-use Rattle.flat_model.specs.Touched.{page_read, page_tested}
-
--- the page is there, or none is asked for
-abbrev pub is_shown : List Page → Option Page → Bool
-is_shown pages None = true
-is_shown pages (Some q) = is_among q pages
-
-abbrev pub read_where : Bool → ByteRead → ByteRead
-read_where true byte = byte
-read_where false byte = reads.Miss
-
-abbrev pub test_where : Bool → MayWrite → MayWrite
-test_where true may = may
-test_where false may = tests.Miss
-
--- what a space answers of which these pages are there: every access to another one misses
-abbrev pub shown : Space → List Page → Answers
-shown s pages = record {
-  read = λ address. read_where (is_shown pages (page_read s (address_in s address))) (byte_at s (address_in s address));
-  may_write = λ address. test_where (is_shown pages (page_tested s (address_in s address))) (may_write_at (address_in s address));
-}
+use Rattle.flat_model.specs.Touched.{page_tested}
 
 -- one of these pages
 abbrev pub IsOneOf : List Page → Option Page → Type 0

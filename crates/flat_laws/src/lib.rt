@@ -8,6 +8,8 @@
 //! - `others_keep_their_spaces`: behind a step of a process every other one that holds a space holds it still, byte for
 //!   byte.
 //! - `numbers_are_kept`: in each run each process has a number of its own, and so has each space, below the next ones.
+//! - `asks_agree`: the pieces of swap space that a change wants by a machine's placement are those that the flat state
+//!   asks for, where the machine's tables are those of the flat state.
 #![tactic(auto)]
 
 ghost use Rattle.std.specs.Prelude.{◌≡◌, ◌≢◌, ℕ, Bool, true, false, List, Some, Ok};
@@ -16,17 +18,24 @@ ghost use Rattle.vm_facts.specs.declared.entry.Entry.{Entry};
 ghost use Rattle.user_vax.specs.Effects.{Effect};
 ghost use Rattle.user_vax.specs.Instruction.{instruction};
 ghost use Rattle.user_vax.specs.Program.{run};
-ghost use Rattle.page_model.specs.Flat.{Inputs, start_state, process_of, is_ready};
+ghost use Rattle.page_model.specs.declared.change.Change.{Change};
+ghost use Rattle.page_model.specs.Flat.{NamedImage, Inputs, start_state, process_of, is_ready, can_step};
 ghost use Rattle.page_model.specs.Change.{apply_writes};
+ghost use Rattle.page_model.specs.Kernel.{Kernel, SameTables, TextFits};
+ghost use Rattle.page_laws.specs.Asks.{asked};
 ghost use Rattle.page_laws.specs.FlatStands.{AllDistinct, pids_of, IsNumbered};
+ghost use Rattle.page_laws.specs.Numbers.{Numbered};
+ghost use Rattle.page_laws.specs.Start.{ImagesFit};
 ghost use Rattle.page_model.specs.Space.{answers_of, puts};
+ghost use Rattle.flat_model.specs.Asked.{change_wanted, asks};
 ghost use Rattle.flat_model.specs.declared.calls.SystemCall.{SystemCall};
 ghost use Rattle.flat_model.specs.Calls.{call_of, reply_of};
 ghost use Rattle.flat_model.specs.Instruction.{instruction_in};
 ghost use Rattle.flat_model.specs.Step.{flat_step, written_process};
 ghost use Rattle.flat_model.specs.Run.{Point, is_refused, act, process_of_entry, flat_entry, flat_run};
 ghost use Rattle.flat_model.specs.Touched.{touched};
-ghost use Rattle.flat_laws.specs.Shown.{shown, AreOf, IsCallOf};
+ghost use Rattle.flat_model.specs.Shown.{shown};
+ghost use Rattle.flat_laws.specs.Shown.{AreOf, IsCallOf};
 ghost use Rattle.flat_laws.specs.Others.{HoldsStill, is_refusal, is_writing};
 
 /// The next entry of a process's step follows from the flat state, from whether its pieces were refused, and from
@@ -57,4 +66,12 @@ pub fn numbers_are_kept()
     ensures start { (A : Inputs) → IsNumbered (start_state A) }
     ensures step { (A : Inputs) (F : FlatState) (pid : ℕ) (refused : Bool) → IsNumbered F → IsNumbered (flat_step A F pid refused).after }
     ensures run { (A : Inputs) (journal : List Entry) (point : Point) → flat_run A journal ≡ Some point → IsNumbered point.flat }
+{}
+
+/// Where a machine's tables are those of the flat state, a change of a process that holds a space wants the pieces of
+/// swap space by the placement that it wants by the flat state. So the change by which a process's next step ends wants
+/// just those that the step asks for.
+pub fn asks_agree()
+    ensures change { (images : List NamedImage) (k : Kernel) (flat : FlatState) (pid : ℕ) (p : Process) (s : Space) (change : Change) → ImagesFit images → TextFits images k.place → Numbered k → IsNumbered flat → SameTables k flat → process_of flat pid ≡ Some p → p.holding ≡ Holds s → asked images k pid change ≡ change_wanted images flat s change }
+    ensures step { (A : Inputs) (k : Kernel) (flat : FlatState) (pid : ℕ) → ImagesFit A.images → TextFits A.images k.place → Numbered k → IsNumbered flat → SameTables k flat → can_step flat pid ≡ true → asked A.images k pid (flat_step A flat pid false).change ≡ asks A flat pid }
 {}

@@ -3,6 +3,7 @@ pub mod Calls
 pub mod Step
 pub mod Run
 pub mod Touched
+pub mod Shown
 pub mod Asked
 pub mod Arguments
 pub mod State

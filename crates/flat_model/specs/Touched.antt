@@ -1,5 +1,5 @@
 -- The pages that the next instruction of a process touches.
-use Rattle.std.specs.Prelude.{ℕ, ◌/◌, ◌==◌, Bool, true, false, not, ◌&&◌, List, [], ◌∷◌, ◌++◌, filter, filter_map, Option, Some, None, Result, Ok, Err, ℤ}
+use Rattle.std.specs.Prelude.{ℕ, ◌/◌, Bool, true, false, not, List, [], ◌∷◌, ◌++◌, filter, filter_map, Option, Some, None, Result, Ok, Err, ℤ}
 use Rattle.vm_facts.specs.Flat.{Space, Holding, Holds, Lends, Zombie, Process, FlatState}
 use Rattle.vm_facts.specs.declared.page.Page.{Page}
 use Rattle.vm_facts.specs.declared.page.Page.TheVariants as pages
@@ -9,6 +9,7 @@ use Rattle.user_vax.specs.Instruction.{instruction}
 use Rattle.user_vax.specs.declared.refused.Refused.{Refused}
 use Rattle.page_model.specs.declared.spot.Spot.{Spot}
 use Rattle.page_model.specs.declared.spot.Spot.TheVariants.{Text, Data, Stack, Below, Outside}
+use Rattle.page_model.specs.Pages.{same_page}
 use Rattle.page_model.specs.Space.{answers_of, puts, address_in}
 use Rattle.page_model.specs.Change.{apply_writes}
 use Rattle.page_model.specs.Flat.{NamedImage, Inputs, process_of, is_ready}
@@ -36,12 +37,6 @@ page_tested s Outside = None
 abbrev pub page_of_access : Space → Access → Option Page
 page_of_access s (ReadOf address) = page_read s (address_in s address)
 page_of_access s (TestOf address) = page_tested s (address_in s address)
-
-abbrev pub same_page : Page → Page → Bool
-same_page (pages.Data a v) (pages.Data b w) = a == b && v == w
-same_page (pages.Stack a v) (pages.Stack b w) = a == b && v == w
-same_page (pages.Text a v) (pages.Text b w) = a == b && v == w
-same_page _ _ = false
 
 -- each page once, in the order of first places
 unfoldable pub distinct : List Page → List Page

@@ -10,6 +10,7 @@
 //! - Step: `flat_step`, the entries, writes and change of a process's next step.
 //! - Run: `flat_entry` and `flat_run`, the run of the flat machine that a journal is, or none.
 //! - Touched: `touched`, the pages that a process's next instruction reads, tests or writes.
+//! - Shown: `shown`, what a space answers of which some pages alone are there.
 //! - Asked: `asks` and `held`, the pieces of swap space that a step wants, and who holds which.
 //! - State: `State`, the whole of a run, and `start`.
 //! - Wanted: `running`, `wanted` and `locked`, the process that runs, the page it waits for and those it keeps.

@@ -17,9 +17,10 @@ use Rattle.user_vax.specs.declared.refused.Refused.TheVariants.{Miss, Below as F
 use Rattle.page_model.specs.declared.spot.Spot.{Spot}
 use Rattle.page_model.specs.declared.spot.Spot.TheVariants.{Text, Data, Stack, Below, Outside}
 use Rattle.page_model.specs.Space.{address_in, byte_at, may_write_at, answers_of, put_at, put, puts}
+use Rattle.page_model.specs.Pages.{same_page, is_among}
 use Rattle.page_model.specs.Writes.{MayPut, Wrote}
 use Rattle.page_model.proofs.SpaceLaws.{spot_after, put_answers, wrote_puts}
-use Rattle.flat_model.specs.Touched.{page_read, page_tested, page_of_access, same_page, distinct, call_accesses, accesses_behind, accesses_after, step_accesses, touched_in, touched_by, touched_if, touched}
+use Rattle.flat_model.specs.Touched.{page_read, page_tested, page_of_access, distinct, call_accesses, accesses_behind, accesses_after, step_accesses, touched_in, touched_by, touched_if, touched}
 use Rattle.user_vax.specs.Effects.{Effect}
 use Rattle.user_vax.specs.Instruction.{instruction, answer_of, answer_of_call, registers_after, writes_of}
 use Rattle.user_vax.specs.declared.stepping.Stepped.{Stepped}
@@ -36,7 +37,8 @@ use Rattle.flat_model.specs.Step.{written_process}
 use Rattle.replay_check.specs.Machine.{process_at, IsPlace}
 use Rattle.replay_check.proofs.Lists.{process_found}
 use Rattle.replay_check.proofs.Stepping.{space_hits}
-use Rattle.replay_check.specs.Present.{is_among, is_present, read_if, test_if, present_answers, WrotePresent, access_of, pages_of, with_page, gathered, refusal_of}
+use Rattle.flat_model.specs.Shown.{is_shown, read_where, test_where, shown}
+use Rattle.replay_check.specs.Present.{WrotePresent, access_of, pages_of, with_page, gathered, refusal_of}
 
 -- Names of pages.
 
@@ -59,24 +61,37 @@ same_is (pages.Stack a v) (pages.Text b w) h = absurd cc
 same_is (pages.Text a v) (pages.Data b w) h = absurd cc
 same_is (pages.Text a v) (pages.Stack b w) h = absurd cc
 
+same_turned : (p q : Page) → same_page p q ≡ same_page q p
+same_turned p q = go (same_page p q) (same_page q p) refl refl
+  where
+    go : (a b : Bool) → same_page p q ≡ a → same_page q p ≡ b → a ≡ b
+    go true true e k = refl
+    go true false e k =
+        let self : same_page q p ≡ true = ap (λ (r : Page). same_page q r) (same_is p q e) ∙ same_self q in
+        absurd cc
+    go false true e k =
+        let self : same_page p q ≡ true = ap (λ (r : Page). same_page p r) (same_is q p k) ∙ same_self p in
+        absurd cc
+    go false false e k = refl
+
 or_assoc : (a b c : Bool) → (a || (b || c)) ≡ ((a || b) || c)
 or_assoc true b c = refl
 or_assoc false b c = refl
 
 -- one more page is among them
-among_more : (ps : List Page) (p q : Page) → is_among (ps ++ p ∷ []) q ≡ (is_among ps q || same_page p q)
-among_more [] p q = or_false (same_page p q)
+among_more : (ps : List Page) (p q : Page) → is_among q (ps ++ p ∷ []) ≡ (is_among q ps || same_page p q)
+among_more [] p q = or_false (same_page q p) ∙ same_turned q p
   where
     or_false : (b : Bool) → (b || false) ≡ b
     or_false true = refl
     or_false false = refl
-among_more (r ∷ ps) p q = ap (λ (b : Bool). same_page r q || b) (among_more ps p q) ∙ or_assoc (same_page r q) (is_among ps q) (same_page p q)
+among_more (r ∷ ps) p q = ap (λ (b : Bool). same_page q r || b) (among_more ps p q) ∙ or_assoc (same_page q r) (is_among q ps) (same_page p q)
 
-among_kept : (ps : List Page) (p q : Page) → is_among ps q ≡ true → is_among (ps ++ p ∷ []) q ≡ true
+among_kept : (ps : List Page) (p q : Page) → is_among q ps ≡ true → is_among q (ps ++ p ∷ []) ≡ true
 among_kept ps p q h = among_more ps p q ∙ ap (λ (b : Bool). b || same_page p q) h
 
-among_last : (ps : List Page) (p : Page) → is_among (ps ++ p ∷ []) p ≡ true
-among_last ps p = among_more ps p p ∙ go (is_among ps p) (same_page p p) (same_self p)
+among_last : (ps : List Page) (p : Page) → is_among p (ps ++ p ∷ []) ≡ true
+among_last ps p = among_more ps p p ∙ go (is_among p ps) (same_page p p) (same_self p)
   where
     go : (a b : Bool) → b ≡ true → (a || b) ≡ true
     go true b h = refl
@@ -109,26 +124,26 @@ not_or true b = refl
 not_or false b = refl
 
 -- what is none of these pages is not this one of them
-left_other : (pages : List Page) (p q : Page) → is_among pages p ≡ true → not (is_among pages q) ≡ (not (is_among pages q) && not (same_page p q))
-left_other pages p q h = go (is_among pages q) (same_page p q) refl refl
+left_other : (pages : List Page) (p q : Page) → is_among p pages ≡ true → not (is_among q pages) ≡ (not (is_among q pages) && not (same_page p q))
+left_other pages p q h = go (is_among q pages) (same_page p q) refl refl
   where
-    go : (a b : Bool) → is_among pages q ≡ a → same_page p q ≡ b → not a ≡ (not a && not b)
+    go : (a b : Bool) → is_among q pages ≡ a → same_page p q ≡ b → not a ≡ (not a && not b)
     go true b e k = refl
     go false false e k = refl
     go false true e k =
-        let same : is_among pages p ≡ is_among pages q = ap (is_among pages) (same_is p q k) in
+        let same : is_among p pages ≡ is_among q pages = ap (λ (r : Page). is_among r pages) (same_is p q k) in
         absurd cc
 
 -- none of these pages
 abbrev left : List Page → Page → Bool
-left pages q = not (is_among pages q)
+left pages q = not (is_among q pages)
 
 pub gathered_is : (ps pages : List Page) → gathered pages ps ≡ pages ++ filter (left pages) (distinct ps)
 unfolding distinct
 gathered_is [] pages = sym (append-nil pages)
-gathered_is (p ∷ ps) pages = go (λ shown. gathered_is ps shown) (is_among pages p) refl
+gathered_is (p ∷ ps) pages = go (λ present. gathered_is ps present) (is_among p pages) refl
   where
-    go : ((shown : List Page) → gathered shown ps ≡ shown ++ filter (left shown) (distinct ps)) → (b : Bool) → is_among pages p ≡ b
+    go : ((present : List Page) → gathered present ps ≡ present ++ filter (left present) (distinct ps)) → (b : Bool) → is_among p pages ≡ b
         → gathered (with_page b pages p) ps
         ≡ pages ++ cond (not b) (p ∷ filter (left pages) (filter (λ q. not (same_page p q)) (distinct ps))) (filter (left pages) (filter (λ q. not (same_page p q)) (distinct ps)))
     go more true h =
@@ -137,7 +152,7 @@ gathered_is (p ∷ ps) pages = go (λ shown. gathered_is ps shown) (is_among pag
     go more false h =
         more (pages ++ p ∷ [])
         ∙ ap (λ (l : List Page). (pages ++ p ∷ []) ++ l)
-        (sym (filter_both (left pages) (λ q. not (same_page p q)) (left (pages ++ p ∷ [])) (λ q. ap not (among_more pages p q) ∙ not_or (is_among pages q) (same_page p q)) (distinct ps)))
+        (sym (filter_both (left pages) (λ q. not (same_page p q)) (left (pages ++ p ∷ [])) (λ q. ap not (among_more pages p q) ∙ not_or (is_among q pages) (same_page p q)) (distinct ps)))
         ∙ append_assoc pages (p ∷ []) (filter (left pages) (filter (λ q. not (same_page p q)) (distinct ps)))
 
 -- from none on, it is each page once
@@ -146,19 +161,19 @@ gathered_distinct ps = gathered_is ps [] ∙ filter_all (distinct ps)
 
 pub gathered_more : (pages ps qs : List Page) → gathered pages (ps ++ qs) ≡ gathered (gathered pages ps) qs
 gathered_more pages [] qs = refl
-gathered_more pages (p ∷ ps) qs = gathered_more (with_page (is_among pages p) pages p) ps qs
+gathered_more pages (p ∷ ps) qs = gathered_more (with_page (is_among p pages) pages p) ps qs
 
 -- each of a list is among these pages
 abbrev pub AllAmong : List Page → List Page → Type 0
 AllAmong pages [] = Unit {0}
-AllAmong pages (p ∷ ps) = (is_among pages p ≡ true) × AllAmong pages ps
+AllAmong pages (p ∷ ps) = (is_among p pages ≡ true) × AllAmong pages ps
 
 gathered_none : (pages ps : List Page) → AllAmong pages ps → gathered pages ps ≡ pages
 gathered_none pages [] all = refl
 gathered_none pages (p ∷ ps) all = ap (λ (b : Bool). gathered (with_page b pages p) ps) all.0 ∙ gathered_none pages ps all.1
 
 -- the first page that isn't there yet
-gathered_next : (pages front back : List Page) (page : Page) → AllAmong pages front → is_among pages page ≡ false
+gathered_next : (pages front back : List Page) (page : Page) → AllAmong pages front → is_among page pages ≡ false
     → gathered (pages ++ page ∷ []) (front ++ page ∷ back) ≡ gathered pages (front ++ page ∷ back)
 gathered_next pages [] back page all new =
     ap (λ (b : Bool). gathered (with_page b (pages ++ page ∷ []) page) back) (among_last pages page)
@@ -174,86 +189,86 @@ with_length false pages p = let e = length-append pages (p ∷ []) in omega (ari
 
 gathered_length : (pages ps : List Page) → length pages ≤ length (gathered pages ps)
 gathered_length pages [] = le_refl (length pages)
-gathered_length pages (p ∷ ps) = le_trans (with_length (is_among pages p) pages p) (gathered_length (with_page (is_among pages p) pages p) ps)
+gathered_length pages (p ∷ ps) = le_trans (with_length (is_among p pages) pages p) (gathered_length (with_page (is_among p pages) pages p) ps)
 
 -- A computation comes to the same as over the whole space, where the pages that it touches are present; or it misses
 -- at the first page that isn't.
 
-pub data Paging {A : Type 0} (s : Space) (shown : List Page) (some whole : Result A Refused) (touched : List Page) : Type 0 where
-  Whole : some ≡ whole → AllAmong shown touched → Paging s shown some whole touched
+pub data Paging {A : Type 0} (s : Space) (present : List Page) (some whole : Result A Refused) (touched : List Page) : Type 0 where
+  Whole : some ≡ whole → AllAmong present touched → Paging s present some whole touched
   Missing : (address : ℕ) (write : Bool) (page : Page) (front back : List Page) → some ≡ Err (Miss address write)
-      → page_of_access s (access_of address write) ≡ Some page → is_among shown page ≡ false → AllAmong shown front → touched ≡ front ++ page ∷ back
-      → Paging s shown some whole touched
+      → page_of_access s (access_of address write) ≡ Some page → is_among page present ≡ false → AllAmong present front → touched ≡ front ++ page ∷ back
+      → Paging s present some whole touched
 
-one_read : {A : Type 0} (s : Space) (shown : List Page) (address byte : ℕ) (page : Page) (next : ℕ → Result A Refused) (whole : Result A Refused) (touched : List Page)
-    → page_of_access s (ReadOf address) ≡ Some page → Paging s shown (next byte) whole touched
-    → (b : Bool) → is_among shown page ≡ b → Paging s shown (after_read (read_if b (reads.Is byte)) address next) whole (page ∷ touched)
-one_read s shown address byte page next whole touched is (Whole e all) true h = Whole e (h, all)
-one_read s shown address byte page next whole touched is (Missing a w p front back e k new all l) true h =
+one_read : {A : Type 0} (s : Space) (present : List Page) (address byte : ℕ) (page : Page) (next : ℕ → Result A Refused) (whole : Result A Refused) (touched : List Page)
+    → page_of_access s (ReadOf address) ≡ Some page → Paging s present (next byte) whole touched
+    → (b : Bool) → is_among page present ≡ b → Paging s present (after_read (read_where b (reads.Is byte)) address next) whole (page ∷ touched)
+one_read s present address byte page next whole touched is (Whole e all) true h = Whole e (h, all)
+one_read s present address byte page next whole touched is (Missing a w p front back e k new all l) true h =
     Missing a w p (page ∷ front) back e k new (h, all) (ap (λ (ps : List Page). page ∷ ps) l)
-one_read s shown address byte page next whole touched is rest false h = Missing address false page [] touched refl is h tt refl
+one_read s present address byte page next whole touched is rest false h = Missing address false page [] touched refl is h tt refl
 
-one_test : {A : Type 0} (s : Space) (shown : List Page) (address : ℕ) (page : Page) (next whole : Result A Refused) (touched : List Page)
-    → page_of_access s (TestOf address) ≡ Some page → Paging s shown next whole touched
-    → (b : Bool) → is_among shown page ≡ b → Paging s shown (after_test (test_if b tests.May) address next) whole (page ∷ touched)
-one_test s shown address page next whole touched is (Whole e all) true h = Whole e (h, all)
-one_test s shown address page next whole touched is (Missing a w p front back e k new all l) true h =
+one_test : {A : Type 0} (s : Space) (present : List Page) (address : ℕ) (page : Page) (next whole : Result A Refused) (touched : List Page)
+    → page_of_access s (TestOf address) ≡ Some page → Paging s present next whole touched
+    → (b : Bool) → is_among page present ≡ b → Paging s present (after_test (test_where b tests.May) address next) whole (page ∷ touched)
+one_test s present address page next whole touched is (Whole e all) true h = Whole e (h, all)
+one_test s present address page next whole touched is (Missing a w p front back e k new all l) true h =
     Missing a w p (page ∷ front) back e k new (h, all) (ap (λ (ps : List Page). page ∷ ps) l)
-one_test s shown address page next whole touched is rest false h = Missing address true page [] touched refl is h tt refl
+one_test s present address page next whole touched is rest false h = Missing address true page [] touched refl is h tt refl
 
-pub paging : {A : Type 0} (s : Space) (shown : List Page) (p : Program A) → Paging s shown (run (present_answers shown s) p) (run (answers_of s) p) (pages_of s (accesses (answers_of s) p))
-paging s shown (Gives x) = Whole refl tt
-paging s shown (Refuses signal) = Whole refl tt
-paging s shown (Reads address next) =
-    (elim (address_in s address) as (λ spot. address_in s address ≡ spot → Paging s shown
-    (after_read (read_if (is_present shown (page_read s spot)) (byte_at s spot)) address (λ byte. run (present_answers shown s) (next byte)))
+pub paging : {A : Type 0} (s : Space) (present : List Page) (p : Program A) → Paging s present (run (shown s present) p) (run (answers_of s) p) (pages_of s (accesses (answers_of s) p))
+paging s present (Gives x) = Whole refl tt
+paging s present (Refuses signal) = Whole refl tt
+paging s present (Reads address next) =
+    (elim (address_in s address) as (λ spot. address_in s address ≡ spot → Paging s present
+    (after_read (read_where (is_shown present (page_read s spot)) (byte_at s spot)) address (λ byte. run (shown s present) (next byte)))
     (after_read (byte_at s spot) address (λ byte. run (answers_of s) (next byte)))
     (cons_option (page_read s spot) (pages_of s (rest_of_read (byte_at s spot) (λ byte. accesses (answers_of s) (next byte)))))) [
-      | Text i ↦ λ e. one_read s shown address (slice_index s.text_bytes i) (pages.Text s.image (i / 1024)) (λ byte. run (present_answers shown s) (next byte)) _ _
-          (ap (page_read s) e) (paging s shown (next (slice_index s.text_bytes i))) (is_among shown (pages.Text s.image (i / 1024))) refl
-      | Data i ↦ λ e. one_read s shown address (slice_index s.data_bytes i) (pages.Data s.sid (i / 1024)) (λ byte. run (present_answers shown s) (next byte)) _ _
-          (ap (page_read s) e) (paging s shown (next (slice_index s.data_bytes i))) (is_among shown (pages.Data s.sid (i / 1024))) refl
-      | Stack i ↦ λ e. one_read s shown address (slice_index s.stack_bytes i) (pages.Stack s.sid (i / 1024)) (λ byte. run (present_answers shown s) (next byte)) _ _
-          (ap (page_read s) e) (paging s shown (next (slice_index s.stack_bytes i))) (is_among shown (pages.Stack s.sid (i / 1024))) refl
+      | Text i ↦ λ e. one_read s present address (slice_index s.text_bytes i) (pages.Text s.image (i / 1024)) (λ byte. run (shown s present) (next byte)) _ _
+          (ap (page_read s) e) (paging s present (next (slice_index s.text_bytes i))) (is_among (pages.Text s.image (i / 1024)) present) refl
+      | Data i ↦ λ e. one_read s present address (slice_index s.data_bytes i) (pages.Data s.sid (i / 1024)) (λ byte. run (shown s present) (next byte)) _ _
+          (ap (page_read s) e) (paging s present (next (slice_index s.data_bytes i))) (is_among (pages.Data s.sid (i / 1024)) present) refl
+      | Stack i ↦ λ e. one_read s present address (slice_index s.stack_bytes i) (pages.Stack s.sid (i / 1024)) (λ byte. run (shown s present) (next byte)) _ _
+          (ap (page_read s) e) (paging s present (next (slice_index s.stack_bytes i))) (is_among (pages.Stack s.sid (i / 1024)) present) refl
       | Below ↦ λ e. Whole refl tt
       | Outside ↦ λ e. Whole refl tt
     ]) refl
-paging s shown (Tests address next) =
-    (elim (address_in s address) as (λ spot. address_in s address ≡ spot → Paging s shown
-    (after_test (test_if (is_present shown (page_tested s spot)) (may_write_at spot)) address (run (present_answers shown s) next))
+paging s present (Tests address next) =
+    (elim (address_in s address) as (λ spot. address_in s address ≡ spot → Paging s present
+    (after_test (test_where (is_shown present (page_tested s spot)) (may_write_at spot)) address (run (shown s present) next))
     (after_test (may_write_at spot) address (run (answers_of s) next))
     (cons_option (page_tested s spot) (pages_of s (rest_of_test (may_write_at spot) (accesses (answers_of s) next))))) [
       | Text i ↦ λ e. Whole refl tt
-      | Data i ↦ λ e. one_test s shown address (pages.Data s.sid (i / 1024)) (run (present_answers shown s) next) _ _
-          (ap (page_tested s) e) (paging s shown next) (is_among shown (pages.Data s.sid (i / 1024))) refl
-      | Stack i ↦ λ e. one_test s shown address (pages.Stack s.sid (i / 1024)) (run (present_answers shown s) next) _ _
-          (ap (page_tested s) e) (paging s shown next) (is_among shown (pages.Stack s.sid (i / 1024))) refl
+      | Data i ↦ λ e. one_test s present address (pages.Data s.sid (i / 1024)) (run (shown s present) next) _ _
+          (ap (page_tested s) e) (paging s present next) (is_among (pages.Data s.sid (i / 1024)) present) refl
+      | Stack i ↦ λ e. one_test s present address (pages.Stack s.sid (i / 1024)) (run (shown s present) next) _ _
+          (ap (page_tested s) e) (paging s present next) (is_among (pages.Stack s.sid (i / 1024)) present) refl
       | Below ↦ λ e. Whole refl tt
       | Outside ↦ λ e. Whole refl tt
     ]) refl
 
 -- a miss names a page that isn't there yet, and is the next of those that are touched
-pub record Brings (s : Space) (shown : List Page) (address : ℕ) (write : Bool) (touched : List Page) : Type 0 where
+pub record Brings (s : Space) (present : List Page) (address : ℕ) (write : Bool) (touched : List Page) : Type 0 where
   pub page : Page
   pub named : page_of_access s (access_of address write) ≡ Some page
-  pub same : gathered (shown ++ page ∷ []) touched ≡ gathered shown touched
-  pub fewer : length shown < length (gathered shown touched)
+  pub same : gathered (present ++ page ∷ []) touched ≡ gathered present touched
+  pub fewer : length present < length (gathered present touched)
 
-pub missed : {A : Type 0} (s : Space) (shown : List Page) (p : Program A) (address : ℕ) (write : Bool) → run (present_answers shown s) p ≡ Err (Miss address write)
-    → Brings s shown address write (pages_of s (accesses (answers_of s) p))
-missed {A = A} s shown p address write h = go (run (present_answers shown s) p) (pages_of s (accesses (answers_of s) p)) h (paging s shown p)
+pub missed : {A : Type 0} (s : Space) (present : List Page) (p : Program A) (address : ℕ) (write : Bool) → run (shown s present) p ≡ Err (Miss address write)
+    → Brings s present address write (pages_of s (accesses (answers_of s) p))
+missed {A = A} s present p address write h = go (run (shown s present) p) (pages_of s (accesses (answers_of s) p)) h (paging s present p)
   where
-    go : (some : Result A Refused) (touched : List Page) → some ≡ Err (Miss address write) → Paging s shown some (run (answers_of s) p) touched → Brings s shown address write touched
+    go : (some : Result A Refused) (touched : List Page) → some ≡ Err (Miss address write) → Paging s present some (run (answers_of s) p) touched → Brings s present address write touched
     go some touched h (Whole e all) = absurd (space_hits s p address write (sym e ∙ h))
     go some touched h (Missing a w page front back e is new all l) =
         let both : Err (Miss a w) ≡ Err (Miss address write) = sym e ∙ h in
         let first : a ≡ address = cc in
         let second : w ≡ write = cc in
-        let same = gathered_next shown front back page all new in
-        let longer = gathered_length (shown ++ page ∷ []) (front ++ page ∷ back) in
+        let same = gathered_next present front back page all new in
+        let longer = gathered_length (present ++ page ∷ []) (front ++ page ∷ back) in
         let lengths = ap length same in
-        let one = length-append shown (page ∷ []) in
-        subst (Brings s shown address write) (sym l) (record {
+        let one = length-append present (page ∷ []) in
+        subst (Brings s present address write) (sym l) (record {
           page = page;
           named = ap₂ (λ (x : ℕ) (y : Bool). page_of_access s (access_of x y)) (sym first) (sym second) ∙ is;
           same = same;
@@ -261,18 +276,18 @@ missed {A = A} s shown p address write h = go (run (present_answers shown s) p) 
         })
 
 -- one more page was brought in: fewer are left to come
-pub record Brought (first shown more touched : List Page) : Type 0 where
+pub record Brought (first present more touched : List Page) : Type 0 where
   pub same : gathered more touched ≡ gathered first touched
-  pub fewer : length (gathered first touched) - length more < length (gathered first touched) - length shown
+  pub fewer : length (gathered first touched) - length more < length (gathered first touched) - length present
 
-pub brought : (s t : Space) (first shown kept more touched : List Page) (address : ℕ) (write : Bool) → t ≡ s → kept ≡ shown → Brings s shown address write touched
-    → gathered shown touched ≡ gathered first touched → ((page : Page) → page_of_access t (access_of address write) ≡ Some page → more ≡ kept ++ page ∷ [])
-    → Brought first shown more touched
-brought s t first shown kept more touched address write space stay brings same pushed =
-    let is : more ≡ shown ++ brings.page ∷ [] =
+pub brought : (s t : Space) (first present kept more touched : List Page) (address : ℕ) (write : Bool) → t ≡ s → kept ≡ present → Brings s present address write touched
+    → gathered present touched ≡ gathered first touched → ((page : Page) → page_of_access t (access_of address write) ≡ Some page → more ≡ kept ++ page ∷ [])
+    → Brought first present more touched
+brought s t first present kept more touched address write space stay brings same pushed =
+    let is : more ≡ present ++ brings.page ∷ [] =
     pushed brings.page (ap (λ (x : Space). page_of_access x (access_of address write)) space ∙ brings.named) ∙ ap (λ (ps : List Page). ps ++ brings.page ∷ []) stay in
-    let longer : length more ≡ length shown + 1 = ap length is ∙ length-append shown (brings.page ∷ []) in
-    let whole : length (gathered shown touched) ≡ length (gathered first touched) = ap length same in
+    let longer : length more ≡ length present + 1 = ap length is ∙ length-append present (brings.page ∷ []) in
+    let whole : length (gathered present touched) ≡ length (gathered first touched) = ap length same in
     let fewer = brings.fewer in
     record {
       same = ap (λ (ps : List Page). gathered ps touched) is ∙ brings.same ∙ same;
@@ -280,13 +295,13 @@ brought s t first shown kept more touched address write space stay brings same p
     }
 
 -- where no access misses, all pages that are touched are there
-pub hit : {A : Type 0} (s : Space) (shown : List Page) (p : Program A) → ((address : ℕ) (write : Bool) → run (present_answers shown s) p ≡ Err (Miss address write) → ⊥)
-    → (run (present_answers shown s) p ≡ run (answers_of s) p) × (gathered shown (pages_of s (accesses (answers_of s) p)) ≡ shown)
-hit {A = A} s shown p none = go (run (present_answers shown s) p) none (paging s shown p)
+pub hit : {A : Type 0} (s : Space) (present : List Page) (p : Program A) → ((address : ℕ) (write : Bool) → run (shown s present) p ≡ Err (Miss address write) → ⊥)
+    → (run (shown s present) p ≡ run (answers_of s) p) × (gathered present (pages_of s (accesses (answers_of s) p)) ≡ present)
+hit {A = A} s present p none = go (run (shown s present) p) none (paging s present p)
   where
-    go : (some : Result A Refused) → ((address : ℕ) (write : Bool) → some ≡ Err (Miss address write) → ⊥) → Paging s shown some (run (answers_of s) p) (pages_of s (accesses (answers_of s) p))
-        → (some ≡ run (answers_of s) p) × (gathered shown (pages_of s (accesses (answers_of s) p)) ≡ shown)
-    go some none (Whole e all) = (e, gathered_none shown (pages_of s (accesses (answers_of s) p)) all)
+    go : (some : Result A Refused) → ((address : ℕ) (write : Bool) → some ≡ Err (Miss address write) → ⊥) → Paging s present some (run (answers_of s) p) (pages_of s (accesses (answers_of s) p))
+        → (some ≡ run (answers_of s) p) × (gathered present (pages_of s (accesses (answers_of s) p)) ≡ present)
+    go some none (Whole e all) = (e, gathered_none present (pages_of s (accesses (answers_of s) p)) all)
     go some none (Missing a w page front back e is new all l) = absurd (none a w e)
 
 -- An instruction over present pages.
@@ -305,38 +320,38 @@ answer_missed (Err (Falls a)) address write h = absurd cc
 answer_missed (Err (Signal number)) address write h = absurd cc
 
 -- what an instruction that missed left: all as it was, and a page to be brought in
-pub record Misses (s t : Space) (shown left : List Page) (regs after : Regs) (address : ℕ) (write : Bool) : Type 0 where
+pub record Misses (s t : Space) (present left : List Page) (regs after : Regs) (address : ℕ) (write : Bool) : Type 0 where
   pub space : t ≡ s
-  pub pages : left ≡ shown
+  pub pages : left ≡ present
   pub registers : after ≡ regs
-  pub brings : Brings s shown address write (pages_of s (accesses (answers_of s) (instruction regs)))
+  pub brings : Brings s present address write (pages_of s (accesses (answers_of s) (instruction regs)))
 
-pub missed_answer : (s t : Space) (shown left : List Page) (regs after : Regs) (stepped : Stepped) (address : ℕ) (write : Bool)
-    → stepped ≡ answer_of (run (present_answers shown s) (instruction regs)) → after ≡ registers_after regs (run (present_answers shown s) (instruction regs))
-    → WrotePresent shown s (writes_of (run (present_answers shown s) (instruction regs))) left t → stepped ≡ steps.Miss address write
-    → Misses s t shown left regs after address write
-missed_answer s t shown left regs after stepped address write answer registers wrote is =
-    let miss = answer_missed (run (present_answers shown s) (instruction regs)) address write (sym answer ∙ is) in
+pub missed_answer : (s t : Space) (present left : List Page) (regs after : Regs) (stepped : Stepped) (address : ℕ) (write : Bool)
+    → stepped ≡ answer_of (run (shown s present) (instruction regs)) → after ≡ registers_after regs (run (shown s present) (instruction regs))
+    → WrotePresent present s (writes_of (run (shown s present) (instruction regs))) left t → stepped ≡ steps.Miss address write
+    → Misses s t present left regs after address write
+missed_answer s t present left regs after stepped address write answer registers wrote is =
+    let miss = answer_missed (run (shown s present) (instruction regs)) address write (sym answer ∙ is) in
     record {
       space = sym (subst (λ (r : Result Effect Refused). Wrote s (writes_of r) t) miss wrote.wrote);
       pages = wrote.kept;
       registers = registers ∙ ap (registers_after regs) miss;
-      brings = missed s shown (instruction regs) address write miss;
+      brings = missed s present (instruction regs) address write miss;
     }
 
 -- what an instruction that didn't miss left: all as over the whole space, and the pages that it touches are there
-pub record Hits (s t : Space) (shown left : List Page) (regs after : Regs) (stepped : Stepped) : Type 0 where
+pub record Hits (s t : Space) (present left : List Page) (regs after : Regs) (stepped : Stepped) : Type 0 where
   pub answer : stepped ≡ answer_of (instruction_in s regs)
   pub registers : after ≡ registers_after regs (instruction_in s regs)
   pub space : t ≡ puts s (writes_of (instruction_in s regs))
-  pub pages : left ≡ gathered shown (pages_of s (accesses (answers_of s) (instruction regs)))
+  pub pages : left ≡ gathered present (pages_of s (accesses (answers_of s) (instruction regs)))
 
-pub hit_answer : (s t : Space) (shown left : List Page) (regs after : Regs) (stepped : Stepped)
-    → stepped ≡ answer_of (run (present_answers shown s) (instruction regs)) → after ≡ registers_after regs (run (present_answers shown s) (instruction regs))
-    → WrotePresent shown s (writes_of (run (present_answers shown s) (instruction regs))) left t → ((address : ℕ) (write : Bool) → stepped ≡ steps.Miss address write → ⊥)
-    → Hits s t shown left regs after stepped
-hit_answer s t shown left regs after stepped answer registers wrote none =
-    let whole = hit s shown (instruction regs) (λ address write h. none address write (answer ∙ ap answer_of h)) in
+pub hit_answer : (s t : Space) (present left : List Page) (regs after : Regs) (stepped : Stepped)
+    → stepped ≡ answer_of (run (shown s present) (instruction regs)) → after ≡ registers_after regs (run (shown s present) (instruction regs))
+    → WrotePresent present s (writes_of (run (shown s present) (instruction regs))) left t → ((address : ℕ) (write : Bool) → stepped ≡ steps.Miss address write → ⊥)
+    → Hits s t present left regs after stepped
+hit_answer s t present left regs after stepped answer registers wrote none =
+    let whole = hit s present (instruction regs) (λ address write h. none address write (answer ∙ ap answer_of h)) in
     record {
       answer = answer ∙ ap answer_of whole.0;
       registers = registers ∙ ap (registers_after regs) whole.0;
@@ -348,18 +363,18 @@ hit_answer s t shown left regs after stepped answer registers wrote none =
 abbrev pub instruction_pages : Space → Regs → List Page
 instruction_pages s regs = pages_of s (accesses (answers_of s) (instruction regs))
 
-pub missed_from : (s t s₀ : Space) (first shown kept more : List Page) (regs after regs₀ : Regs) (address : ℕ) (write : Bool) → Misses s t shown kept regs after address write
-    → s ≡ s₀ → regs ≡ regs₀ → gathered shown (instruction_pages s₀ regs₀) ≡ gathered first (instruction_pages s₀ regs₀)
+pub missed_from : (s t s₀ : Space) (first present kept more : List Page) (regs after regs₀ : Regs) (address : ℕ) (write : Bool) → Misses s t present kept regs after address write
+    → s ≡ s₀ → regs ≡ regs₀ → gathered present (instruction_pages s₀ regs₀) ≡ gathered first (instruction_pages s₀ regs₀)
     → ((page : Page) → page_of_access t (access_of address write) ≡ Some page → more ≡ kept ++ page ∷ [])
-    → Brought first shown more (instruction_pages s₀ regs₀)
-missed_from s t s₀ first shown kept more regs after regs₀ address write misses space registers same pushed =
-    brought s₀ t first shown kept more (instruction_pages s₀ regs₀) address write (misses.space ∙ space) misses.pages
-    (subst₂ (λ (x : Space) (y : Regs). Brings x shown address write (instruction_pages x y)) space registers misses.brings) same pushed
+    → Brought first present more (instruction_pages s₀ regs₀)
+missed_from s t s₀ first present kept more regs after regs₀ address write misses space registers same pushed =
+    brought s₀ t first present kept more (instruction_pages s₀ regs₀) address write (misses.space ∙ space) misses.pages
+    (subst₂ (λ (x : Space) (y : Regs). Brings x present address write (instruction_pages x y)) space registers misses.brings) same pushed
 
-pub hit_from : (s t s₀ : Space) (first shown kept : List Page) (regs after regs₀ : Regs) (stepped : Stepped) → Hits s t shown kept regs after stepped
-    → s ≡ s₀ → regs ≡ regs₀ → gathered shown (instruction_pages s₀ regs₀) ≡ gathered first (instruction_pages s₀ regs₀) → Hits s₀ t first kept regs₀ after stepped
-hit_from s t s₀ first shown kept regs after regs₀ stepped hits space registers same =
-    let here = subst₂ (λ (x : Space) (y : Regs). Hits x t shown kept y after stepped) space registers hits in
+pub hit_from : (s t s₀ : Space) (first present kept : List Page) (regs after regs₀ : Regs) (stepped : Stepped) → Hits s t present kept regs after stepped
+    → s ≡ s₀ → regs ≡ regs₀ → gathered present (instruction_pages s₀ regs₀) ≡ gathered first (instruction_pages s₀ regs₀) → Hits s₀ t first kept regs₀ after stepped
+hit_from s t s₀ first present kept regs after regs₀ stepped hits space registers same =
+    let here = subst₂ (λ (x : Space) (y : Regs). Hits x t present kept y after stepped) space registers hits in
     record { answer = here.answer; registers = here.registers; space = here.space; pages = here.pages ∙ same }
 
 -- What a call reads.
@@ -383,58 +398,58 @@ refused_so : {A : Type 0} (r : Result A Refused) (refused : Refused) → refusal
 refused_so (Ok x) refused h = absurd cc
 refused_so {A = A} (Err e) refused h = let same : e ≡ refused = cc in ap (λ (x : Refused). Err x) same
 
-pub missed_reads : {A : Type 0} (s : Space) (shown : List Page) (p : Program A) (address : ℕ) (write : Bool) (asked : Result (Unit {0}) Refused)
-    → asked ≡ refusal_of (run (present_answers shown s) p) → asked ≡ Err (Miss address write) → Brings s shown address write (pages_of s (accesses (answers_of s) p))
-missed_reads s shown p address write asked is h =
-    missed s shown p address write (refused_so (run (present_answers shown s) p) (Miss address write) (sym is ∙ h))
+pub missed_reads : {A : Type 0} (s : Space) (present : List Page) (p : Program A) (address : ℕ) (write : Bool) (asked : Result (Unit {0}) Refused)
+    → asked ≡ refusal_of (run (shown s present) p) → asked ≡ Err (Miss address write) → Brings s present address write (pages_of s (accesses (answers_of s) p))
+missed_reads s present p address write asked is h =
+    missed s present p address write (refused_so (run (shown s present) p) (Miss address write) (sym is ∙ h))
 
-pub hit_reads : {A : Type 0} (s : Space) (shown : List Page) (p : Program A) (asked : Result (Unit {0}) Refused)
-    → asked ≡ refusal_of (run (present_answers shown s) p) → ((address : ℕ) (write : Bool) → asked ≡ Err (Miss address write) → ⊥)
-    → shown ≡ gathered shown (pages_of s (accesses (answers_of s) p))
-hit_reads s shown p asked is none =
-    sym (hit s shown p (λ address write h. none address write (is ∙ ap refusal_of h))).1
+pub hit_reads : {A : Type 0} (s : Space) (present : List Page) (p : Program A) (asked : Result (Unit {0}) Refused)
+    → asked ≡ refusal_of (run (shown s present) p) → ((address : ℕ) (write : Bool) → asked ≡ Err (Miss address write) → ⊥)
+    → present ≡ gathered present (pages_of s (accesses (answers_of s) p))
+hit_reads s present p asked is none =
+    sym (hit s present p (λ address write h. none address write (is ∙ ap refusal_of h))).1
 
 -- from the first pages on, over the same space
-pub hit_reads_from : {A : Type 0} (s s₀ : Space) (first shown : List Page) (p : Program A) (asked : Result (Unit {0}) Refused)
-    → asked ≡ refusal_of (run (present_answers shown s) p) → ((address : ℕ) (write : Bool) → asked ≡ Err (Miss address write) → ⊥) → s ≡ s₀
-    → gathered shown (pages_of s₀ (accesses (answers_of s₀) p)) ≡ gathered first (pages_of s₀ (accesses (answers_of s₀) p))
-    → shown ≡ gathered first (pages_of s₀ (accesses (answers_of s₀) p))
-hit_reads_from s s₀ first shown p asked is none space same =
-    subst (λ (x : Space). shown ≡ gathered shown (pages_of x (accesses (answers_of x) p))) space (hit_reads s shown p asked is none) ∙ same
+pub hit_reads_from : {A : Type 0} (s s₀ : Space) (first present : List Page) (p : Program A) (asked : Result (Unit {0}) Refused)
+    → asked ≡ refusal_of (run (shown s present) p) → ((address : ℕ) (write : Bool) → asked ≡ Err (Miss address write) → ⊥) → s ≡ s₀
+    → gathered present (pages_of s₀ (accesses (answers_of s₀) p)) ≡ gathered first (pages_of s₀ (accesses (answers_of s₀) p))
+    → present ≡ gathered first (pages_of s₀ (accesses (answers_of s₀) p))
+hit_reads_from s s₀ first present p asked is none space same =
+    subst (λ (x : Space). present ≡ gathered present (pages_of x (accesses (answers_of x) p))) space (hit_reads s present p asked is none) ∙ same
 
-pub missed_reads_from : {A : Type 0} (s s₀ : Space) (first shown more : List Page) (p : Program A) (address : ℕ) (write : Bool) (asked : Result (Unit {0}) Refused)
-    → asked ≡ refusal_of (run (present_answers shown s) p) → asked ≡ Err (Miss address write) → s ≡ s₀
-    → gathered shown (pages_of s₀ (accesses (answers_of s₀) p)) ≡ gathered first (pages_of s₀ (accesses (answers_of s₀) p))
-    → ((page : Page) → page_of_access s (access_of address write) ≡ Some page → more ≡ shown ++ page ∷ [])
-    → Brought first shown more (pages_of s₀ (accesses (answers_of s₀) p))
-missed_reads_from s s₀ first shown more p address write asked is h space same pushed =
-    brought s₀ s first shown shown more (pages_of s₀ (accesses (answers_of s₀) p)) address write space refl
-    (subst (λ (x : Space). Brings x shown address write (pages_of x (accesses (answers_of x) p))) space (missed_reads s shown p address write asked is h)) same pushed
+pub missed_reads_from : {A : Type 0} (s s₀ : Space) (first present more : List Page) (p : Program A) (address : ℕ) (write : Bool) (asked : Result (Unit {0}) Refused)
+    → asked ≡ refusal_of (run (shown s present) p) → asked ≡ Err (Miss address write) → s ≡ s₀
+    → gathered present (pages_of s₀ (accesses (answers_of s₀) p)) ≡ gathered first (pages_of s₀ (accesses (answers_of s₀) p))
+    → ((page : Page) → page_of_access s (access_of address write) ≡ Some page → more ≡ present ++ page ∷ [])
+    → Brought first present more (pages_of s₀ (accesses (answers_of s₀) p))
+missed_reads_from s s₀ first present more p address write asked is h space same pushed =
+    brought s₀ s first present present more (pages_of s₀ (accesses (answers_of s₀) p)) address write space refl
+    (subst (λ (x : Space). Brings x present address write (pages_of x (accesses (answers_of x) p))) space (missed_reads s present p address write asked is h)) same pushed
 
 -- Writes into present pages.
 
-may_of : (b : Bool) (m : MayWrite) → test_if b m ≡ tests.May → m ≡ tests.May
+may_of : (b : Bool) (m : MayWrite) → test_where b m ≡ tests.May → m ≡ tests.May
 may_of true m h = h
 may_of false m h = absurd cc
 
-pub present_may : (shown : List Page) (s : Space) (address : ℕ) → (present_answers shown s).may_write address ≡ tests.May → may_write_at (address_in s address) ≡ tests.May
-present_may shown s address h = may_of (is_present shown (page_tested s (address_in s address))) (may_write_at (address_in s address)) h
+pub present_may : (present : List Page) (s : Space) (address : ℕ) → (shown s present).may_write address ≡ tests.May → may_write_at (address_in s address) ≡ tests.May
+present_may present s address h = may_of (is_shown present (page_tested s (address_in s address))) (may_write_at (address_in s address)) h
 
 -- a byte that may be written is of a present page
-may_there : (shown : List Page) (s : Space) (spot : Spot) → test_if (is_present shown (page_tested s spot)) (may_write_at spot) ≡ tests.May → is_present shown (page_read s spot) ≡ true
-may_there shown s (Text i) h = absurd cc
-may_there shown s (Data i) h = go (is_among shown (pages.Data s.sid (i / 1024))) h
+may_there : (present : List Page) (s : Space) (spot : Spot) → test_where (is_shown present (page_tested s spot)) (may_write_at spot) ≡ tests.May → is_shown present (page_read s spot) ≡ true
+may_there present s (Text i) h = absurd cc
+may_there present s (Data i) h = go (is_among (pages.Data s.sid (i / 1024)) present) h
   where
-    go : (b : Bool) → test_if b tests.May ≡ tests.May → b ≡ true
+    go : (b : Bool) → test_where b tests.May ≡ tests.May → b ≡ true
     go true k = refl
     go false k = absurd cc
-may_there shown s (Stack i) h = go (is_among shown (pages.Stack s.sid (i / 1024))) h
+may_there present s (Stack i) h = go (is_among (pages.Stack s.sid (i / 1024)) present) h
   where
-    go : (b : Bool) → test_if b tests.May ≡ tests.May → b ≡ true
+    go : (b : Bool) → test_where b tests.May ≡ tests.May → b ≡ true
     go true k = refl
     go false k = absurd cc
-may_there shown s Below h = absurd cc
-may_there shown s Outside h = absurd cc
+may_there present s Below h = absurd cc
+may_there present s Outside h = absurd cc
 
 -- a write changes no page's name
 pub read_kept : (s t : Space) (spot : Spot) → t.sid ≡ s.sid → t.image ≡ s.image → page_read t spot ≡ page_read s spot
@@ -475,37 +490,37 @@ tested_put s w a =
     ap (page_tested (put s w)) (spot_after s (address_in s w.address) w.byte a)
     ∙ tested_kept s (put s w) (address_in s a) (put_sid s (address_in s w.address) w.byte)
 
-byte_put : (shown : List Page) (s : Space) (w : ByteWrite) (a : ℕ) → (present_answers shown s).may_write w.address ≡ tests.May
-    → read_if (is_present shown (page_read s (address_in s a))) (read_by (a == w.address) w.byte (byte_at s (address_in s a)))
-    ≡ read_by (a == w.address) w.byte (read_if (is_present shown (page_read s (address_in s a))) (byte_at s (address_in s a)))
-byte_put shown s w a may = go (a == w.address) refl
+byte_put : (present : List Page) (s : Space) (w : ByteWrite) (a : ℕ) → (shown s present).may_write w.address ≡ tests.May
+    → read_where (is_shown present (page_read s (address_in s a))) (read_by (a == w.address) w.byte (byte_at s (address_in s a)))
+    ≡ read_by (a == w.address) w.byte (read_where (is_shown present (page_read s (address_in s a))) (byte_at s (address_in s a)))
+byte_put present s w a may = go (a == w.address) refl
   where
     go : (b : Bool) → (a == w.address) ≡ b
-        → read_if (is_present shown (page_read s (address_in s a))) (read_by b w.byte (byte_at s (address_in s a)))
-        ≡ read_by b w.byte (read_if (is_present shown (page_read s (address_in s a))) (byte_at s (address_in s a)))
+        → read_where (is_shown present (page_read s (address_in s a))) (read_by b w.byte (byte_at s (address_in s a)))
+        ≡ read_by b w.byte (read_where (is_shown present (page_read s (address_in s a))) (byte_at s (address_in s a)))
     go true h =
         let same : a ≡ w.address = grind (arith, nat_tests) in
-        ap (λ (b : Bool). read_if b (reads.Is w.byte))
-        (ap (λ (x : ℕ). is_present shown (page_read s (address_in s x))) same ∙ may_there shown s (address_in s w.address) may)
+        ap (λ (b : Bool). read_where b (reads.Is w.byte))
+        (ap (λ (x : ℕ). is_shown present (page_read s (address_in s x))) same ∙ may_there present s (address_in s w.address) may)
     go false h = refl
 
-present_answers_put : (shown : List Page) (s : Space) (w : ByteWrite) → MayPut s w.address → (present_answers shown s).may_write w.address ≡ tests.May
-    → present_answers shown (put s w) ≡ put_in (present_answers shown s) w
-present_answers_put shown s w may test = λ i. record {
+shown_put : (present : List Page) (s : Space) (w : ByteWrite) → MayPut s w.address → (shown s present).may_write w.address ≡ tests.May
+    → shown (put s w) present ≡ put_in (shown s present) w
+shown_put present s w may test = λ i. record {
   read = λ a. (
-      ap (λ (o : Option Page). read_if (is_present shown o) (byte_at (put s w) (address_in (put s w) a))) (read_put s w a)
-      ∙ ap (read_if (is_present shown (page_read s (address_in s a)))) (ap (λ (m : Answers). m.read a) (put_answers s w may))
-      ∙ byte_put shown s w a test
+      ap (λ (o : Option Page). read_where (is_shown present o) (byte_at (put s w) (address_in (put s w) a))) (read_put s w a)
+      ∙ ap (read_where (is_shown present (page_read s (address_in s a)))) (ap (λ (m : Answers). m.read a) (put_answers s w may))
+      ∙ byte_put present s w a test
       ) i;
   may_write = λ a. (
-      ap (λ (o : Option Page). test_if (is_present shown o) (may_write_at (address_in (put s w) a))) (tested_put s w a)
-      ∙ ap (λ (spot : Spot). test_if (is_present shown (page_tested s (address_in s a))) (may_write_at spot)) (spot_after s (address_in s w.address) w.byte a)
+      ap (λ (o : Option Page). test_where (is_shown present o) (may_write_at (address_in (put s w) a))) (tested_put s w a)
+      ∙ ap (λ (spot : Spot). test_where (is_shown present (page_tested s (address_in s a))) (may_write_at spot)) (spot_after s (address_in s w.address) w.byte a)
       ) i;
 }
 
-pub present_put : (shown : List Page) (s t : Space) (w : ByteWrite) → (present_answers shown s).may_write w.address ≡ tests.May → Wrote s (w ∷ []) t → WrotePresent shown s (w ∷ []) shown t
-present_put shown s t w test h =
-    subst (λ (x : Space). WrotePresent shown s (w ∷ []) shown x) h.1 (record { kept = refl; wrote = (h.0, refl); answers = present_answers_put shown s w h.0 test })
+pub present_put : (present : List Page) (s t : Space) (w : ByteWrite) → (shown s present).may_write w.address ≡ tests.May → Wrote s (w ∷ []) t → WrotePresent present s (w ∷ []) present t
+present_put present s t w test h =
+    subst (λ (x : Space). WrotePresent present s (w ∷ []) present x) h.1 (record { kept = refl; wrote = (h.0, refl); answers = shown_put present s w h.0 test })
 
 -- A whole step: the instruction, and then what its call reads.
 
@@ -534,16 +549,16 @@ pub puts_pages : (s : Space) (ws : List ByteWrite) (list : List Access) → page
 puts_pages s ws [] = refl
 puts_pages s ws (access ∷ list) = ap₂ (λ (o : Option Page) (ps : List Page). cons_option o ps) (puts_page s ws access) (puts_pages s ws list)
 
-pub stepped_pages : (images : List NamedImage) (F : FlatState) (p : Process) (s t : Space) (regs : Regs) (first shown after : List Page) → p.regs ≡ regs
-    → shown ≡ gathered first (instruction_pages s regs) → t ≡ puts s (writes_of (instruction_in s regs))
-    → after ≡ gathered shown (pages_of t (accesses_after images F p s (instruction_in s regs)))
+pub stepped_pages : (images : List NamedImage) (F : FlatState) (p : Process) (s t : Space) (regs : Regs) (first present after : List Page) → p.regs ≡ regs
+    → present ≡ gathered first (instruction_pages s regs) → t ≡ puts s (writes_of (instruction_in s regs))
+    → after ≡ gathered present (pages_of t (accesses_after images F p s (instruction_in s regs)))
     → after ≡ gathered first (pages_of s (step_accesses images F p s))
 unfolding step_accesses
-stepped_pages images F p s t regs first shown after same instr space rest =
+stepped_pages images F p s t regs first present after same instr space rest =
     let more : List Access = accesses_after images F p s (instruction_in s regs) in
     rest
-    ∙ ap (λ (x : Space). gathered shown (pages_of x more)) space
-    ∙ ap (gathered shown) (puts_pages s (writes_of (instruction_in s regs)) more)
+    ∙ ap (λ (x : Space). gathered present (pages_of x more)) space
+    ∙ ap (gathered present) (puts_pages s (writes_of (instruction_in s regs)) more)
     ∙ ap (λ (ps : List Page). gathered ps (pages_of s more)) instr
     ∙ sym (gathered_more first (instruction_pages s regs) (pages_of s more))
     ∙ ap (gathered first) (sym (filter_map-append (page_of_access s) (accesses (answers_of s) (instruction regs)) more))

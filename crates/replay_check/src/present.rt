@@ -7,11 +7,13 @@ ghost use Rattle.user_vax.specs.Effects.{Effect};
 ghost use Rattle.user_vax.specs.declared.refused.Refused.{Refused as Outcome};
 ghost use Rattle.user_vax.specs.Program.{accesses};
 ghost use Rattle.user_vax.specs.Instruction.{instruction, answer_of, registers_after, writes_of};
+ghost use Rattle.page_model.specs.Pages.{same_page, is_among};
 ghost use Rattle.page_model.specs.Space.{answers_of, puts};
 ghost use Rattle.flat_model.specs.Instruction.{instruction_in};
 ghost use Rattle.flat_model.specs.Calls.{reply_of};
-ghost use Rattle.flat_model.specs.Touched.{page_of_access, same_page, accesses_after, step_accesses};
-ghost use Rattle.replay_check.specs.Present.{is_among, is_present, present_answers, present_none, present_more, present_after, WrotePresent, access_of, pages_of, gathered};
+ghost use Rattle.flat_model.specs.Touched.{page_of_access, accesses_after, step_accesses};
+ghost use Rattle.flat_model.specs.Shown.{is_shown, shown};
+ghost use Rattle.replay_check.specs.Present.{present_none, present_more, present_after, WrotePresent, access_of, pages_of, gathered};
 
 use crate::calling::read_by_call;
 use crate::program::Program;
@@ -36,10 +38,10 @@ fn is_same(page: Page, other: Page) -> bool
 
 // Whether it is one of these pages.
 fn is_among(pages: &[Page], page: Page) -> bool
-    ensures { result ≡ is_among pages.now page }
+    ensures { result ≡ is_among page pages.now }
 {
     for present in pages {
-        if is_same(*present, page) {
+        if is_same(page, *present) {
             return true;
         }
     }
@@ -48,7 +50,7 @@ fn is_among(pages: &[Page], page: Page) -> bool
 
 // Whether there is no page, or it is one of these.
 fn is_present(pages: &[Page], page: Option<Page>) -> bool
-    ensures { result ≡ is_present pages.now page }
+    ensures { result ≡ is_shown pages.now page }
 {
     match page {
         None => true,
@@ -57,7 +59,7 @@ fn is_present(pages: &[Page], page: Option<Page>) -> bool
 }
 
 impl Memory for Paged {
-    ghost answers = { λ m. present_answers m.pages.items m.space };
+    ghost answers = { λ m. shown m.space m.pages.items };
 
     ghost wrote = { λ m writes n. WrotePresent m.pages.items m.space writes n.pages.items n.space };
 
