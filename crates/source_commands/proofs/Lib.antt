@@ -3,3 +3,4 @@ pub mod Segments
 pub mod Padding
 pub mod Limits
 pub mod Makings
+pub mod Programs

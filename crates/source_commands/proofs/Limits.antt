@@ -1,11 +1,16 @@
--- A program has at most 65,536 bytes.
-use Rattle.std.proofs.Common.{◌≡◌, ◌⊎◌, inl, inr, ◌≤◌, ◌+◌, ℕ, Bool, true, false, if◌then◌else◌, nat_le, List, [], ◌∷◌, ◌++◌, length, Option, Some, None, refl, ap, ◌∙◌, subst, arith}
-use Rattle.std.specs.Prelude.{is_some}
+-- A program has at most 65,536 bytes, and asks for at most 4,194,304 zeros.
+use Rattle.std.proofs.Common.{◌≡◌, ◌⊎◌, inl, inr, ◌≤◌, ◌+◌, ℕ, Bool, true, false, if◌then◌else◌, nat_le, List, [], ◌∷◌, ◌++◌, length, Option, Some, None, refl, sym, ap, ◌∙◌, subst, arith}
+use Rattle.std.specs.Prelude.{◌&&◌, not, is_some}
 use Rattle.std.proofs.lemmas.Bool.Decides.{nat_tests}
+use Rattle.vax_asm.specs.declared.syntax.Statement.{Statement}
+use Rattle.vax_asm.specs.declared.syntax.Statement.TheVariants as statements
 use Rattle.vax_asm.specs.declared.syntax.SourceLine.{SourceLine}
 use Rattle.vax_asm.specs.declared.syntax.Definition.{Definition}
+use Rattle.vax_asm.specs.Encoding.{or_zero}
 use Rattle.vax_asm.specs.Lines.{items_in}
-use Rattle.vax_asm.specs.Program.{IsProgramOf, line_bytes, bounded, address_after, item_size, labels_of, definitions, bss_found, is_new, optional_bytes}
+use Rattle.vax_asm.specs.Program.{IsProgramOf, line_bytes, bounded, address_after, item_size, labels_of, definitions, bss_in, item_bss, first_of, bss_found, is_new, is_up_to, statement_bytes, optional_bytes}
+use Rattle.vax_asm.proofs.Sizes.{behind_parts}
+use Rattle.vax_asm.proofs.Spelled.{some_if}
 
 -- a list is empty, or has a last one
 record HasLast (items : List (Option SourceLine)) : Type 0 where
@@ -56,3 +61,52 @@ program_limit source bytes bss program = go (last_of (items_in source))
         let few = line_limit (labels_of source) last.before last.item stands.own stands.own_bytes in
         let sum = program.sized ∙ ap address_after last.split ∙ address_behind last.before last.item in
         omega (arith, few, sum, stands.sized)
+
+-- ---- `.bss`
+
+both_second : (p q : Bool) → (p && q) ≡ true → q ≡ true
+both_second true q e = e
+both_second false q e = absurd cc
+
+space_limit : (with_bss negative : Bool) (n : ℕ) → (not with_bss && (not negative && nat_le n 4194304)) ≡ true → n ≤ 4194304
+space_limit with_bss negative n e =
+    let h : nat_le n 4194304 ≡ true = both_second (not negative) (nat_le n 4194304) (both_second (not with_bss) (not negative && nat_le n 4194304) e) in
+    grind (arith, nat_tests)
+
+statement_limit : (labels : List Definition) (with_bss : Bool) (at : ℕ) (statement : Option Statement) (own : List ℕ) → optional_bytes labels with_bss at statement ≡ Some own → or_zero (bss_in statement) ≤ 4194304
+unfolding statement_bytes
+statement_limit labels with_bss at None own e = omega arith
+statement_limit labels with_bss at (Some (statements.Byte value)) own e = omega arith
+statement_limit labels with_bss at (Some (statements.Word value)) own e = omega arith
+statement_limit labels with_bss at (Some (statements.Long value)) own e = omega arith
+statement_limit labels with_bss at (Some (statements.Space number)) own e = omega arith
+statement_limit labels with_bss at (Some (statements.Bss number)) own e =
+    space_limit with_bss number.negative number.magnitude (some_if (not with_bss && is_up_to 4194304 number) (Some []) own e).0
+statement_limit labels with_bss at (Some (statements.Instruction sentence)) own e = omega arith
+
+item_limit : (labels : List Definition) (before : List (Option SourceLine)) (item : Option SourceLine) (own : List ℕ) → line_bytes labels before item ≡ Some own → or_zero (item_bss item) ≤ 4194304
+unfolding line_bytes
+item_limit labels before None own e = absurd cc
+item_limit labels before (Some line) own e =
+    statement_limit labels (is_some (bss_found before)) (address_after before) line.statement own
+    (behind_parts labels (definitions 0 before) (is_some (bss_found before)) (address_after before) line own e).0
+
+first_limit : (most : ℕ) (one other : Option ℕ) → or_zero one ≤ most → or_zero other ≤ most → or_zero (first_of one other) ≤ most
+first_limit most None other h k = k
+first_limit most (Some n) other h k = h
+
+found_limit : (most : ℕ) (items : List (Option SourceLine))
+    → ((before : List (Option SourceLine)) (item : Option SourceLine) (others : List (Option SourceLine)) → items ≡ before ++ item ∷ others → or_zero (item_bss item) ≤ most)
+    → or_zero (bss_found items) ≤ most
+found_limit most [] each = omega arith
+found_limit most (first ∷ items) each =
+    first_limit most (item_bss first) (bss_found items) (each [] first items refl)
+    (found_limit most items (λ before item others split. each (first ∷ before) item others (ap (λ (xs : List (Option SourceLine)). first ∷ xs) split)))
+
+pub bss_limit : (source bytes : List ℕ) (bss : ℕ) → IsProgramOf source bytes bss → bss ≤ 4194304
+bss_limit source bytes bss program = subst (λ (n : ℕ). n ≤ 4194304) (sym program.bss_is) (found_limit 4194304 (items_in source) each)
+  where
+    each : (before : List (Option SourceLine)) (item : Option SourceLine) (others : List (Option SourceLine)) → items_in source ≡ before ++ item ∷ others → or_zero (item_bss item) ≤ 4194304
+    each before item others split =
+        let stands = program.each before item others split in
+        item_limit (labels_of source) before item stands.own stands.own_bytes

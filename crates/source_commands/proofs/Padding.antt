@@ -14,7 +14,7 @@ fits_pages n = omega arith
 pub whole_pages : (n least pages : ℕ) → least ≡ max n 1 → pages ≡ least / 1024 + min 1 (least % 1024) → pages ≡ pages_for (max n 1)
 whole_pages n least pages is rounded = omega (arith, is, rounded)
 
-header_long : (image : Image) → length (header_of image) ≡ 32
+pub header_long : (image : Image) → length (header_of image) ≡ 32
 unfolding header_of
 header_long image = refl
 

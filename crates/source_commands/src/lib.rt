@@ -1,11 +1,13 @@
 //! The commands that turn sources into images and images into listings.
 #![tactic(auto)]
 
+mod laws;
 mod listing;
 mod program_file;
 mod source;
 mod text;
 
+pub use laws::programs_are_images;
 pub use listing::list_file;
 pub use source::assemble_file;
 
