@@ -18,7 +18,7 @@ fn run<R: Files + Print + AllocGlobal>(rt: &R) -> io::Result<()> {
             let verdict = case::verdict(rt, head.as_str(), body.as_str())?;
             println!(rt; "{verdict}")?;
             body.clear();
-        } else if line.starts_with("case ") {
+        } else if line.starts_with("case ") || line.starts_with("touches ") {
             head.clear();
             head.push_str(line)?;
         } else if !line.starts_with('#') {
