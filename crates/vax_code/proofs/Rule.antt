@@ -7,7 +7,7 @@ use Rattle.vax_code.specs.declared.table.Row.{Row}
 use Rattle.vax_code.specs.Table.{all_rows, row_for, is_sound, is_rising}
 
 -- what a search finds passes a test that all pass
-found_passes : {X : Type 0} (wanted good : X → Bool) (xs : List X) (x : X) → IsTrue (list_all good xs) → find wanted xs ≡ Some x → IsTrue (good x)
+pub found_passes : {X : Type 0} (wanted good : X → Bool) (xs : List X) (x : X) → IsTrue (list_all good xs) → find wanted xs ≡ Some x → IsTrue (good x)
 found_passes wanted good [] y all h = absurd (cc)
 found_passes {X = X} wanted good (x ∷ xs) y all h =
     let parts = and_true (good x) (list_all good xs) all in
