@@ -71,6 +71,13 @@ impl SpaceMap {
         })
     }
 
+    /// The number of the space.
+    pub fn sid(&self) -> u32
+        ensures { result ≡ self.now.sid }
+    {
+        self.sid
+    }
+
     /// The number of the image that the space runs.
     pub fn image(&self) -> u32
         ensures { result ≡ self.now.image }

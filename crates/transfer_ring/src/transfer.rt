@@ -57,9 +57,9 @@ pub enum Finished {
     Idle,
 }
 
-// Whose a page is: a space's, or an image's.
+/// Whose a page is: a space's, or an image's.
 #[derive(Clone, Copy, Debug, PartialEq, Eq, Drop)]
-pub(crate) enum Owner {
+pub enum Owner {
     Space(u32),
     Image(u32),
 }
