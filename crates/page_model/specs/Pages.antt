@@ -52,10 +52,15 @@ pub record Slot : Type 0 where
 abbrev pub no_slot : Slot
 no_slot = record { state = Unfilled; mark = false; filling = Zeros }
 
+-- what fills a page is remembered as long as the page is unfilled
+abbrev pub filling_behind : PageState → Filling → Filling
+filling_behind Unfilled x = x
+filling_behind _ x = Zeros
+
 -- page v of a segment is now in this state, with this mark
 abbrev pub change_slot : List Slot → ℕ → PageState → Bool → List Slot
 change_slot [] v s m = []
-change_slot (x ∷ xs) zero s m = record x { state = s; mark = m } ∷ xs
+change_slot (x ∷ xs) zero s m = record { state = s; mark = m; filling = filling_behind s x.filling } ∷ xs
 change_slot (x ∷ xs) (suc v) s m = x ∷ change_slot xs v s m
 
 -- a space's number and its image's, and its data and stack pages

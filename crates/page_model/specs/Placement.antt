@@ -199,7 +199,7 @@ new_pages sid image facts = record {
 }
 
 abbrev pub new_text : ℕ → Image → TextPages
-new_text image facts = record { image = image; text_pages = replicate (text_pages_of facts) (unfilled OfImage) }
+new_text image facts = record { image = image; text_pages = replicate (text_pages_of facts) (unfilled Zeros) }
 
 -- the texts of the images, numbered from one on
 abbrev pub texts_from : ℕ → List Image → List TextPages
