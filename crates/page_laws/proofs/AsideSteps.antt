@@ -40,21 +40,21 @@ filled_aside p v o c a s = λ i n z. let k = go p.free refl i n z in record { un
     go [] e = a
     go (f ∷ rest) e = enter_aside p v f (Valid f) true p.transfers o (some_free p f rest e) (fill_enters p v f rest o c e) a s
 
-get_aside : (p : Placement) (source : Source) (demanded v : Page) → OwnsFrames p → CanEnter p v → IsOpen p.transfers (Reads source demanded) → TextAside p → IsShared p v → TextAside (get_one p (Reads source demanded) v)
+pub get_aside : (p : Placement) (source : Source) (demanded v : Page) → OwnsFrames p → CanEnter p v → IsOpen p.transfers (Reads source demanded) → TextAside p → IsShared p v → TextAside (get_one p (Reads source demanded) v)
 get_aside p source demanded v o c latest a s = go p.free refl
   where
     go : (fr : List ℕ) → p.free ≡ fr → TextAside (get_at p (Reads source demanded) v fr)
     go [] e = a
     go (f ∷ rest) e = enter_aside p v f (Coming f) (mark_of p v) (join_last p.transfers (Reads source demanded) (record { page = v; frame = f })) o (some_free p f rest e) (get_enters p (Reads source demanded) v f rest o c latest refl e) a s
 
-get_sharers : (p : Placement) (e : Errand) (v : Page) (image : ℕ) → sharers (get_one p e v) image ≡ sharers p image
+pub get_sharers : (p : Placement) (e : Errand) (v : Page) (image : ℕ) → sharers (get_one p e v) image ≡ sharers p image
 get_sharers p e v image = go p.free
   where
     go : (fr : List ℕ) → sharers (get_at p e v fr) image ≡ sharers p image
     go [] = refl
     go (f ∷ rest) = put_sharers (evict p f) v (Coming f) (mark_of p v) image ∙ evict_sharers p f image
 
-shared_as : (p q : Placement) (v : Page) → ((image : ℕ) → sharers q image ≡ sharers p image) → IsShared p v → IsShared q v
+pub shared_as : (p q : Placement) (v : Page) → ((image : ℕ) → sharers q image ≡ sharers p image) → IsShared p v → IsShared q v
 shared_as p q (Data sid n) h s = tt
 shared_as p q (Stack sid n) h s = tt
 shared_as p q (Text image n) h s = subst (λ (k : ℕ). 0 < k) (sym (h image)) s
@@ -188,7 +188,7 @@ moving_busy : (p : Placement) (e : Errand) (f : ℕ) → IsBusy p (moving_state 
 moving_busy p Writes f = tt
 moving_busy p (Reads source demanded) f = tt
 
-land_aside : (p : Placement) (e : Errand) (x : Part) (rest : List Transfer) → OwnsFrames p → Landing p e x rest → TextAside p → TextAside (land p e x rest)
+pub land_aside : (p : Placement) (e : Errand) (x : Part) (rest : List Transfer) → OwnsFrames p → Landing p e x rest → TextAside p → TextAside (land p e x rest)
 land_aside p Writes x rest o l a = turn_aside p x.page x.frame (Invalid x.frame) (written_mark x.page) (p.free ++ x.frame ∷ []) rest o (tail_turns p Writes x rest (written_mark x.page) o l (written_clean x.page)) a (subst (IsBusy p) (sym (landing_state p Writes x rest o l)) tt)
 land_aside p (Reads source demanded) x rest o l a = go (same_page x.page demanded)
   where

@@ -172,12 +172,12 @@ left_back false ps p status n e = elim (cases_eq n p.pid) [
 ]
 
 -- but for a child
-abbrev IsChild : Change → ℕ → Type 0
+abbrev pub IsChild : Change → ℕ → Type 0
 IsChild (Fork child) n = n ≡ child
 IsChild (Lend child) n = n ≡ child
 IsChild change n = ⊥
 
-after_back : (ps : List Proc) (x : Proc) (p : Placement) (sid : ℕ) (borrowed : Bool) (next n : ℕ) (change : Change) → lives ps x.pid ≡ true → MayAsk p ps sid borrowed next change → (IsChild change n → ⊥)
+pub after_back : (ps : List Proc) (x : Proc) (p : Placement) (sid : ℕ) (borrowed : Bool) (next n : ℕ) (change : Change) → lives ps x.pid ≡ true → MayAsk p ps sid borrowed next change → (IsChild change n → ⊥)
     → lives (procs_after ps x next change) n ≡ true → lives ps n ≡ true
 after_back ps x p sid borrowed next n Keep a m c e = with_back x ps n a e
 after_back ps x p sid borrowed next n (Resize d s) a m c e = with_back x ps n a e

@@ -16,7 +16,7 @@ use Rattle.page_laws.proofs.KernelTables.{all_fit, kept_at, outline_at}
 use Rattle.page_laws.proofs.ProcTables.{holds_there, Stepping, stepping}
 
 -- the space is there
-space_there : (k : Kernel) (flat : FlatState) (pid : ℕ) (q : Process) (s : Space) → SameTables k flat → Stepping k flat pid q s → q.holding ≡ Holds s → HasSpace k.place s.sid
+pub space_there : (k : Kernel) (flat : FlatState) (pid : ℕ) (q : Process) (s : Space) → SameTables k flat → Stepping k flat pid q s → q.holding ≡ Holds s → HasSpace k.place s.sid
 space_there k flat pid q s t st h e = go (numbered (λ (x : Space). x.sid) s.sid (spaces_of flat)) (numbered space_number s.sid k.place.spaces) refl e (all_fit k flat t s.sid)
   where
     go : (o : Option Space) (x : Option SpacePages) → numbered (λ (x : Space). x.sid) s.sid (spaces_of flat) ≡ o → x ≡ None → Fits o x → ⊥

@@ -53,7 +53,7 @@ not_of_text (Data sid v) image n i = pages_from_each (λ r. Data sid v ≢ r) (T
 not_of_text (Stack sid v) image n i = pages_from_each (λ r. Stack sid v ≢ r) (Text image 0) 0 n (λ w l m e. absurd cc)
 not_of_text (Text j v) image n i = absurd i
 
-leave_all_other : (qs : List Page) (p : Placement) (w : Page) → EachPage (λ r. w ≢ r) qs → slot_of (leave_all p qs) w ≡ slot_of p w
+pub leave_all_other : (qs : List Page) (p : Placement) (w : Page) → EachPage (λ r. w ≢ r) qs → slot_of (leave_all p qs) w ≡ slot_of p w
 leave_all_other [] p w n = refl
 leave_all_other (v ∷ qs) p w n = leave_all_other qs (leave_page p v) w n.1 ∙ leave_other p v w n.0
 
@@ -105,7 +105,7 @@ give_up_due p sid = go (sharers r (image_of p sid)) ∙ (drop_all_rest (pages_of
     go zero = leave_all_due (pages_of_text r (image_of p sid)) r
     go (suc n) = refl
 
-unless_due : (borrowed : Bool) (p : Placement) (sid : ℕ) → (give_up_unless borrowed p sid).due ≡ p.due
+pub unless_due : (borrowed : Bool) (p : Placement) (sid : ℕ) → (give_up_unless borrowed p sid).due ≡ p.due
 unless_due true p sid = refl
 unless_due false p sid = give_up_due p sid
 

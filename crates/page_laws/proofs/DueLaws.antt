@@ -178,7 +178,7 @@ filled_less ds v w d n e = elim (page_cases w v) [
 filled_due : (p : Placement) (v : Page) → OwnsFrames p → CanEnter p v → NotDue (due_after p.due v) v → DueStand p → DueStand (filled p v)
 filled_due p v o c n = due_still p (filled p v) (filled_fills (Waits (due_after p.due v)) p v o c (not_waiting (due_after p.due v) v n)) (λ w d e. filled_less p.due v w d n e)
 
-get_due_list : (qs : List Page) (p : Placement) (e : Errand) → (get_all p e qs).due ≡ p.due
+pub get_due_list : (qs : List Page) (p : Placement) (e : Errand) → (get_all p e qs).due ≡ p.due
 get_due_list [] p e = refl
 get_due_list (v ∷ qs) p e = get_due_list qs (get_one p e v) e ∙ go p.free
   where
@@ -242,7 +242,7 @@ not_due_by p r s n = go (due_at p.due r) refl
 swap_apart : (p : Placement) (r : Page) → is_on_swap (state_of p r) ≡ true → state_of p r ≡ Unfilled → ⊥
 swap_apart p r h e = let k : is_on_swap Unfilled ≡ true = sym (ap is_on_swap e) ∙ h in absurd cc
 
-run_in_due : (p : Placement) (q : Page) → DueStand p → NotDue p.due q → EachPage (NotDue p.due) (pages_of_run q (run_in p q))
+pub run_in_due : (p : Placement) (q : Page) → DueStand p → NotDue p.due q → EachPage (NotDue p.due) (pages_of_run q (run_in p q))
 run_in_due p q s n = go q n (state_of p q) (spare_frames p)
   where
     alone : (q : Page) → NotDue p.due q → EachPage (NotDue p.due) (pages_of_run q (run_alone q))

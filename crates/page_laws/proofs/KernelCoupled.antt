@@ -217,7 +217,7 @@ fill_coupled_step size k images image flat v bytes ss e so c w some is st cp = g
         (filled_coupled k.place v f rest (beside_kernel k images image flat) bytes o c h so.tokens w is cp.pages)) cp
 
 -- what is kept for other pages stays
-after_other : (ss : List StartBytes) (v w : Page) → w ≢ v → start_bytes (starts_after ss v) w ≡ start_bytes ss w
+pub after_other : (ss : List StartBytes) (v w : Page) → w ≢ v → start_bytes (starts_after ss v) w ≡ start_bytes ss w
 after_other [] v w n = refl
 after_other (s ∷ ss) v w n = go (same_page s.page v) refl (after_other ss v w n)
   where

@@ -81,7 +81,7 @@ out_begun (r ∷ rs) pid at n = go (r.pid == n) (out_begun rs pid at n)
     go false ih = ih
 
 -- A fork, to a space of this number.
-abbrev forked_kernel : Kernel → Proc → ℕ → ℕ → ℕ → Entry → Kernel
+abbrev pub forked_kernel : Kernel → Proc → ℕ → ℕ → ℕ → Entry → Kernel
 forked_kernel k p sid child next e = record k {
   place = begin_residence (fork_space k.place sid next) child (length (append k.journal e));
   processes = with_proc k.processes p ++ child_proc p child (HoldsSpace next) ∷ [];

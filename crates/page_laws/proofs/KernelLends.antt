@@ -28,7 +28,7 @@ use Rattle.page_laws.proofs.KernelForks.{next_pid_none, next_in, kept_none, out_
 use Rattle.page_laws.proofs.ProcTables.{with_at, with_not, with_replaced, Stepping, stepping, by_life, step_is, regs_carried, regs_in_record}
 
 -- what passing a space makes of one process
-abbrev passed : ℕ → ℕ → ℕ → Life → Proc → Proc
+abbrev pub passed : ℕ → ℕ → ℕ → Life → Proc → Proc
 passed sid from to receiver q = record q { life = passed_life sid from to receiver q }
 
 abbrev pub pass_by : Kernel → ℕ → ℕ → Life → Life → Kernel
@@ -39,7 +39,7 @@ pass_is k from to p q giver receiver a b c d =
     ap (λ (g : Life). pass_by k from to g (life_of_proc (numbered kept_pid to k.processes))) (ap life_of_proc a ∙ b) ∙ ap (pass_by k from to giver) (ap life_of_proc c ∙ d)
 
 -- the parent lends, and each other process is as it was
-passed_list : (ks : List Proc) (p : Proc) (sid to : ℕ) → IsAbsent to (map kept_pid ks) → map (passed sid p.pid to New) (with_proc ks p) ≡ with_proc ks (record p { life = LendsSpace sid to })
+pub passed_list : (ks : List Proc) (p : Proc) (sid to : ℕ) → IsAbsent to (map kept_pid ks) → map (passed sid p.pid to New) (with_proc ks p) ≡ with_proc ks (record p { life = LendsSpace sid to })
 passed_list [] p sid to a = refl
 passed_list (x ∷ ks) p sid to a = ap (λ (y : Proc). y ∷ map (passed sid p.pid to New) (with_proc ks p)) (go (x.pid == p.pid) refl) ∙ ap (λ (l : List Proc). cond (x.pid == p.pid) (record p { life = LendsSpace sid to }) x ∷ l) (passed_list ks p sid to a.1)
   where
@@ -49,7 +49,7 @@ passed_list (x ∷ ks) p sid to a = ap (λ (y : Proc). y ∷ map (passed sid p.p
         ∙ ap (λ (b : Bool). let y : Proc = record x { life = cond b (HoldsSpace sid) x.life } in y) (not_eq x.pid to a.0)
 
 -- the child holds
-passed_child : (p : Proc) (sid to : ℕ) → to ≢ p.pid → passed sid p.pid to New (child_proc p to New) ≡ child_proc p to (HoldsSpace sid)
+pub passed_child : (p : Proc) (sid to : ℕ) → to ≢ p.pid → passed sid p.pid to New (child_proc p to New) ≡ child_proc p to (HoldsSpace sid)
 passed_child p sid to d = ap (λ (b : Bool). let y : Proc = record (child_proc p to New) { life = cond b (LendsSpace sid to) (cond (to == to) (HoldsSpace sid) New) } in y) (not_eq to p.pid d)
     ∙ ap (λ (b : Bool). let y : Proc = record (child_proc p to New) { life = cond b (HoldsSpace sid) New } in y) (eq_self to)
 

@@ -17,7 +17,7 @@ use Rattle.page_model.specs.Swapper.{is_out}
 use Rattle.page_model.specs.Ownership.{OneOwner, TextAside}
 use Rattle.page_model.specs.Coupled.{CouplesPages}
 use Rattle.page_laws.specs.FlatStands.{IsAbsent, AllDistinct, IsNumbered, OutHold, IsLender}
-use Rattle.page_model.specs.Kernel.{AllFit, Kernel, Proc, New, HoldsSpace, LendsSpace, Ended, Outline, Coupled, Sound, KeepsStarts, KeepsRegs, DataFits, lives, outline_kept, outline_of, life_of, spaces_of, space_held, stored_at, beside_kernel}
+use Rattle.page_model.specs.Kernel.{AllFit, Kernel, Proc, New, HoldsSpace, LendsSpace, Ended, Outline, Coupled, SameTables, Sound, KeepsStarts, KeepsRegs, DataFits, lives, outline_kept, outline_of, life_of, spaces_of, space_held, stored_at, beside_kernel}
 use Rattle.page_model.specs.FlatStep.{with_proc, orphaned_procs, left_procs, pass_step, flat_step}
 use Rattle.page_laws.proofs.PageLaws.{mapped}
 use Rattle.page_laws.proofs.Local.{none_some, some_is}
@@ -94,12 +94,12 @@ pub record Borrowing (k : Kernel) (flat : FlatState) (pid : ℕ) (q m : Process)
   pub life : lender.life ≡ LendsSpace s.sid pid
   pub apart : m.pid ≢ q.pid
 
-pub borrowing : (k : Kernel) (images : List NamedImage) (image : List ℕ) (flat : FlatState) (pid : ℕ) (q m : Process) (s : Space) → Coupled k images image flat → process_of flat pid ≡ Some q → q.holding ≡ Holds s → IsLender flat pid s.sid m → Borrowing k flat pid q m s
-borrowing k images image flat pid q m s c f h a =
-    let g : Stepping k flat pid q s = stepping k flat pid q s c.tables f h in
+pub borrowing : (k : Kernel) (flat : FlatState) (pid : ℕ) (q m : Process) (s : Space) → SameTables k flat → process_of flat pid ≡ Some q → q.holding ≡ Holds s → IsLender flat pid s.sid m → Borrowing k flat pid q m s
+borrowing k flat pid q m s c f h a =
+    let g : Stepping k flat pid q s = stepping k flat pid q s c f h in
     let at : numbered pid_of m.pid flat.processes ≡ Some m = sym (found_is flat.processes m.pid) ∙ a.found in
-    let p : (p : Proc) × (numbered kept_pid m.pid k.processes ≡ Some p) = kept_at k.processes flat.processes c.tables.processes m.pid m at in
-    let o : outline_kept p.0 ≡ outline_of m = outline_at k.processes flat.processes c.tables.processes m.pid p.0 m p.1 at in
+    let p : (p : Proc) × (numbered kept_pid m.pid k.processes ≡ Some p) = kept_at k.processes flat.processes c.processes m.pid m at in
+    let o : outline_kept p.0 ≡ outline_of m = outline_at k.processes flat.processes c.processes m.pid p.0 m p.1 at in
     record {
       step = g;
       lender = p.0;
@@ -133,9 +133,9 @@ pub record Back (k : Kernel) (flat : FlatState) (pid : ℕ) (q m fp : Process) (
   pub returned : returned q.pid s (replaced flat.processes fp) ≡ replaced (replaced flat.processes fp) (record m { holding = Holds s })
   pub outlines : map outline_kept (with_proc (map (passes s.sid pid m.pid) k.processes) kp) ≡ map outline_of (replaced (replaced flat.processes fp) (record m { holding = Holds s }))
 
-back : (k : Kernel) (images : List NamedImage) (image : List ℕ) (flat : FlatState) (pid : ℕ) (q m fp : Process) (kp : Proc) (s : Space) → IsNumbered flat → Coupled k images image flat → IsLender flat pid s.sid m → (a : Borrowing k flat pid q m s) → fp.pid ≡ q.pid → lends_to q.pid fp.holding ≡ false
+pub back : (k : Kernel) (flat : FlatState) (pid : ℕ) (q m fp : Process) (kp : Proc) (s : Space) → IsNumbered flat → SameTables k flat → IsLender flat pid s.sid m → (a : Borrowing k flat pid q m s) → fp.pid ≡ q.pid → lends_to q.pid fp.holding ≡ false
     → kp.pid ≡ a.step.proc.pid → outline_kept kp ≡ outline_of fp → Back k flat pid q m fp kp s
-back k images image flat pid q m fp kp s nums c is a fpid holds kpid o = record {
+back k flat pid q m fp kp s nums c is a fpid holds kpid o = record {
   distinct = distinct;
   distinct_both = subst AllDistinct (sym (replaced_pids (replaced flat.processes fp) m (record m { holding = Holds s }) lender_found)) distinct;
   lender_found = lender_found;
@@ -144,7 +144,7 @@ back k images image flat pid q m fp kp s nums c is a fpid holds kpid o = record 
       ∙ ap (λ (n : ℕ). map outline_kept (with_proc (map (passes s.sid kp.pid n) k.processes) kp)) (sym a.pid_is)
       ∙ ap (map outline_kept) (passed_back k.processes kp a.lender s.sid apart_kept (only_at k.processes a.lender distinct_kept (ap (λ (n : ℕ). numbered kept_pid n k.processes) a.pid_is ∙ a.kept)))
       ∙ with_replaced (with_proc k.processes kp) (replaced flat.processes fp) (record a.lender { life = HoldsSpace s.sid }) (record m { holding = Holds s })
-      (with_replaced k.processes flat.processes kp fp c.tables.processes nums.pids o) distinct
+      (with_replaced k.processes flat.processes kp fp c.processes nums.pids o) distinct
       (ap (λ (x : Outline). let y : Outline = record x { life = HoldsSpace s.sid } in y) a.outline);
 }
   where
@@ -158,7 +158,7 @@ back k images image flat pid q m fp kp s nums c is a fpid holds kpid o = record 
     distinct = subst AllDistinct (sym (replaced_pids flat.processes q fp found)) nums.pids
 
     distinct_kept : AllDistinct (map kept_pid k.processes)
-    distinct_kept = subst AllDistinct (sym (pids_same k.processes flat.processes c.tables.processes)) nums.pids
+    distinct_kept = subst AllDistinct (sym (pids_same k.processes flat.processes c.processes)) nums.pids
 
     lender_found : numbered pid_of m.pid (replaced flat.processes fp) ≡ Some m
     lender_found = replaced_not flat.processes fp m.pid (λ i. a.apart (i ∙ fpid)) ∙ a.found
@@ -203,7 +203,7 @@ exec_back size before k images image flat pid regs e number top named q m s so n
     (coupled_of l images image after (tables_of l after b.outlines c.tables.next_pid refl core.0) core.1 regs_now))))))
   where
     a : Borrowing k flat pid q m s
-    a = borrowing k images image flat pid q m s c f h is
+    a = borrowing k flat pid q m s c.tables f h is
 
     g : Stepping k flat pid q s
     g = a.step
@@ -227,7 +227,7 @@ exec_back size before k images image flat pid regs e number top named q m s so n
     mp = record m { holding = Holds s }
 
     b : Back k flat pid q m fp kp s
-    b = back k images image flat pid q m fp kp s nums c is a refl refl refl (outline_is g.proc.pid q.pid g.proc.parent q.parent (HoldsSpace n) (HoldsSpace n) g.proc.asleep q.asleep pids g.parent refl g.asleep)
+    b = back k flat pid q m fp kp s nums c.tables is a refl refl refl (outline_is g.proc.pid q.pid g.proc.parent q.parent (HoldsSpace n) (HoldsSpace n) g.proc.asleep q.asleep pids g.parent refl g.asleep)
       where
         pids : g.proc.pid ≡ q.pid
         pids = g.pid_is ∙ sym g.pid_was
@@ -316,7 +316,7 @@ end_back size k images image flat pid regs e status q m s so nums outs due f h i
     (coupled_of l images image after (tables_of l after outlines c.tables.next_pid c.tables.next_sid core.0) core.1 regs_now)))))
   where
     a : Borrowing k flat pid q m s
-    a = borrowing k images image flat pid q m s c f h is
+    a = borrowing k flat pid q m s c.tables f h is
 
     g : Stepping k flat pid q s
     g = a.step
@@ -340,7 +340,7 @@ end_back size k images image flat pid regs e status q m s so nums outs due f h i
     pids = g.pid_is ∙ sym g.pid_was
 
     b : Back k flat pid q m fp kz s
-    b = back k images image flat pid q m fp kz s nums c is a refl refl refl (outline_is g.proc.pid q.pid g.proc.parent q.parent (Ended status) (Ended status) g.proc.asleep q.asleep pids g.parent refl g.asleep)
+    b = back k flat pid q m fp kz s nums c.tables is a refl refl refl (outline_is g.proc.pid q.pid g.proc.parent q.parent (Ended status) (Ended status) g.proc.asleep q.asleep pids g.parent refl g.asleep)
 
     r1 : List Process
     r1 = replaced flat.processes fp

@@ -88,7 +88,7 @@ block_kept owner other keep v hs h = elim (cases_Bool (same_owner owner other)) 
 pub resized_other : (p : Placement) (sid d t n : ℕ) → n ≢ sid → numbered space_number n (resize p sid d t).spaces ≡ numbered space_number n (drop_all p (dropped_pages p sid d t)).spaces
 resized_other p sid d t n e = changed_other space_number sid n (cut d t) (λ x. refl) e (drop_all p (dropped_pages p sid d t)).spaces
 
-resized_own : (p : Placement) (sid d t : ℕ) → numbered space_number sid (resize p sid d t).spaces ≡ mapped (cut d t) (numbered space_number sid (drop_all p (dropped_pages p sid d t)).spaces)
+pub resized_own : (p : Placement) (sid d t : ℕ) → numbered space_number sid (resize p sid d t).spaces ≡ mapped (cut d t) (numbered space_number sid (drop_all p (dropped_pages p sid d t)).spaces)
 resized_own p sid d t = changed_same space_number sid (cut d t) (λ x. refl) (drop_all p (dropped_pages p sid d t)).spaces
 
 cut_image : (d t : ℕ) (o : Option SpacePages) → image_in (mapped (cut d t) o) ≡ image_in o
@@ -118,7 +118,7 @@ resized_sizes p sid d t n e = (
   ap (λ (o : Option SpacePages). length (stack_in o)) (resized_other p sid d t n e) ∙ sizes_kept p (drop_all p (dropped_pages p sid d t)) (drop_all_shaped (dropped_pages p sid d t) p) (Stack n 0),
 )
 
-fit_cut : (s : Space) (o : Option SpacePages) (d t : ℕ) → Fits (Some s) o → Fits (Some (resized s d t)) (mapped (cut d t) o)
+pub fit_cut : (s : Space) (o : Option SpacePages) (d t : ℕ) → Fits (Some s) o → Fits (Some (resized s d t)) (mapped (cut d t) o)
 fit_cut s None d t f = absurd f
 fit_cut s (Some x) d t f = record {
   image = f.image;

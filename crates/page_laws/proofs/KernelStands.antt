@@ -43,7 +43,7 @@ get_all_due : (qs : List Page) (p : Placement) (e : Errand) → (get_all p e qs)
 get_all_due [] p e = refl
 get_all_due (v ∷ qs) p e = get_all_due qs (get_one p e v) e ∙ get_due p e v
 
-reclaim_due : (p : Placement) (v : Page) → (reclaim p v).due ≡ p.due
+pub reclaim_due : (p : Placement) (v : Page) → (reclaim p v).due ≡ p.due
 reclaim_due p v = go (state_of p v)
   where
     go : (s : PageState) → (reclaim_to p v s).due ≡ p.due

@@ -257,11 +257,11 @@ exec_stands images k flat pid regs e number top named q s t due f h out im st = 
     (λ n o y. held_returned (replaced flat.processes (record q { regs = regs; holding = Holds (space_with flat.next_sid number named.image top) })) q.pid s n
     ((one_out k.place flat (record q { regs = regs; holding = Holds (space_with flat.next_sid number named.image top) }) pid ((found_at flat pid q f).0) out n o).1 y))))
 
-pub exec_back_stands : (images : List NamedImage) (k : Kernel) (image : List ℕ) (flat : FlatState) (pid : ℕ) (regs : Regs) (e : Entry) (number : ℕ) (top : List ℕ) (named : NamedImage) (q m : Process) (s : Space) → Coupled k images image flat → k.place.due ≡ [] → process_of flat pid ≡ Some q
+pub exec_back_stands : (images : List NamedImage) (k : Kernel) (flat : FlatState) (pid : ℕ) (regs : Regs) (e : Entry) (number : ℕ) (top : List ℕ) (named : NamedImage) (q m : Process) (s : Space) → SameTables k flat → k.place.due ≡ [] → process_of flat pid ≡ Some q
     → q.holding ≡ Holds s → IsLender flat pid s.sid m → is_out k.place pid ≡ false → image_numbered images number ≡ Some named → Stands images k flat
     → Stands images (flat_step images (pass_step k pid m.pid) pid regs e (Exec number top)) (apply_change images flat pid regs (Exec number top))
-exec_back_stands images k image flat pid regs e number top named q m s c due f h is out im st =
-    let a : Borrowing k flat pid q m s = borrowing k images image flat pid q m s c f h is in
+exec_back_stands images k flat pid regs e number top named q m s c due f h is out im st =
+    let a : Borrowing k flat pid q m s = borrowing k flat pid q m s c f h is in
     let g : Stepping k flat pid q s = a.step in
     let k1 : Kernel = record k { processes = map (passes s.sid pid m.pid) k.processes } in
     subst (λ (x : Kernel). Stands images (flat_step images x pid regs e (Exec number top)) (apply_change images flat pid regs (Exec number top))) (sym (back_kernel k flat pid q m s a))
@@ -305,10 +305,10 @@ pub end_stands : (images : List NamedImage) (k : Kernel) (flat : FlatState) (pid
 end_stands images k flat pid regs e status q s t f h st = by_step images k flat pid regs e (End status) q s t f h (λ kp i.
     end_stands_core images k flat q regs s status kp.pid s.sid false (left_procs (kp.parent == 0) (orphaned_procs k.processes kp.pid) kp status) (append k.journal e) (i ∙ sym (found_at flat pid q f).0) st)
 
-pub end_back_stands : (images : List NamedImage) (k : Kernel) (image : List ℕ) (flat : FlatState) (pid : ℕ) (regs : Regs) (e : Entry) (status : ℕ) (q m : Process) (s : Space) → Coupled k images image flat → process_of flat pid ≡ Some q → q.holding ≡ Holds s → IsLender flat pid s.sid m → Stands images k flat
+pub end_back_stands : (images : List NamedImage) (k : Kernel) (flat : FlatState) (pid : ℕ) (regs : Regs) (e : Entry) (status : ℕ) (q m : Process) (s : Space) → SameTables k flat → process_of flat pid ≡ Some q → q.holding ≡ Holds s → IsLender flat pid s.sid m → Stands images k flat
     → Stands images (flat_step images (pass_step k pid m.pid) pid regs e (End status)) (apply_change images flat pid regs (End status))
-end_back_stands images k image flat pid regs e status q m s c f h is st =
-    let a : Borrowing k flat pid q m s = borrowing k images image flat pid q m s c f h is in
+end_back_stands images k flat pid regs e status q m s c f h is st =
+    let a : Borrowing k flat pid q m s = borrowing k flat pid q m s c f h is in
     let g : Stepping k flat pid q s = a.step in
     let k1 : Kernel = record k { processes = map (passes s.sid pid m.pid) k.processes } in
     let kp : Proc = record g.proc { regs = regs; life = New } in

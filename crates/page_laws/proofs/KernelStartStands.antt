@@ -10,7 +10,7 @@ use Rattle.aout_image.specs.declared.Image.{Image}
 use Rattle.aout_image.specs.Image.{text_pages_of}
 use Rattle.swap_book.specs.Holdings.{Holdings}
 use Rattle.page_model.specs.Flat.{NamedImage, Inputs, process_of, image_numbered, start_process, start_if, start_processes, start_state}
-use Rattle.page_model.specs.Pages.{TextPages, OfImage, Slot, text_in, numbered, same_page}
+use Rattle.page_model.specs.Pages.{TextPages, Zeros, Slot, text_in, numbered, same_page}
 use Rattle.page_model.specs.Placement.{Starting, Due, Start, due_at, image_number, slots_of, unfilled, texts_from, due_from}
 use Rattle.page_laws.specs.FlatStands.{IsAbsent, AllDistinct, AllBelow, AllLower, IsNumbered, LendsStand, Stands}
 use Rattle.page_model.specs.Kernel.{is_start, has_start, text_of}
@@ -121,8 +121,8 @@ text_at : (images : List NamedImage) (m j i : ℕ) → i ≡ m + j → ((named :
 text_at [] m j i e fit = refl
 text_at (named ∷ images) m zero i e fit =
     let f : ImageFits named = fit named refl in
-    let pages : List Slot = replicate (text_pages_of named.image.facts) (unfilled OfImage) in
-    f.text ∙ ap (λ (n : ℕ). 1024 * n) (sym (length-replicate {A = Slot} (text_pages_of named.image.facts) (unfilled OfImage)))
+    let pages : List Slot = replicate (text_pages_of named.image.facts) (unfilled Zeros) in
+    f.text ∙ ap (λ (n : ℕ). 1024 * n) (sym (length-replicate {A = Slot} (text_pages_of named.image.facts) (unfilled Zeros)))
     ∙ sym (ap (λ (o : Option TextPages). 1024 * length (text_in o)) (hit image_number i (Rattle.page_model.specs.Placement.new_text m named.image.facts) (texts_from (m + 1) (map (λ (named : NamedImage). named.image.facts) images)) (omega arith)))
 text_at (named ∷ images) m (suc j) i e fit = text_at images (m + 1) j i (omega arith) fit
     ∙ sym (ap (λ (o : Option TextPages). 1024 * length (text_in o)) (miss image_number i (Rattle.page_model.specs.Placement.new_text m named.image.facts) (texts_from (m + 1) (map (λ (named : NamedImage). named.image.facts) images)) (λ h. absurd (let y : m ≡ i = h in omega arith))))

@@ -29,8 +29,8 @@ use Rattle.page_model.specs.Journal.{append}
 use Rattle.page_model.specs.Kernel.{Fits, Kernel, Proc, Outline, Sound, AreRegs, AllLongwords, Coupled, SameTables, KeepsRegs, outline_kept, outline_of, life_of, has_life, lives, lives_in, with_regs, spaces_of, memory_of, data_bytes_in, stack_bytes_in, stored_at, stored, store_at, put_blocks, blocks_at, codes_of, u_page, regs_in, beside_kernel, out_step, in_step, plain_step}
 use Rattle.page_model.specs.FlatStep.{ran_by, space_of_life}
 use Rattle.page_laws.proofs.Local.{some_is}
-use Rattle.page_laws.proofs.Blocks.{blocks_put_same}
-use Rattle.page_laws.proofs.Registers.{regs_back}
+use Rattle.page_laws.proofs.Blocks.{length_put, blocks_put_same}
+use Rattle.page_laws.proofs.Registers.{regs_back, regs_back_any}
 use Rattle.page_laws.proofs.Numbered.{eq_is, eq_self, not_eq, has_number, numbered_map, mapped_some}
 use Rattle.page_laws.proofs.FlatLists.{pid_of, sid_of, held, found_is, Parts, parts_at, replaced_at, replaced_not, same_held}
 use Rattle.page_laws.proofs.KernelCoupled.{alike_coupled, regs_kept}
@@ -179,10 +179,9 @@ still_moved p pid out at b k = Rattle.page_laws.proofs.KeptRuns.still_coupled p 
 -- Coming in.
 
 -- A process comes in with the registers that its u page holds.
-pub in_coupled : (k : Kernel) (images : List NamedImage) (image : List ℕ) (flat : FlatState) (pid : ℕ) (regs : Regs) (q : Process) → process_of flat pid ≡ Some q → is_out k.place pid ≡ true → AreRegs q.regs
-    → length (slots_of k.place (Data (space_of_holding q.holding) 0)) < 2 ^ 32 → length (slots_of k.place (Stack (space_of_holding q.holding) 0)) < 2 ^ 32
+pub in_coupled_any : (k : Kernel) (images : List NamedImage) (image : List ℕ) (flat : FlatState) (pid : ℕ) (regs : Regs) (q : Process) → process_of flat pid ≡ Some q → is_out k.place pid ≡ true → AreRegs q.regs
     → regs ≡ regs_in (stored_at image (block_in k.holdings (owners.U pid) 0)) → Coupled k images image flat → Coupled (in_step k pid regs) images image flat
-in_coupled k images image flat pid regs q f out are ld ls is c = coupled_of l images image flat
+in_coupled_any k images image flat pid regs q f out are is c = coupled_of l images image flat
     (tables_of l flat (regs_outlines pid regs k.processes ∙ t.processes) t.next_pid t.next_sid (all_fit k flat t))
     (alike_coupled l.place (beside_kernel k images image flat) (beside_kernel l images image flat) (λ w. record { frames = refl; swap = refl; file = file_of_same w; start = refl; memory = refl })
     (still_moved k.place pid false (length (append k.journal (entries.SwapIn pid))) (beside_kernel k images image flat) c.pages))
@@ -214,7 +213,7 @@ in_coupled k images image flat pid regs q f out are ld ls is c = coupled_of l im
         let old : KeepsRegs k image true q p.regs (space_of_holding q.holding) =
         subst (λ (o : Bool). KeepsRegs k image o q p.regs (space_of_holding q.holding)) out (regs_at k images image flat c pid q p (found_at flat pid q f).1 e) in
         is ∙ ap (λ (n : ℕ). regs_in (stored_at image (block_in k.holdings (owners.U n) 0))) (sym at) ∙ ap regs_in old
-        ∙ regs_back q.regs (length (slots_of k.place (Data (space_of_holding q.holding) 0))) (length (slots_of k.place (Stack (space_of_holding q.holding) 0))) are ld ls
+        ∙ regs_back_any q.regs (length (slots_of k.place (Data (space_of_holding q.holding) 0))) (length (slots_of k.place (Stack (space_of_holding q.holding) 0))) are
 
     regs_now : (n : ℕ) → RegsAt l image flat n
     regs_now n a b ea eb = elim (cases_eq n pid) [
@@ -228,9 +227,14 @@ in_coupled k images image flat pid regs q f out are ld ls is c = coupled_of l im
           (regs_kept k l image image (is_out k.place n) a b.regs (space_of_holding a.holding) (λ o. refl) refl refl (regs_at k images image flat c n a b ea (regs_other pid n regs k.processes b d eb)))
     ]
 
+pub in_coupled : (k : Kernel) (images : List NamedImage) (image : List ℕ) (flat : FlatState) (pid : ℕ) (regs : Regs) (q : Process) → process_of flat pid ≡ Some q → is_out k.place pid ≡ true → AreRegs q.regs
+    → length (slots_of k.place (Data (space_of_holding q.holding) 0)) < 2 ^ 32 → length (slots_of k.place (Stack (space_of_holding q.holding) 0)) < 2 ^ 32
+    → regs ≡ regs_in (stored_at image (block_in k.holdings (owners.U pid) 0)) → Coupled k images image flat → Coupled (in_step k pid regs) images image flat
+in_coupled k images image flat pid regs q f out are ld ls is c = in_coupled_any k images image flat pid regs q f out are is c
+
 -- Going out.
 
-u_length : (regs : Regs) (d s : ℕ) → AreRegs regs → length (u_page regs d s) ≡ 1024
+pub u_length : (regs : Regs) (d s : ℕ) → AreRegs regs → length (u_page regs d s) ≡ 1024
 unfolding u_page
 u_length regs d s a =
     length-append (flat_map word_bytes (regs.r ++ codes_of regs ∷ d ∷ s ∷ [])) (replicate 948 0)
@@ -263,7 +267,7 @@ u_own size hs image bytes pid x book l lb e =
     blocks_put_same image bytes x (omega arith) lb
 
 -- a process that lives has a u page
-u_found : (size : ℕ) (k : Kernel) (pid : ℕ) → Sound size k → lives k.processes pid ≡ true → IsSome (block_in k.holdings (owners.U pid) 0)
+pub u_found : (size : ℕ) (k : Kernel) (pid : ℕ) → Sound size k → lives k.processes pid ≡ true → IsSome (block_in k.holdings (owners.U pid) 0)
 u_found size k pid so alive =
     let o : OneOwner size (lives k.processes) k.place k.holdings = so.owner in
     let w : OwnsBlocks size (lives k.processes) k.place k.holdings = o.blocks in
@@ -344,3 +348,15 @@ out_coupled size k images image flat pid p so li e alive are out c = subst (λ (
       where
         u_number : (a b : ℕ) → owners.U a ≡ owners.U b → a ≡ b
         u_number a b h = cc
+
+-- the image is as long as it was
+pub out_length : (size : ℕ) (k : Kernel) (image : List ℕ) (pid : ℕ) (p : Proc) (d s : ℕ) → Sound size k → 512 * size ≤ length image → numbered kept_pid pid k.processes ≡ Some p → has_life p.life ≡ true → AreRegs p.regs
+    → length (store_at image (block_in k.holdings (owners.U pid) 0) (u_page p.regs d s)) ≡ length image
+out_length size k image pid p d s so li e alive are =
+    let o : OneOwner size (lives k.processes) k.place k.holdings = so.owner in
+    let w : OwnsBlocks size (lives k.processes) k.place k.holdings = o.blocks in
+    let a : ArePlacesApart size k.holdings = places_apart_of size k.holdings w.book in
+    let b : (x : ℕ) × (block_in k.holdings (owners.U pid) 0 ≡ Some x) = some_of (block_in k.holdings (owners.U pid) 0) (u_found size k pid so (ap lives_in e ∙ alive)) in
+    let y : IsPlace size k.holdings (owners.U pid) b.0 = a.own (owners.U pid) 0 b.0 b.1 in
+    let z = y.within in
+    ap (λ (i : Option ℕ). length (store_at image i (u_page p.regs d s))) b.1 ∙ length_put image (u_page p.regs d s) b.0 (omega arith) (u_length p.regs d s are)

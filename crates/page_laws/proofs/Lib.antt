@@ -75,3 +75,4 @@ pub mod CoupledReady
 pub mod FlatLenders
 pub mod KernelStarts
 pub mod KernelStartStands
+pub mod TablesThrough

@@ -29,7 +29,7 @@ use Rattle.page_laws.proofs.SoundChanges.{find, with_number}
 
 -- The numbers of spaces stay as pages move.
 
-abbrev SameSpaces : Placement → Placement → Type 0
+abbrev pub SameSpaces : Placement → Placement → Type 0
 SameSpaces p q = map space_number q.spaces ≡ map space_number p.spaces
 
 changed_numbers : (n : ℕ) (change : SpacePages → SpacePages) → ((s : SpacePages) → space_number (change s) ≡ space_number s) → (ss : List SpacePages) → map space_number (changed space_number n change ss) ≡ map space_number ss
@@ -195,7 +195,7 @@ moves_numbers : (n : ℕ) (p : Placement) (locked : List Page) → SameSpaces p 
 moves_numbers zero p locked = refl
 moves_numbers (suc n) p locked = moves_numbers n (hand_move p locked) locked ∙ sweep_numbers (expire p locked) locked ∙ expire_numbers p locked
 
-entry_numbers : (locked : List Page) (at : ℕ) (p : Placement) (e : Entry) → SameSpaces p (place_entry locked at p e)
+pub entry_numbers : (locked : List Page) (at : ℕ) (p : Placement) (e : Entry) → SameSpaces p (place_entry locked at p e)
 entry_numbers locked at p (entries.Zero q) = filled_numbers p q
 entry_numbers locked at p (entries.Get q lo n) = get_all_numbers (pages_from q lo n) (begin p (read_errand p q)) (read_errand p q)
 entry_numbers locked at p (entries.Copy q) = filled_numbers p q
@@ -350,7 +350,7 @@ pub enter_fine : (n : ℕ) (p : Placement) (image : ℕ) (named : Option NamedIm
 enter_fine n p image None f = fine_more n (map space_number p.spaces) f
 enter_fine n p image (Some named) f = add_fine n p (new_pages n image named.image.facts) refl f
 
-change_fine : (images : List NamedImage) (p : Placement) (pid sid : ℕ) (borrowed : Bool) (n at : ℕ) (change : Change) → FineSpaces n p → FineSpaces (Rattle.page_model.specs.FlatStep.sid_after n change) (place_change images p pid sid borrowed n at change)
+pub change_fine : (images : List NamedImage) (p : Placement) (pid sid : ℕ) (borrowed : Bool) (n at : ℕ) (change : Change) → FineSpaces n p → FineSpaces (Rattle.page_model.specs.FlatStep.sid_after n change) (place_change images p pid sid borrowed n at change)
 change_fine images p pid sid borrowed n at Keep f = f
 change_fine images p pid sid borrowed n at (Resize d s) f = same_fine n p (resize p sid d s) (resize_numbers p sid d s) f
 change_fine images p pid sid borrowed n at (Fork child) f = add_fine n p (record {

@@ -34,13 +34,13 @@ alike_owner p q o h f t a = reshaped_owner p q o (record { holds = h; free = f; 
 
 -- Sizes.
 
-sized_past : (n w : ℕ) (xs : List Slot) → n ≤ w → get_or (sized n xs) w no_slot ≡ no_slot
+pub sized_past : (n w : ℕ) (xs : List Slot) → n ≤ w → get_or (sized n xs) w no_slot ≡ no_slot
 sized_past zero w xs l = refl
 sized_past (suc n) zero xs l = absurd (omega arith)
 sized_past (suc n) (suc w) [] l = sized_past n w [] (omega arith)
 sized_past (suc n) (suc w) (x ∷ xs) l = sized_past n w xs (omega arith)
 
-sized_within : (n w : ℕ) (xs : List Slot) → w < n → Alike (get_or (sized n xs) w no_slot) (get_or xs w no_slot)
+pub sized_within : (n w : ℕ) (xs : List Slot) → w < n → Alike (get_or (sized n xs) w no_slot) (get_or xs w no_slot)
 sized_within zero w xs l = absurd (omega arith)
 sized_within (suc n) zero [] l = (refl, refl)
 sized_within (suc n) (suc w) [] l = sized_within n w [] (omega arith)
@@ -56,7 +56,7 @@ sized_alike n w xs b = elim (le_or w n) [
     le_or : (a b : ℕ) → (a < b) ⊎ (b ≤ a)
     le_or a b = grind arith
 
-abbrev cut : ℕ → ℕ → SpacePages → SpacePages
+abbrev pub cut : ℕ → ℕ → SpacePages → SpacePages
 cut d s x = record x { data_pages = sized d x.data_pages; stack_pages = sized s x.stack_pages }
 
 data_cut : (d s w : ℕ) (o : Option SpacePages) → (d ≤ w → BlankSlot (get_or (data_in o) w no_slot)) → Alike (get_or (data_in (mapped (cut d s) o)) w no_slot) (get_or (data_in o) w no_slot)

@@ -5,7 +5,7 @@ use Rattle.std.proofs.lemmas.Bool.Decides.{nat_tests}
 use Rattle.vm_facts.specs.declared.page.Page.{Page}
 use Rattle.vm_facts.specs.declared.page.Page.TheVariants.{Data, Stack, Text}
 use Rattle.vm_facts.specs.declared.page.PageState.{PageState}
-use Rattle.page_model.specs.Pages.{Slot, no_slot, change_slot, SpacePages, TextPages, numbered, changed, data_in, stack_in, text_in, with_data, with_stack, with_text, number_of, beside, same_page}
+use Rattle.page_model.specs.Pages.{Slot, no_slot, change_slot, filling_behind, SpacePages, TextPages, numbered, changed, data_in, stack_in, text_in, with_data, with_stack, with_text, number_of, beside, same_page}
 use Rattle.page_model.specs.Placement.{Placement, slots_of, slot_of, state_of, mark_of, IsThere, put, space_number, image_number, sharers_in, sharers}
 
 -- Two pages are one, or not.
@@ -60,7 +60,7 @@ same_page_self (Text a v) = both_self a v
 
 -- Slots of a segment.
 
-pub change_same : (xs : List Slot) (v : ℕ) (s : PageState) (m : Bool) → v < length xs → get_or (change_slot xs v s m) v no_slot ≡ record (get_or xs v no_slot) { state = s; mark = m }
+pub change_same : (xs : List Slot) (v : ℕ) (s : PageState) (m : Bool) → v < length xs → get_or (change_slot xs v s m) v no_slot ≡ record { state = s; mark = m; filling = filling_behind s (get_or xs v no_slot).filling }
 change_same [] v s m l = absurd (omega arith)
 change_same (x ∷ xs) zero s m l = refl
 change_same (x ∷ xs) (suc v) s m l = change_same xs v s m (omega arith)
@@ -199,7 +199,7 @@ slots_put p (Data sid v) s m = ap data_in (changed_same space_number sid (with_d
 slots_put p (Stack sid v) s m = ap stack_in (changed_same space_number sid (with_stack v s m) (λ x. refl) p.spaces) ∙ stack_with_stack v s m (numbered space_number sid p.spaces)
 slots_put p (Text image v) s m = ap text_in (changed_same image_number image (with_text v s m) (λ x. refl) p.texts) ∙ text_with_text v s m (numbered image_number image p.texts)
 
-pub put_same : (p : Placement) (q : Page) (s : PageState) (m : Bool) → IsThere p q → slot_of (put p q s m) q ≡ record (slot_of p q) { state = s; mark = m }
+pub put_same : (p : Placement) (q : Page) (s : PageState) (m : Bool) → IsThere p q → slot_of (put p q s m) q ≡ record { state = s; mark = m; filling = filling_behind s (slot_of p q).filling }
 put_same p q s m l = ap (λ (xs : List Slot). get_or xs (number_of q) no_slot) (slots_put p q s m) ∙ change_same (slots_of p q) (number_of q) s m l
 
 pub put_state : (p : Placement) (q : Page) (s : PageState) (m : Bool) → IsThere p q → state_of (put p q s m) q ≡ s

@@ -185,7 +185,7 @@ force_parts p locked o h = go p.transfers
     go [] = move_parts p locked o h
     go (t ∷ ts) = done_parts p h
 
-run_some : (p : Placement) (q : Page) (s : PageState) (spare : ℕ) → 0 < (run_in_by p q s spare).n
+pub run_some : (p : Placement) (q : Page) (s : PageState) (spare : ℕ) → 0 < (run_in_by p q s spare).n
 run_some p (Text image v) OnSwap spare = omega arith
 run_some p (Text image v) Unfilled spare = omega arith
 run_some p (Text image v) (Valid f) spare = omega arith

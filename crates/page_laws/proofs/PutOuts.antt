@@ -229,7 +229,7 @@ seated_active p (Coming f) e = refl
 seated_active p (Going f) e = e
 seated_active p OnSwap e = e
 
-seated_first : (p : Placement) (qs : List Page) (v : Page) → first_seated p qs ≡ Some v → is_seated p v ≡ true
+pub seated_first : (p : Placement) (qs : List Page) (v : Page) → first_seated p qs ≡ Some v → is_seated p v ≡ true
 seated_first p [] v e = none_some v e
 seated_first p (q ∷ qs) v e = go (is_seated p q) refl e (seated_first p qs v)
   where
@@ -270,7 +270,7 @@ land_all_residents : (xs : List Part) (p : Placement) (e : Errand) (ts : List Tr
 land_all_residents [] p e ts = refl
 land_all_residents (x ∷ xs) p e ts = land_all_residents xs (land p e x (record { errand = e; parts = xs } ∷ ts)) e ts ∙ land_residents p e x (record { errand = e; parts = xs } ∷ ts)
 
-done_residents : (p : Placement) → (done p).residents ≡ p.residents
+pub done_residents : (p : Placement) → (done p).residents ≡ p.residents
 done_residents p = go p.transfers
   where
     go : (ts : List Transfer) → (done_of p ts).residents ≡ p.residents
@@ -303,7 +303,7 @@ retire_residents p v = go (state_of p v)
     go (Going f) = refl
     go OnSwap = refl
 
-put_residents : (p : Placement) (v : Page) (qs : List Page) → (put_step p v qs).residents ≡ p.residents
+pub put_residents : (p : Placement) (v : Page) (qs : List Page) → (put_step p v qs).residents ≡ p.residents
 put_residents p v qs = go (is_dirty p v)
   where
     go : (b : Bool) → (put_by p v qs b).residents ≡ p.residents
@@ -313,7 +313,7 @@ put_residents p v qs = go (is_dirty p v)
 same_pages : (p q : Placement) (sid : ℕ) → Steady p q → pages_of_space q sid ≡ pages_of_space p sid
 same_pages p q sid s = ap₂ (λ (a b : ℕ). data_from sid 0 a ++ stack_from sid 0 b) (s.sizes (Data sid 0)) (s.sizes (Stack sid 0))
 
-same_out : (p q : Placement) (pid : ℕ) → q.residents ≡ p.residents → is_out q pid ≡ is_out p pid
+pub same_out : (p q : Placement) (pid : ℕ) → q.residents ≡ p.residents → is_out q pid ≡ is_out p pid
 same_out p q pid e = ap (λ (rs : List Residence). (residence_of rs pid).out) e
 
 -- The rank.
@@ -361,7 +361,7 @@ out_rank p pid sid at i e =
 
 -- What the unit is.
 
-unsettled_flies : (p : Placement) (sid : ℕ) → is_settled p sid ≡ false → (t : Transfer) × (ts : List Transfer) × (p.transfers ≡ t ∷ ts)
+pub unsettled_flies : (p : Placement) (sid : ℕ) → is_settled p sid ≡ false → (t : Transfer) × (ts : List Transfer) × (p.transfers ≡ t ∷ ts)
 unsettled_flies p sid e = go p.transfers refl
   where
     rests : (b : Bool) → (true && not (b && false)) ≡ true
@@ -374,27 +374,27 @@ unsettled_flies p sid e = go p.transfers refl
         let z : true ≡ false = sym k ∙ e in cc)
     go (t ∷ ts) h = (t, ts, h)
 
-full_is : (n : ℕ) → nat_le 16 n ≡ true → 16 ≤ n
+pub full_is : (n : ℕ) → nat_le 16 n ≡ true → 16 ≤ n
 full_is n e = grind (arith, nat_tests)
 
-not_full : (n : ℕ) → nat_le 16 n ≡ false → n < 16
+pub not_full : (n : ℕ) → nat_le 16 n ≡ false → n < 16
 not_full n e = grind (arith, nat_tests)
 
-full_flies : (p : Placement) → is_full p ≡ true → (t : Transfer) × (ts : List Transfer) × (p.transfers ≡ t ∷ ts)
+pub full_flies : (p : Placement) → is_full p ≡ true → (t : Transfer) × (ts : List Transfer) × (p.transfers ≡ t ∷ ts)
 full_flies p e = go p.transfers refl
   where
     go : (us : List Transfer) → p.transfers ≡ us → (t : Transfer) × (ts : List Transfer) × (p.transfers ≡ t ∷ ts)
     go [] h = absurd (let l = full_is (length p.transfers) e in let k = ap length h in omega arith)
     go (t ∷ ts) h = (t, ts, h)
 
-run_some : (p : Placement) (v : Page) → 0 < (run_put p v).n
+pub run_some : (p : Placement) (v : Page) → 0 < (run_put p v).n
 run_some p v = go (is_dirty p v)
   where
     go : (b : Bool) → 0 < (run_put_by p v b).n
     go true = omega arith
     go false = omega arith
 
-run_seats : (p : Placement) (v : Page) → HasSeat p v → EachPage (HasSeat p) (pages_from v (number_of v) (run_put p v).n)
+pub run_seats : (p : Placement) (v : Page) → HasSeat p v → EachPage (HasSeat p) (pages_from v (number_of v) (run_put p v).n)
 run_seats p v c = go (is_dirty p v)
   where
     passes : ℕ → Bool
@@ -405,7 +405,7 @@ run_seats p v c = go (is_dirty p v)
     go false = run_each (HasSeat p) passes v (run_alone v) (run_alone_in passes v) c (λ w e. seated_seat p (beside v w) (and_both (is_seated p (beside v w)) (is_dirty p (beside v w) && is_near v w) e).0)
 
 -- something is so of the unit, where it is so of each that it can be
-unit_case : (P : Entry → Type 0) (p : Placement) (pid sid : ℕ)
+pub unit_case : (P : Entry → Type 0) (p : Placement) (pid sid : ℕ)
     → ((t : Transfer) (ts : List Transfer) → p.transfers ≡ t ∷ ts → P entries.Done)
     → ((v : Page) → is_settled p sid ≡ true → first_seated p (pages_of_space p sid) ≡ Some v → (is_dirty p v && is_full p) ≡ false → P (entries.Put v (run_put p v).n))
     → (is_settled p sid ≡ true → first_seated p (pages_of_space p sid) ≡ None → P (entries.SwapOut pid))

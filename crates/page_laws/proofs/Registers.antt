@@ -50,17 +50,39 @@ codes_small n z v c = omega (arith, one n 8, one z 4, one v 2, one c 1)
     one true w = omega arith
     one false w = omega arith
 
-pub regs_back : (regs : Regs) (data_pages stack_pages : ℕ) → AreRegs regs → data_pages < 2 ^ 32 → stack_pages < 2 ^ 32 → regs_in (u_page regs data_pages stack_pages) ≡ regs
+words_joined : (ws vs : List ℕ) → flat_map word_bytes (ws ++ vs) ≡ flat_map word_bytes ws ++ flat_map word_bytes vs
+words_joined [] vs = refl
+words_joined (w ∷ ws) vs = ap (λ (l : List ℕ). w % 2 ^ 8 ∷ w / 2 ^ 8 % 2 ^ 8 ∷ w / 2 ^ 16 % 2 ^ 8 ∷ w / 2 ^ 24 % 2 ^ 8 ∷ l) (words_joined ws vs)
+
+-- whatever stands behind them
+pub regs_back_any : (regs : Regs) (data_pages stack_pages : ℕ) → AreRegs regs → regs_in (u_page regs data_pages stack_pages) ≡ regs
 unfolding u_page
-regs_back regs d s a ld ls =
-    let k : AllLongwords (regs.r ++ codes_of regs ∷ d ∷ s ∷ []) = words_more regs.r (codes_of regs ∷ d ∷ s ∷ []) a.each ((let h = codes_small regs.n regs.z regs.v regs.c in omega arith), (ld, (ls, tt))) in
-    let n : length (regs.r ++ codes_of regs ∷ d ∷ s ∷ []) ≡ length regs.r + 3 = length-append-3 regs.r (codes_of regs) d s in
-    let r : longwords 16 (flat_map word_bytes (regs.r ++ codes_of regs ∷ d ∷ s ∷ []) ++ replicate 948 0) ≡ regs.r =
-    words_read 16 (regs.r ++ codes_of regs ∷ d ∷ s ∷ []) (replicate 948 0) (omega (arith, a.count)) k ∙ take_at regs.r (codes_of regs ∷ d ∷ s ∷ []) 16 a.count in
-    let c : get_or (longwords 17 (flat_map word_bytes (regs.r ++ codes_of regs ∷ d ∷ s ∷ []) ++ replicate 948 0)) 16 0 ≡ codes_of regs =
-    ap (λ (xs : List ℕ). get_or xs 16 0) (words_read 17 (regs.r ++ codes_of regs ∷ d ∷ s ∷ []) (replicate 948 0) (omega (arith, a.count)) k) ∙ get_at 16 regs.r (codes_of regs) (d ∷ s ∷ []) a.count in
-    ap (λ (x : List ℕ). regs_from x (get_or (longwords 17 (flat_map word_bytes (regs.r ++ codes_of regs ∷ d ∷ s ∷ []) ++ replicate 948 0)) 16 0)) r
-    ∙ ap (regs_from regs.r) c ∙ codes_back regs.r regs.n regs.z regs.v regs.c
+regs_back_any regs d s a =
+    ap (λ (l : List ℕ). regs_in (l ++ replicate 948 0)) (ap (flat_map word_bytes) (parted regs.r (codes_of regs) d s) ∙ words_joined ws (d ∷ s ∷ []))
+    ∙ ap regs_in (append_assoc (flat_map word_bytes ws) (flat_map word_bytes (d ∷ s ∷ [])) (replicate 948 0))
+    ∙ (ap (λ (x : List ℕ). regs_from x (get_or (longwords 17 (flat_map word_bytes ws ++ rest)) 16 0)) r ∙ ap (regs_from regs.r) c ∙ codes_back regs.r regs.n regs.z regs.v regs.c)
   where
-    length-append-3 : (xs : List ℕ) (x y z : ℕ) → length (xs ++ x ∷ y ∷ z ∷ []) ≡ length xs + 3
-    length-append-3 xs x y z = Rattle.std.proofs.Common.length-append xs (x ∷ y ∷ z ∷ [])
+    ws : List ℕ
+    ws = regs.r ++ codes_of regs ∷ []
+
+    rest : List ℕ
+    rest = flat_map word_bytes (d ∷ s ∷ []) ++ replicate 948 0
+
+    parted : (xs : List ℕ) (x y z : ℕ) → xs ++ x ∷ y ∷ z ∷ [] ≡ (xs ++ x ∷ []) ++ y ∷ z ∷ []
+    parted [] x y z = refl
+    parted (w ∷ xs) x y z = ap (λ (l : List ℕ). w ∷ l) (parted xs x y z)
+
+    k : AllLongwords ws
+    k = words_more regs.r (codes_of regs ∷ []) a.each (let h = codes_small regs.n regs.z regs.v regs.c in omega arith, tt)
+
+    n : length ws ≡ length regs.r + 1
+    n = Rattle.std.proofs.Common.length-append regs.r (codes_of regs ∷ [])
+
+    r : longwords 16 (flat_map word_bytes ws ++ rest) ≡ regs.r
+    r = words_read 16 ws rest (omega (arith, a.count, n)) k ∙ take_at regs.r (codes_of regs ∷ []) 16 a.count
+
+    c : get_or (longwords 17 (flat_map word_bytes ws ++ rest)) 16 0 ≡ codes_of regs
+    c = ap (λ (xs : List ℕ). get_or xs 16 0) (words_read 17 ws rest (omega (arith, a.count, n)) k) ∙ get_at 16 regs.r (codes_of regs) [] a.count
+
+pub regs_back : (regs : Regs) (data_pages stack_pages : ℕ) → AreRegs regs → data_pages < 2 ^ 32 → stack_pages < 2 ^ 32 → regs_in (u_page regs data_pages stack_pages) ≡ regs
+regs_back regs d s a ld ls = regs_back_any regs d s a

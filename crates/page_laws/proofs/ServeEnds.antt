@@ -115,7 +115,7 @@ force_falls p locked o h r e = go p.transfers refl
 
 -- A read: the page is coming, and one more transfer is in flight.
 
-abbrev is_coming : PageState → Bool
+abbrev pub is_coming : PageState → Bool
 is_coming (Coming f) = true
 is_coming _ = false
 
@@ -279,7 +279,7 @@ pages_among q lo (suc n) w l m = elim (cases_eq w lo) [
   | inr k ↦ or_right (same_page (beside q w) (beside q lo)) (is_among (beside q w) (pages_from q (lo + 1) n)) (pages_among q (lo + 1) n w (omega arith) (omega arith))
 ]
 
-read_comes : (p : Placement) (q : Page) → OwnsFrames p → CanEnter p q → 0 < length p.free → is_coming (state_of (read_step p q) q) ≡ true
+pub read_comes : (p : Placement) (q : Page) → OwnsFrames p → CanEnter p q → 0 < length p.free → is_coming (state_of (read_step p q) q) ≡ true
 read_comes p q o c l =
     let spare : 0 < spare_frames p = omega arith in
     let f = run_in_fits p q (state_of p q) (spare_frames p) spare in
@@ -289,7 +289,7 @@ read_comes p q o c l =
     (let h = pages_length q (run_in p q).lo (run_in p q).n in omega (arith, f.2))
     (subst (λ (x : Page). is_among x (pages_of_run q (run_in p q)) ≡ true) (beside_number q) (pages_among q (run_in p q).lo (run_in p q).n (number_of q) f.0 f.1))
 
-read_length : (p : Placement) (q : Page) → length (read_step p q).transfers ≡ length p.transfers + 1
+pub read_length : (p : Placement) (q : Page) → length (read_step p q).transfers ≡ length p.transfers + 1
 read_length p q = get_all_length (pages_of_run q (run_in p q)) (begin p (read_errand p q)) (read_errand p q) (begin_open p.transfers (read_errand p q)) ∙ length_push p.transfers (record { errand = read_errand p q; parts = [] })
 
 -- Serving.
@@ -352,7 +352,7 @@ force_length p locked = go p.transfers refl
     go (t ∷ ts) e = let a = ap length (done_length p t ts e) in let b = ap length e in omega arith
 
 -- a page in flight lands, or stays as it is
-abbrev Landed : PageState → Type 0
+abbrev pub Landed : PageState → Type 0
 Landed (Valid f) = Unit {0}
 Landed (Invalid f) = Unit {0}
 Landed Unfilled = ⊥
@@ -393,13 +393,13 @@ land_there p (Reads source demanded) x rest q there = go (same_page x.page deman
     go true = let h = put_length p x.page (Valid x.frame) (arrived_mark source x.page (mark_of p x.page)) q in omega arith
     go false = let h = put_length p x.page (Invalid x.frame) (mark_of p x.page) q in omega arith
 
-land_all_lands : (xs : List Part) (p : Placement) (e : Errand) (ts : List Transfer) (q : Page) (was : PageState) → IsThere p q → ((state_of p q ≡ was) ⊎ Landed (state_of p q)) → (state_of (land_all p e xs ts) q ≡ was) ⊎ Landed (state_of (land_all p e xs ts) q)
+pub land_all_lands : (xs : List Part) (p : Placement) (e : Errand) (ts : List Transfer) (q : Page) (was : PageState) → IsThere p q → ((state_of p q ≡ was) ⊎ Landed (state_of p q)) → (state_of (land_all p e xs ts) q ≡ was) ⊎ Landed (state_of (land_all p e xs ts) q)
 land_all_lands [] p e ts q was there h = h
 land_all_lands (x ∷ xs) p e ts q was there h = land_all_lands xs (land p e x (record { errand = e; parts = xs } ∷ ts)) e ts q was
     (land_there p e x (record { errand = e; parts = xs } ∷ ts) q there) (land_lands p e x (record { errand = e; parts = xs } ∷ ts) q was there h)
 
 -- a page on its way is in a transfer
-in_flight : (p : Placement) (q : Page) (f : ℕ) → OwnsFrames p → frame_of (state_of p q) ≡ Some f → (state_of p q ≡ Invalid f → ⊥) → seats 0 (state_of p q) ≡ 0 → p.transfers ≡ [] → ⊥
+pub in_flight : (p : Placement) (q : Page) (f : ℕ) → OwnsFrames p → frame_of (state_of p q) ≡ Some f → (state_of p q ≡ Invalid f → ⊥) → seats 0 (state_of p q) ≡ 0 → p.transfers ≡ [] → ⊥
 in_flight p q f o e n z t = elim (zero_or (times f p.free)) [
   | inl y ↦ absurd (
       let a = once_at p q f o e in
@@ -424,7 +424,7 @@ done_rank p locked q there n is = go p.transfers refl
       | inr h ↦ let a = landed_rank (land_all p t.errand t.parts ts) locked (filling_of (land_all p t.errand t.parts ts) q) (state_of (land_all p t.errand t.parts ts) q) h in omega arith
     ]
 
-full_some : (p : Placement) → is_full p ≡ true → 0 < length p.transfers
+pub full_some : (p : Placement) → is_full p ≡ true → 0 < length p.transfers
 full_some p e = at_least (length p.transfers) e
   where
     at_least : (n : ℕ) → nat_le 16 n ≡ true → 0 < n

@@ -188,7 +188,7 @@ u_after ps x next hs p q sid borrowed (End status) h r u n = elim (cases_eq n x.
 -- Hands and transfers.
 
 -- the same hands at as many frames, and the same transfers
-record Unhanded (p q : Placement) : Type 0 where
+pub record Unhanded (p q : Placement) : Type 0 where
   pub hands : SameHands p q
   pub transfers : q.transfers ≡ p.transfers
 
@@ -253,7 +253,7 @@ enter_unhanded : (p : Placement) (sid image : ℕ) (named : Option NamedImage) �
 enter_unhanded p sid image None = unhanded_self p
 enter_unhanded p sid image (Some named) = record { hands = record { front = refl; back = refl; frames = refl }; transfers = refl }
 
-change_unhanded : (images : List NamedImage) (p : Placement) (pid sid : ℕ) (borrowed : Bool) (next at : ℕ) (change : Change) → Unhanded p (place_change images p pid sid borrowed next at change)
+pub change_unhanded : (images : List NamedImage) (p : Placement) (pid sid : ℕ) (borrowed : Bool) (next at : ℕ) (change : Change) → Unhanded p (place_change images p pid sid borrowed next at change)
 change_unhanded images p pid sid borrowed next at Keep = unhanded_self p
 change_unhanded images p pid sid borrowed next at (Resize d s) = resize_unhanded p sid d s
 change_unhanded images p pid sid borrowed next at (Fork child) = record { hands = record { front = refl; back = refl; frames = refl }; transfers = refl }

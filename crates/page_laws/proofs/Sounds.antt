@@ -100,7 +100,7 @@ plain_sound size k locked e s c sh l =
 frames_sound : (size : ℕ) (k : Kernel) (frames : List (List ℕ)) → Sound size k → length frames ≡ length k.frames → Sound size (record k { frames = frames })
 frames_sound size k frames s e = record { owner = s.owner; tokens = e ∙ s.tokens; hands = s.hands; few_transfers = s.few_transfers }
 
-first_length : (free : List ℕ) (frames : List (List ℕ)) (bytes : List ℕ) → length (put_first free frames bytes) ≡ length frames
+pub first_length : (free : List ℕ) (frames : List (List ℕ)) (bytes : List ℕ) → length (put_first free frames bytes) ≡ length frames
 first_length [] frames bytes = refl
 first_length (f ∷ rest) frames bytes = length_set_frame frames f bytes
 
@@ -122,7 +122,7 @@ read_length [] read frames = refl
 read_length (x ∷ xs) [] frames = refl
 read_length (x ∷ xs) (bytes ∷ more) frames = read_length xs more (set_frame frames x.frame bytes) ∙ length_set_frame frames x.frame bytes
 
-landed_length : (ts : List Transfer) (read frames : List (List ℕ)) → length (landed ts read frames) ≡ length frames
+pub landed_length : (ts : List Transfer) (read frames : List (List ℕ)) → length (landed ts read frames) ≡ length frames
 landed_length [] read frames = refl
 landed_length (t ∷ ts) read frames = go t.errand
   where
@@ -138,7 +138,7 @@ done_sound size k read s =
 
 -- User writes.
 
-touch_aside : (p : Placement) (v : Page) → OwnsFrames p → TextAside p → TextAside (touch p v)
+pub touch_aside : (p : Placement) (v : Page) → OwnsFrames p → TextAside p → TextAside (touch p v)
 touch_aside p v o a = go v (state_of p v) refl
   where
     busy : (v : Page) (f : ℕ) → state_of p v ≡ Valid f → TextAside (Rattle.page_model.specs.Moves.turn p v (Valid f) true p.free p.transfers)
@@ -159,7 +159,7 @@ touch_aside p v o a = go v (state_of p v) refl
     go (Stack sid n) OnSwap e = a
     go (Text image n) s e = a
 
-touch_transfers : (p : Placement) (v : Page) → (touch p v).transfers ≡ p.transfers
+pub touch_transfers : (p : Placement) (v : Page) → (touch p v).transfers ≡ p.transfers
 touch_transfers p v = go v (state_of p v)
   where
     go : (v : Page) (s : PageState) → (touch_to p v s).transfers ≡ p.transfers
@@ -195,7 +195,7 @@ pub note_sound : (size : ℕ) (k : Kernel) (e : Entry) → Sound size k → Soun
 note_sound size k e s = record { owner = s.owner; tokens = s.tokens; hands = s.hands; few_transfers = s.few_transfers }
 
 -- the same processes live
-alive_owner : (size : ℕ) (a b : ℕ → Bool) (p : Placement) (hs : Holdings) → ((pid : ℕ) → b pid ≡ a pid) → OneOwner size a p hs → OneOwner size b p hs
+pub alive_owner : (size : ℕ) (a b : ℕ → Bool) (p : Placement) (hs : Holdings) → ((pid : ℕ) → b pid ≡ a pid) → OneOwner size a p hs → OneOwner size b p hs
 alive_owner size a b p hs e o =
     let w : OwnsBlocks size a p hs = o.blocks in
     record {
@@ -273,6 +273,25 @@ passed_alive sid from to receiver q a b = go (q.pid == from) (q.pid == to) refl 
     go true d h k = alive receiver ∙ sym (a (eq_is q.pid from h))
     go false true h k = sym (b (eq_is q.pid to k))
     go false false h k = refl
+
+-- Where the giver and the receiver live, a space passes and nobody else comes to life.
+pub pass_lives : (k : Kernel) (from to : ℕ) → lives k.processes from ≡ true → lives k.processes to ≡ true → (n : ℕ) → lives (pass_step k from to).processes n ≡ lives k.processes n
+pass_lives k from to a b n = same n
+  where
+    sid : ℕ
+    sid = space_of_life (life_of_proc (numbered (λ (p : Proc). p.pid) from k.processes))
+
+    receiver : Life
+    receiver = life_of_proc (numbered (λ (p : Proc). p.pid) to k.processes)
+
+    kept : (n : ℕ) (q : Proc) → numbered (λ (x : Proc). x.pid) n k.processes ≡ Some q → lives k.processes n ≡ true → has_life q.life ≡ true
+    kept n q e l = sym (ap lives_in e) ∙ l
+
+    same : (n : ℕ) → lives (pass_step k from to).processes n ≡ lives k.processes n
+    same n = lives_map (passed_life sid from to receiver) k.processes n (λ q e.
+        passed_alive sid from to receiver q
+        (λ h. kept n q e (ap (lives k.processes) (sym (proc_number k.processes n q e) ∙ h) ∙ a))
+        (λ h. kept n q e (ap (lives k.processes) (sym (proc_number k.processes n q e) ∙ h) ∙ b)))
 
 -- Where the giver and the receiver live, a space may pass.
 pub pass_sound : (size : ℕ) (k : Kernel) (from to : ℕ) → lives k.processes from ≡ true → lives k.processes to ≡ true → Sound size k → Sound size (pass_step k from to)

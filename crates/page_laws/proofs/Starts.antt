@@ -6,7 +6,7 @@ use Rattle.vm_facts.specs.declared.page.Page.{Page}
 use Rattle.vm_facts.specs.declared.page.Page.TheVariants.{Data, Stack, Text}
 use Rattle.aout_image.specs.declared.Image.{Image}
 use Rattle.aout_image.specs.Image.{data_pages_of, text_pages_of}
-use Rattle.page_model.specs.Pages.{Filling, OfImage, SpacePages, TextPages, frame_of, numbered, data_in, stack_in, text_in}
+use Rattle.page_model.specs.Pages.{Filling, Zeros, SpacePages, TextPages, frame_of, numbered, data_in, stack_in, text_in}
 use Rattle.page_model.specs.Frames.{at_frame, times, count_up}
 use Rattle.page_model.specs.Placement.{Starting, space_number, image_number, slot_of, unfilled, spaces_from, texts_from, start_placement}
 use Rattle.page_model.specs.Rank.{walk, HandsStand}
@@ -60,7 +60,7 @@ many_blank (suc n) x = ((refl, refl), many_blank n x)
 
 texts_blank : (image : ℕ) (images : List Image) → BlankTexts (texts_from image images)
 texts_blank image [] = tt
-texts_blank image (facts ∷ more) = (many_blank (text_pages_of facts) OfImage, texts_blank (image + 1) more)
+texts_blank image (facts ∷ more) = (many_blank (text_pages_of facts) Zeros, texts_blank (image + 1) more)
 
 -- No page is filled, dirty or saved.
 pub start_blank : (images : List Image) (first : List Starting) (frames : ℕ) (q : Page) → BlankSlot (slot_of (start_placement images first frames) q)

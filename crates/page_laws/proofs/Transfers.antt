@@ -56,10 +56,10 @@ launch_all_count : (qs : List Page) (p : Placement) → 0 < length p.transfers �
 launch_all_count [] p l = refl
 launch_all_count (v ∷ qs) p l = let k = launch_count p v l in launch_all_count qs (launch p v) (omega arith) ∙ k
 
-launch_run_count : (p : Placement) (qs : List Page) → length (launch_run p qs).transfers ≡ length p.transfers + 1
+pub launch_run_count : (p : Placement) (qs : List Page) → length (launch_run p qs).transfers ≡ length p.transfers + 1
 launch_run_count p qs = let k = begin_count p Writes in launch_all_count qs (begin p Writes) (omega arith) ∙ k
 
-retire_count : (p : Placement) (v : Page) → length (retire p v).transfers ≡ length p.transfers
+pub retire_count : (p : Placement) (v : Page) → length (retire p v).transfers ≡ length p.transfers
 retire_count p v = go (state_of p v)
   where
     go : (s : PageState) → length (retire_to p v s).transfers ≡ length p.transfers
@@ -70,7 +70,7 @@ retire_count p v = go (state_of p v)
     go (Going f) = refl
     go OnSwap = refl
 
-reclaim_count : (p : Placement) (v : Page) → length (reclaim p v).transfers ≡ length p.transfers
+pub reclaim_count : (p : Placement) (v : Page) → length (reclaim p v).transfers ≡ length p.transfers
 reclaim_count p v = go (state_of p v)
   where
     go : (s : PageState) → length (reclaim_to p v s).transfers ≡ length p.transfers
@@ -81,7 +81,7 @@ reclaim_count p v = go (state_of p v)
     go (Going f) = refl
     go OnSwap = refl
 
-fill_count : (p : Placement) (v : Page) → length (fill p v).transfers ≡ length p.transfers
+pub fill_count : (p : Placement) (v : Page) → length (fill p v).transfers ≡ length p.transfers
 fill_count p v = go p.free
   where
     go : (fr : List ℕ) → length (fill_at p v fr).transfers ≡ length p.transfers
@@ -92,7 +92,7 @@ pub land_all_rest : (xs : List Part) (p : Placement) (e : Errand) (ts : List Tra
 land_all_rest [] p e ts = refl
 land_all_rest (x ∷ xs) p e ts = land_all_rest xs (land p e x (record { errand = e; parts = xs } ∷ ts)) e ts
 
-done_count : (p : Placement) → length (done p).transfers ≤ length p.transfers
+pub done_count : (p : Placement) → length (done p).transfers ≤ length p.transfers
 done_count p = go p.transfers refl
   where
     go : (ts : List Transfer) → p.transfers ≡ ts → length (done_of p ts).transfers ≤ length p.transfers

@@ -2,7 +2,7 @@
 use Rattle.std.specs.Prelude.{◌≡◌, ℕ, ◌*◌, ◌≤◌, false, List, [], ◌∷◌, length, map, Some}
 use Rattle.vm_facts.specs.Flat.{Space, Process}
 use Rattle.vm_facts.specs.declared.page.Page.TheVariants.{Stack}
-use Rattle.aout_image.specs.Image.{text_pages_of}
+use Rattle.aout_image.specs.Image.{IsSound, text_pages_of}
 use Rattle.swap_book.specs.Holdings.{Holdings}
 use Rattle.page_model.specs.Flat.{NamedImage, Inputs, image_numbered, argument_area, start_state}
 use Rattle.page_model.specs.Placement.{Starting, start_placement}
@@ -35,10 +35,12 @@ AreStarting images [] [] = Unit {0}
 AreStarting images (n ∷ ns) (a ∷ more) = (named : NamedImage) × (image_numbered images n ≡ Some named) × (a.image ≡ n) × (a.facts ≡ named.image.facts) × AreStarting images ns more
 AreStarting images _ _ = ⊥
 
--- an image's text and data are those of its pages, and its name finds room in stack page 0
+-- an image's text and data are those of its pages, of which there are no more than may be; and its name finds room in
+-- stack page 0
 pub record ImageFits (named : NamedImage) : Type 0 where
   pub text : length named.image.text ≡ 1024 * text_pages_of named.image.facts
   pub «data» : DataFits named.image
+  pub sound : IsSound named.image.facts
   pub name : length (argument_area (named.name ∷ [])) ≤ 1024
 
 abbrev pub ImagesFit : List NamedImage → Type 0

@@ -29,10 +29,10 @@ pub returns-clause-exec : goal.returns-clause-exec
 returns-clause-exec c = exec_stands
 
 pub returns-clause-exec_back : goal.returns-clause-exec_back
-returns-clause-exec_back c = exec_back_stands
+returns-clause-exec_back c = λ images k image flat pid regs e number top named q m s h. exec_back_stands images k flat pid regs e number top named q m s h.tables
 
 pub returns-clause-ends : goal.returns-clause-ends
 returns-clause-ends c = end_stands
 
 pub returns-clause-ends_back : goal.returns-clause-ends_back
-returns-clause-ends_back c = end_back_stands
+returns-clause-ends_back c = λ images k image flat pid regs e status q m s h. end_back_stands images k flat pid regs e status q m s h.tables
