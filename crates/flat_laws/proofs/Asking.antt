@@ -35,31 +35,31 @@ use Rattle.flat_model.specs.Asked.{pieces_for, has_image, is_there, is_shared, t
 -- Sizes.
 
 -- the space is found by its number
-own_space : (flat : FlatState) (pid : ℕ) (p : Process) (s : Space) → IsNumbered flat → process_of flat pid ≡ Some p → p.holding ≡ Holds s → numbered sid_of s.sid (spaces_of flat) ≡ Some s
+pub own_space : (flat : FlatState) (pid : ℕ) (p : Process) (s : Space) → IsNumbered flat → process_of flat pid ≡ Some p → p.holding ≡ Holds s → numbered sid_of s.sid (spaces_of flat) ≡ Some s
 own_space flat pid p s n here holds = held_own flat.processes p s (held_at flat.processes p p s (found_self flat pid p here) holds n.sids)
 
 whole_pages : (bytes pages : ℕ) → bytes ≡ 1024 * pages → pages ≡ bytes / 1024
 whole_pages bytes pages e = omega (arith, e)
 
-data_counted : (s : Space) (o : Option SpacePages) → Fits (Some s) o → length (data_in o) ≡ data_pages_in s
+pub data_counted : (s : Space) (o : Option SpacePages) → Fits (Some s) o → length (data_in o) ≡ data_pages_in s
 data_counted s None f = absurd f
 data_counted s (Some x) f = whole_pages (length s.data_bytes) (length x.data_pages) f.data_size
 
-stack_counted : (s : Space) (o : Option SpacePages) → Fits (Some s) o → length (stack_in o) ≡ stack_pages_of s
+pub stack_counted : (s : Space) (o : Option SpacePages) → Fits (Some s) o → length (stack_in o) ≡ stack_pages_of s
 stack_counted s None f = absurd f
 stack_counted s (Some x) f = whole_pages (length s.stack_bytes) (length x.stack_pages) f.stack_size
 
 -- Sharers.
 
 -- some item has this number
-abbrev is_some_of : {A : Type 0} → (A → ℕ) → ℕ → List A → Bool
+abbrev pub is_some_of : {A : Type 0} → (A → ℕ) → ℕ → List A → Bool
 is_some_of number n [] = false
 is_some_of number n (x ∷ xs) = cond (number x == n) true (is_some_of number n xs)
 
 abbrev image_of_space : Space → ℕ
 image_of_space s = s.image
 
-abbrev image_of_pages : SpacePages → ℕ
+abbrev pub image_of_pages : SpacePages → ℕ
 image_of_pages x = x.image
 
 -- where no two items have one number, each is found by its own
@@ -95,7 +95,7 @@ none_is_absent n (m ∷ ms) e = go (m == n) refl e (none_is_absent n ms)
     go true i k later = absurd (omega (arith, k))
     go false i k later = ((λ same. absurd (let h : true ≡ false = sym (eq_self n) ∙ sym (ap (λ (j : ℕ). j == n) same) ∙ i in cc)), later (omega (arith, k)))
 
-differ_distinct : (ms : List ℕ) → AllDiffer ms → AllDistinct ms
+pub differ_distinct : (ms : List ℕ) → AllDiffer ms → AllDistinct ms
 differ_distinct [] d = tt
 differ_distinct (m ∷ ms) d = (none_is_absent m ms d.0, differ_distinct ms d.1)
 
@@ -141,7 +141,7 @@ same_images ss xs image d c f = go (is_some_of image_of_space image ss) (is_some
         sym h ∙ some_found sid_of image_of_space r.0.sid image ss s.0 s.1 (sym s.2 ∙ r.2)
 
 -- the image has no sharer where no space has it
-no_sharers : (image : ℕ) (xs : List SpacePages) → sharers_in image xs ≡ 0 → is_some_of image_of_pages image xs ≡ false
+pub no_sharers : (image : ℕ) (xs : List SpacePages) → sharers_in image xs ≡ 0 → is_some_of image_of_pages image xs ≡ false
 no_sharers image [] e = refl
 no_sharers image (x ∷ xs) e = go (x.image == image) e (no_sharers image xs)
   where
@@ -149,7 +149,7 @@ no_sharers image (x ∷ xs) e = go (x.image == image) e (no_sharers image xs)
     go true k later = absurd (omega (arith, k))
     go false k later = later (omega (arith, k))
 
-some_sharers : (image n : ℕ) (xs : List SpacePages) → sharers_in image xs ≡ suc n → is_some_of image_of_pages image xs ≡ true
+pub some_sharers : (image n : ℕ) (xs : List SpacePages) → sharers_in image xs ≡ suc n → is_some_of image_of_pages image xs ≡ true
 some_sharers image n [] e = absurd (omega (arith, e))
 some_sharers image n (x ∷ xs) e = go (x.image == image) e (some_sharers image n xs)
   where
@@ -158,7 +158,7 @@ some_sharers image n (x ∷ xs) e = go (x.image == image) e (some_sharers image 
     go false k later = later (omega (arith, k))
 
 -- the flat state shares an image where a space of the placement has it
-shared_same : (k : Kernel) (flat : FlatState) (image : ℕ) → Numbered k → IsNumbered flat → SameTables k flat → is_shared flat image ≡ is_some_of image_of_pages image k.place.spaces
+pub shared_same : (k : Kernel) (flat : FlatState) (image : ℕ) → Numbered k → IsNumbered flat → SameTables k flat → is_shared flat image ≡ is_some_of image_of_pages image k.place.spaces
 shared_same k flat image c n t = shared_by_held image flat.processes ∙ same_images (held flat.processes) k.place.spaces image n.sids (differ_distinct (map space_number k.place.spaces) c.spaces_differ) (all_fit k flat t)
 
 -- Pieces.
@@ -166,7 +166,7 @@ shared_same k flat image c n t = shared_by_held image flat.processes ∙ same_im
 further_same : (owner : Owner) (old new : List ℕ) → wanted owner (drop (length old) new) ≡ drop (length (wanted owner old)) (wanted owner new)
 further_same owner old new = sym (ap (λ (n : ℕ). drop n (wanted owner new)) (length-map old (one owner)) ∙ drop-map (one owner) (length old) new)
 
-text_same : (image n blocks : ℕ) (shared : Bool) (named : NamedImage) → (n ≡ 0 → shared ≡ false) → ((m : ℕ) → n ≡ suc m → shared ≡ true) → blocks ≡ 2 * text_pages_of named.image.facts → text_asked n image blocks ≡ text_wanted shared image named.image
+pub text_same : (image n blocks : ℕ) (shared : Bool) (named : NamedImage) → (n ≡ 0 → shared ≡ false) → ((m : ℕ) → n ≡ suc m → shared ≡ true) → blocks ≡ 2 * text_pages_of named.image.facts → text_asked n image blocks ≡ text_wanted shared image named.image
 text_same image zero blocks true named none many e = absurd (let h = none refl in cc)
 text_same image zero blocks false named none many e = ap (λ (b : ℕ). wanted (owners.Text image) (text_pieces b)) e
 text_same image (suc n) blocks true named none many e = refl

@@ -6,3 +6,4 @@ pub mod Replies
 pub mod Others
 pub mod Numbers
 pub mod Asking
+pub mod Few

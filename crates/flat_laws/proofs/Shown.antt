@@ -31,7 +31,8 @@ use Rattle.flat_model.specs.Step.{Step, step_of, step_behind, called_step, repli
 use Rattle.flat_model.specs.Touched.{page_read, page_tested, page_of_access, call_accesses, accesses_behind, accesses_after, step_accesses, touched_in, touched_by, touched_if, touched, distinct}
 use Rattle.flat_model.specs.Shown.{is_shown, read_where, test_where, shown}
 use Rattle.flat_laws.specs.Shown.{IsOneOf, AreOf, IsCallOf}
-use Rattle.flat_laws.proofs.Pages.{among_distinct, among_first, among_later}
+use Rattle.touch_laws.proofs.Distinct.{among_first, among_later}
+use Rattle.flat_laws.proofs.Pages.{among_distinct}
 
 -- Answers that are alike.
 
@@ -147,7 +148,7 @@ shown_after s ws pages (a ∷ list) h = (ap (is_shown pages) (access_after s ws 
 abbrev touched_of : List NamedImage → FlatState → Process → Space → List Page
 touched_of images F p s = distinct (filter_map (page_of_access s) (step_accesses images F p s))
 
-is_touched : (A : Inputs) (F : FlatState) (pid : ℕ) (p : Process) (s : Space) → process_of F pid ≡ Some p → is_ready p ≡ true → p.holding ≡ Holds s → touched A F pid ≡ touched_of A.images F p s
+pub is_touched : (A : Inputs) (F : FlatState) (pid : ℕ) (p : Process) (s : Space) → process_of F pid ≡ Some p → is_ready p ≡ true → p.holding ≡ Holds s → touched A F pid ≡ touched_of A.images F p s
 unfolding touched
 is_touched A F pid p s here ready holds =
     ap (touched_if A.images F) here ∙ ap (λ (b : Bool). touched_by b A.images F p) ready ∙ ap (touched_in A.images F p) holds

@@ -10,9 +10,11 @@
 //! - `numbers_are_kept`: in each run each process has a number of its own, and so has each space, below the next ones.
 //! - `asks_agree`: the pieces of swap space that a change wants by a machine's placement are those that the flat state
 //!   asks for, where the machine's tables are those of the flat state.
+//! - `touched_are_few`: a process's next instruction, with its call, touches 28 pages at most, in each run and in each
+//!   state whose spaces are of whole pages; so with 64 frames there is room beside all that is locked.
 #![tactic(auto)]
 
-ghost use Rattle.std.specs.Prelude.{◌≡◌, ◌≢◌, ℕ, Bool, true, false, List, Some, Ok};
+ghost use Rattle.std.specs.Prelude.{◌≡◌, ◌≢◌, ℕ, ◌≤◌, Bool, true, false, List, length, Some, Ok};
 ghost use Rattle.vm_facts.specs.Flat.{Space, Holds, Process, FlatState};
 ghost use Rattle.vm_facts.specs.declared.entry.Entry.{Entry};
 ghost use Rattle.user_vax.specs.Effects.{Effect};
@@ -21,6 +23,7 @@ ghost use Rattle.user_vax.specs.Program.{run};
 ghost use Rattle.page_model.specs.declared.change.Change.{Change};
 ghost use Rattle.page_model.specs.Flat.{NamedImage, Inputs, start_state, process_of, is_ready, can_step};
 ghost use Rattle.page_model.specs.Change.{apply_writes};
+ghost use Rattle.page_model.specs.Rank.{HasRoom};
 ghost use Rattle.page_model.specs.Kernel.{Kernel, SameTables, TextFits};
 ghost use Rattle.page_laws.specs.Asks.{asked};
 ghost use Rattle.page_laws.specs.FlatStands.{AllDistinct, pids_of, IsNumbered};
@@ -34,7 +37,10 @@ ghost use Rattle.flat_model.specs.Instruction.{instruction_in};
 ghost use Rattle.flat_model.specs.Step.{flat_step, written_process};
 ghost use Rattle.flat_model.specs.Run.{Point, is_refused, act, process_of_entry, flat_entry, flat_run};
 ghost use Rattle.flat_model.specs.Touched.{touched};
+ghost use Rattle.flat_model.specs.State.{State};
+ghost use Rattle.flat_model.specs.Wanted.{locked};
 ghost use Rattle.flat_model.specs.Shown.{shown};
+ghost use Rattle.touch_laws.specs.Whole.{EachWhole};
 ghost use Rattle.flat_laws.specs.Shown.{AreOf, IsCallOf};
 ghost use Rattle.flat_laws.specs.Others.{HoldsStill, is_refusal, is_writing};
 
@@ -74,4 +80,13 @@ pub fn numbers_are_kept()
 pub fn asks_agree()
     ensures change { (images : List NamedImage) (k : Kernel) (flat : FlatState) (pid : ℕ) (p : Process) (s : Space) (change : Change) → ImagesFit images → TextFits images k.place → Numbered k → IsNumbered flat → SameTables k flat → process_of flat pid ≡ Some p → p.holding ≡ Holds s → asked images k pid change ≡ change_wanted images flat s change }
     ensures step { (A : Inputs) (k : Kernel) (flat : FlatState) (pid : ℕ) → ImagesFit A.images → TextFits A.images k.place → Numbered k → IsNumbered flat → SameTables k flat → can_step flat pid ≡ true → asked A.images k pid (flat_step A flat pid false).change ≡ asks A flat pid }
+{}
+
+/// A process's next instruction, with its call where it is one, touches 28 pages at most, in each state whose spaces
+/// are of whole pages, and so in each run. With 64 frames there is room beside all that is locked.
+pub fn touched_are_few()
+    ensures few { (A : Inputs) (F : FlatState) (pid : ℕ) → EachWhole F → length (touched A F pid) ≤ 28 }
+    ensures room { (A : Inputs) (s : State) → EachWhole s.point.flat → 64 ≤ length s.place.holds → HasRoom s.place (locked A s) }
+    ensures whole { (A : Inputs) (journal : List Entry) (point : Point) → ImagesFit A.images → flat_run A journal ≡ Some point → EachWhole point.flat }
+    ensures run { (A : Inputs) (journal : List Entry) (point : Point) (pid : ℕ) → ImagesFit A.images → flat_run A journal ≡ Some point → length (touched A point.flat pid) ≤ 28 }
 {}

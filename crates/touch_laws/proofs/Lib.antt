@@ -1,0 +1,12 @@
+pub mod Near
+pub mod Cover
+pub mod Fetched
+pub mod Stack
+pub mod Computing
+pub mod Calling
+pub mod Instructions
+pub mod Distinct
+pub mod Blocks
+pub mod Few
+pub mod Sized
+pub mod Room

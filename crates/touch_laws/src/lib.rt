@@ -1,0 +1,48 @@
+//! How few pages the next instruction of a process touches. There is no code here: each law is the clause of a function
+//! with an empty body.
+//!
+//! - `touched_are_few`: an instruction, with its call, touches 28 pages at most; so with 64 frames there is room for all
+//!   that is locked.
+//! - `spaces_are_whole`: in each run text and data of each space are whole pages, and no more than may be.
+//! - `runs_touch_few`: so in each run an instruction touches 28 pages at most.
+#![tactic(auto)]
+
+ghost use Rattle.std.specs.Prelude.{◌≡◌, ℕ, ◌≤◌, Bool, List, length, Some, Ok};
+ghost use Rattle.vm_facts.specs.Flat.{FlatState};
+ghost use Rattle.vm_facts.specs.declared.entry.Entry.{Entry};
+ghost use Rattle.vm_facts.specs.declared.page.Page.{Page};
+ghost use Rattle.aout_image.specs.Image.{image_of};
+ghost use Rattle.page_model.specs.Flat.{NamedImage, Inputs, start_state};
+ghost use Rattle.page_model.specs.Placement.{Placement};
+ghost use Rattle.page_model.specs.Rank.{HasRoom};
+ghost use Rattle.flat_model.specs.Run.{Point, flat_run};
+ghost use Rattle.flat_model.specs.Step.{flat_step};
+ghost use Rattle.flat_model.specs.State.{State};
+ghost use Rattle.flat_model.specs.Touched.{touched};
+ghost use Rattle.flat_model.specs.Wanted.{locked};
+ghost use Rattle.touch_laws.specs.Whole.{HoldsWhole, EachWhole, ImageWhole, ImagesWhole, AllSized};
+
+/// The next instruction of a process, with its call where it is one, touches 28 pages at most, where the space that the
+/// process holds has text and data of whole pages below 2 ^ 32. So no list of locked pages that is no longer than 32
+/// leaves too few frames, where there are 64 frames, and neither do the pages that are locked in a run's state.
+pub fn touched_are_few()
+    ensures few { (A : Inputs) (F : FlatState) (pid : ℕ) → HoldsWhole F pid → length (touched A F pid) ≤ 28 }
+    ensures spare { (place : Placement) (pages : List Page) → length pages ≤ 32 → 64 ≤ length place.holds → HasRoom place pages }
+    ensures locked { (A : Inputs) (s : State) → EachWhole s.point.flat → 64 ≤ length s.place.holds → HasRoom s.place (locked A s) }
+{}
+
+/// Text and data of each space that a process holds are whole pages, 2,048 and 4,096 at most: at the start, behind each
+/// step, and in each run, where the images' are so; and those of an image that a file is are so. Such spaces are of whole
+/// pages below 2 ^ 32.
+pub fn spaces_are_whole()
+    ensures start { (A : Inputs) → ImagesWhole A.images → AllSized (start_state A).processes }
+    ensures step { (A : Inputs) (F : FlatState) (pid : ℕ) (refused : Bool) → ImagesWhole A.images → AllSized F.processes → AllSized (flat_step A F pid refused).after.processes }
+    ensures run { (A : Inputs) (journal : List Entry) (point : Point) → ImagesWhole A.images → flat_run A journal ≡ Some point → AllSized point.flat.processes }
+    ensures whole { (F : FlatState) → AllSized F.processes → EachWhole F }
+    ensures image { (named : NamedImage) (bytes : List ℕ) → image_of bytes ≡ Ok named.image → ImageWhole named }
+{}
+
+/// So in each run the next instruction of each process touches 28 pages at most.
+pub fn runs_touch_few()
+    ensures { (A : Inputs) (journal : List Entry) (point : Point) (pid : ℕ) → ImagesWhole A.images → flat_run A journal ≡ Some point → length (touched A point.flat pid) ≤ 28 }
+{}
