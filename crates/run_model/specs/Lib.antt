@@ -1,0 +1,4 @@
+pub mod Next
+pub mod Kinds
+pub mod Lawful
+pub mod Swapped

@@ -1,0 +1,159 @@
+-- The written policy: which unit comes next of all.
+use Rattle.std.specs.Prelude.{ℕ, zero, ◌+◌, ◌-◌, ◌==◌, Bool, true, false, not, ◌&&◌, nat_lt, List, [], ◌∷◌, find, length, Option, Some, None}
+use Rattle.vm_facts.specs.Flat.{Process, FlatState}
+use Rattle.vm_facts.specs.declared.page.Page.{Page}
+use Rattle.vm_facts.specs.declared.page.PageState.{PageState}
+use Rattle.vm_facts.specs.declared.page.PageState.TheVariants.{Invalid}
+use Rattle.vm_facts.specs.declared.entry.Entry.{Entry}
+use Rattle.vm_facts.specs.declared.entry.Entry.TheVariants as entries
+use Rattle.swap_book.specs.Holdings.{Holdings}
+use Rattle.page_model.specs.Flat.{Inputs, process_of, can_step, is_ready}
+use Rattle.page_model.specs.Pages.{is_among}
+use Rattle.page_model.specs.Frames.{times}
+use Rattle.page_model.specs.Placement.{Placement, Due, Start, CopyOf, state_of, is_dirty, page_of, parts_of}
+use Rattle.page_model.specs.Place.{space_of_process}
+use Rattle.page_model.specs.Hands.{expire, wants_moves}
+use Rattle.page_model.specs.Serve.{force_entry, is_full, serve_unit}
+use Rattle.page_model.specs.Swapper.{is_out, put_out_unit}
+use Rattle.flat_model.specs.declared.mark.Mark.{Mark}
+use Rattle.flat_model.specs.declared.mark.Mark.TheVariants as marks
+use Rattle.flat_model.specs.State.{State}
+use Rattle.flat_model.specs.Wanted.{wanted, locked}
+use Rattle.flat_model.specs.Act.{act}
+
+abbrev pub when : {A : Type 0} → Bool → Option A → Option A
+when true o = o
+when false o = None
+
+abbrev pub or_else : {A : Type 0} → Option A → Option A → Option A
+or_else (Some x) other = Some x
+or_else None other = other
+
+-- Fills that are due.
+
+abbrev pub fill_by : Placement → Entry → List ℕ → Entry
+fill_by p e [] = force_entry p.transfers
+fill_by p e (f ∷ fs) = e
+
+-- this fill, and before it a frame is forced where none is free
+abbrev pub fill_unit : Placement → Entry → Entry
+fill_unit p e = fill_by p e p.free
+
+abbrev pub copy_unit_by : Placement → Page → Option Entry → Entry
+copy_unit_by p q (Some e) = e
+copy_unit_by p q None = fill_unit p (entries.Copy q)
+
+-- the unit of what is due first: a new stack page is filled; a child's page is copied, once its parent's is valid
+abbrev pub due_unit : Placement → List Due → Option Entry
+due_unit p [] = None
+due_unit p (Start q ∷ due) = Some (fill_unit p (entries.Zero q))
+due_unit p (CopyOf q parent ∷ due) = Some (copy_unit_by p q (serve_unit p parent true))
+
+-- A process that runs.
+
+-- it can step, and neither all instructions of the run nor those up to this count are counted
+abbrev pub goes_on : Inputs → State → ℕ → ℕ → Bool
+goes_on A s pid until = can_step s.point.flat pid && (nat_lt s.count A.limit && nat_lt s.count until)
+
+abbrev pub work_by : Inputs → State → ℕ → Bool → Option Page → Option Entry
+work_by A s pid now None = act A s pid
+work_by A s pid now (Some q) = serve_unit s.place q now
+
+-- the wanted page is served, or, where none is wanted, the process acts
+abbrev pub work : Inputs → State → ℕ → Bool → Option Entry
+work A s pid now = work_by A s pid now (wanted A s)
+
+abbrev pub turn_by : Inputs → State → ℕ → Bool → Option Entry
+turn_by A s pid true = Some (entries.SwapIn pid)
+turn_by A s pid false = work A s pid true
+
+-- in a turn a process that is out comes in first, and its pages are served now
+abbrev pub turn_unit : Inputs → State → ℕ → Option Entry
+turn_unit A s pid = turn_by A s pid (is_out s.place pid)
+
+-- the instructions of one turn
+abbrev pub turn_instructions : ℕ
+turn_instructions = 1000
+
+-- Moves of the hands.
+
+abbrev pub writes_to : Placement → List Page → Page → PageState → ℕ → Bool → Bool
+writes_to p pages q (Invalid f) zero false = is_dirty p q
+writes_to p pages q _ _ _ = false
+
+abbrev pub writes_of : Placement → List Page → ℕ → Option Page → Bool
+writes_of p pages f None = false
+writes_of p pages f (Some q) = writes_to p pages q (state_of p q) (times f p.free) (is_among q pages)
+
+-- the back hand would take a dirty page, behind the front hand
+abbrev pub begins_write : Placement → List Page → Bool
+begins_write p pages = writes_of (expire p pages) pages (expire p pages).back (page_of (expire p pages) (expire p pages).back)
+
+abbrev pub move_by : Bool → Entry
+move_by true = entries.Done
+move_by false = entries.Hands 1
+
+-- a move; before it the oldest transfer ends, where the move would begin a write and there is no room for that
+abbrev pub move_unit : Placement → List Page → Entry
+move_unit p pages = move_by (begins_write p pages && is_full p)
+
+-- Numbers of frames and blocks.
+
+abbrev pub blocks_held : Holdings → ℕ
+blocks_held [] = 0
+blocks_held (h ∷ hs) = h.length + blocks_held hs
+
+-- frames free, in use off the free list, and in transfers, and blocks held
+abbrev pub owners_entry : State → Entry
+owners_entry s =
+    entries.Owners (length s.place.free) (length s.place.holds - (length s.place.free + length (parts_of s.place.transfers)))
+    (length (parts_of s.place.transfers)) (blocks_held s.holdings)
+
+-- The last mark.
+
+-- what is still to come of a mark; none where it is over
+abbrev pub under : Inputs → State → Mark → Option Entry
+under A s marks.Over = None
+under A s (marks.Dispatch pid count since) = when (goes_on A s pid (since + count) && not (is_out s.place pid)) (work A s pid false)
+under A s marks.Interrupt = Some entries.Done
+under A s (marks.Hands count) = when (nat_lt 0 count && wants_moves s.place) (Some (move_unit s.place (locked A s)))
+under A s (marks.BringIn pid) = Some (entries.SwapIn pid)
+under A s (marks.PutOut pid) = Some (put_out_unit s.place pid (space_of_process (process_of s.point.flat pid)))
+under A s marks.Audit = Some (owners_entry s)
+under A s (marks.Turn pid since) = when (goes_on A s pid (since + turn_instructions)) (turn_unit A s pid)
+
+-- The next mark.
+
+-- the process of the last turn; before the first there is none
+abbrev pub last_turned : Mark → ℕ
+last_turned (marks.Turn pid since) = pid
+last_turned _ = 0
+
+abbrev pub pid_if : Option Process → Option ℕ
+pid_if None = None
+pid_if (Some q) = Some q.pid
+
+-- the first process above this one that can step
+abbrev pub next_ready : FlatState → ℕ → Option ℕ
+next_ready F above = pid_if (find (λ q. is_ready q && nat_lt above q.pid) F.processes)
+
+-- the process of the next turn: the lowest above the last turn's that can step, or else the lowest that can step
+abbrev pub next_turned : FlatState → ℕ → Option ℕ
+next_turned F last = or_else (next_ready F last) (next_ready F 0)
+
+abbrev pub turn_of : Option ℕ → Option Entry
+turn_of None = None
+turn_of (Some pid) = Some (entries.Turn pid)
+
+-- the next line of the schedule, or a turn behind the last one
+abbrev pub line_or_turn : State → Bool → Option Entry
+line_or_turn s true = Some (entries.Event (s.lines + 1))
+line_or_turn s false = turn_of (next_turned s.point.flat (last_turned s.mark))
+
+-- the next mark; none where as many instructions ran as may, or no process can step behind the last line
+abbrev pub next_mark : Inputs → State → Option Entry
+next_mark A s = when (nat_lt s.count A.limit) (line_or_turn s (nat_lt s.lines (length A.lines)))
+
+-- The next unit, or none: what is due, then what is still to come of the last mark, then the next mark.
+unfoldable pub next_unit : Inputs → State → Option Entry
+next_unit A s = or_else (due_unit s.place s.place.due) (or_else (under A s s.mark) (next_mark A s))

@@ -1,0 +1,50 @@
+-- The swap image behind a journal.
+use Rattle.std.specs.Prelude.{ℕ, List, [], ◌∷◌, length, Option, Some, None}
+use Rattle.vm_facts.specs.Flat.{Process}
+use Rattle.vm_facts.specs.declared.page.Page.TheVariants.{Data, Stack}
+use Rattle.vm_facts.specs.declared.entry.Entry.{Entry}
+use Rattle.vm_facts.specs.declared.entry.Entry.TheVariants as entries
+use Rattle.swap_book.specs.declared.Owner.TheVariants as owners
+use Rattle.swap_book.specs.Holdings.{block_in}
+use Rattle.page_model.specs.Flat.{Inputs, process_of}
+use Rattle.page_model.specs.Journal.{units_of}
+use Rattle.page_model.specs.Placement.{Transfer, Part, Errand, Writes, Reads, slots_of}
+use Rattle.page_model.specs.Place.{space_of_holding}
+use Rattle.page_model.specs.Ownership.{block_of}
+use Rattle.page_model.specs.Kernel.{store_at, u_page, memory_of}
+use Rattle.flat_model.specs.Asked.{start_held, or_before}
+use Rattle.flat_model.specs.State.{State, start}
+use Rattle.flat_model.specs.After.{after}
+
+-- each of these pages, as the flat machine has it, is in its two blocks
+abbrev pub pages_stored : Inputs → State → List Part → List ℕ → List ℕ
+pages_stored A s [] image = image
+pages_stored A s (x ∷ xs) image = pages_stored A s xs (store_at image (block_of s.holdings x.page) (memory_of A.images s.point.flat x.page))
+
+abbrev pub done_stored : Inputs → State → List Part → Errand → List ℕ → List ℕ
+done_stored A s xs Writes image = pages_stored A s xs image
+done_stored A s xs (Reads source demanded) image = image
+
+abbrev pub oldest_stored : Inputs → State → List Transfer → List ℕ → List ℕ
+oldest_stored A s [] image = image
+oldest_stored A s (t ∷ ts) image = done_stored A s t.parts t.errand image
+
+abbrev pub u_stored : State → ℕ → Option Process → List ℕ → List ℕ
+u_stored s pid None image = image
+u_stored s pid (Some q) image =
+    store_at image (block_in s.holdings (owners.U pid) 0)
+    (u_page q.regs (length (slots_of s.place (Data (space_of_holding q.holding) 0))) (length (slots_of s.place (Stack (space_of_holding q.holding) 0))))
+
+-- the swap image behind a unit: the end of a write puts its pages there, and a process that goes out its u page
+abbrev pub image_behind : Inputs → State → Entry → List ℕ → List ℕ
+image_behind A s entries.Done image = oldest_stored A s s.place.transfers image
+image_behind A s (entries.SwapOut pid) image = u_stored s pid (process_of s.point.flat pid) image
+image_behind A s _ image = image
+
+unfoldable pub swapped_from : Inputs → State → List Entry → List ℕ → List ℕ
+swapped_from A s [] image = image
+swapped_from A s (u ∷ us) image = swapped_from A (after A s u) us (image_behind A s u image)
+
+-- the swap image behind the writes of a journal
+abbrev pub swapped : Inputs → List Entry → List ℕ → List ℕ
+swapped A journal image = swapped_from A (start A (or_before [] (start_held A))) (units_of journal) image

@@ -1,0 +1,19 @@
+ghost use Rattle.std.specs.Prelude.{◌≡◌, List, [], ◌∷◌, ◌++◌, length, Some};
+ghost use Rattle.vm_facts.specs.declared.entry.Entry.{Entry};
+ghost use Rattle.page_model.specs.Flat.{Inputs};
+ghost use Rattle.flat_model.specs.State.{State};
+ghost use Rattle.run_model.specs.Next.{next_unit};
+ghost use Rattle.run_model.specs.Kinds.{Kind};
+ghost use Rattle.run_model.specs.Lawful.{Follows};
+
+/// From a state so many next units lead one way, and one list of next units goes on by another.
+pub fn follows_once()
+    ensures once { (A : Inputs) (s t r : State) (us vs : List Entry) → Follows A s us t → Follows A s vs r → length us ≡ length vs → (us ≡ vs) × (t ≡ r) }
+    ensures on { (A : Inputs) (s t r : State) (us vs : List Entry) → Follows A s us t → Follows A t vs r → Follows A s (us ++ vs) r }
+{}
+
+/// The next unit fills what is due or serves for it, serves the page that a process wants, is what the process does,
+/// or what is asked by the last mark, or begins the next one.
+pub fn next_is_one_of()
+    ensures { (A : Inputs) (s : State) (u : Entry) → next_unit A s ≡ Some u → Kind A s u }
+{}
