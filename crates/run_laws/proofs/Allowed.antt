@@ -1,0 +1,238 @@
+-- Each paging entry that the policy gives may be made, and leaves at most 16 transfers in flight.
+use Rattle.std.proofs.Common.{◌≡◌, ℕ, zero, suc, ◌<◌, ◌≤◌, Bool, true, false, cond, ◌&&◌, List, [], ◌∷◌, length, Option, Some, None, refl, sym, ap, ◌∙◌, subst, arith}
+use Rattle.vm_facts.specs.declared.page.Page.{Page}
+use Rattle.vm_facts.specs.declared.page.Page.TheVariants.{Data, Stack, Text}
+use Rattle.vm_facts.specs.declared.page.PageState.{PageState}
+use Rattle.vm_facts.specs.declared.page.PageState.TheVariants.{Unfilled, Valid, Invalid, Coming, Going, OnSwap}
+use Rattle.vm_facts.specs.declared.entry.Entry.{Entry}
+use Rattle.vm_facts.specs.declared.entry.Entry.TheVariants as entries
+use Rattle.page_model.specs.Pages.{Filling, Zeros, OfImage, frame_of, same_page, is_valid, is_among}
+use Rattle.page_model.specs.Frames.{times}
+use Rattle.page_model.specs.Placement.{Placement, Transfer, Due, Start, CopyOf, due_page, due_at, state_of, filling_of, IsThere, page_of, is_dirty}
+use Rattle.page_model.specs.Moves.{done}
+use Rattle.page_model.specs.Place.{due_after, place_entry}
+use Rattle.page_model.specs.Runs.{run_put, spare_frames}
+use Rattle.page_model.specs.Hands.{expire, sweep_of, sweep_to, sweep_by, hand_move}
+use Rattle.page_model.specs.Serve.{force_entry, is_full, read_entry, read_entry_if, bring_entry_by, feed_entry_by, serve_entry_by, serve_entry}
+use Rattle.page_model.specs.Swapper.{put_out_unit}
+use Rattle.page_model.specs.Conditions.{CanEnter, IsShared}
+use Rattle.page_model.specs.Coupled.{IsWritable}
+use Rattle.page_model.specs.Dues.{DueStand, IsDue, NotDue}
+use Rattle.page_model.specs.Ownership.{OwnsFrames, seats}
+use Rattle.page_laws.proofs.PageLaws.{same_page_self}
+use Rattle.page_laws.proofs.Stays.{expire_transfers}
+use Rattle.page_laws.proofs.OwnsServe.{run_in_enters}
+use Rattle.page_laws.proofs.DueLaws.{run_in_due}
+use Rattle.page_laws.proofs.PartsKept.{run_some}
+use Rattle.page_laws.proofs.PutOuts.{unit_case, unit_can, not_full, run_some as put_some}
+use Rattle.page_laws.proofs.ServeEnds.{in_flight, full_some}
+use Rattle.page_laws.proofs.Transfers.{entry_count, done_count, retire_count}
+use Rattle.run_model.specs.Next.{fill_by, fill_unit, writes_to, writes_of, begins_write, move_by, move_unit}
+use Rattle.run_laws.specs.Standing.{IsAllowed, EachOnce}
+
+-- Lists of what is due.
+
+-- a page that isn't due takes nothing off
+pub not_due_after : (ds : List Due) (q : Page) → NotDue ds q → due_after ds q ≡ ds
+not_due_after [] q n = refl
+not_due_after (d ∷ ds) q n = go (same_page (due_page d) q) n
+  where
+    go : (b : Bool) → cond b (Some d) (due_at ds q) ≡ None → cond b ds (d ∷ ds) ≡ d ∷ ds
+    go true n = absurd cc
+    go false n = refl
+
+pub first_after : (d : Due) (ds : List Due) → due_after (d ∷ ds) (due_page d) ≡ ds
+first_after d ds = ap (λ (b : Bool). cond b ds (d ∷ ds)) (same_page_self (due_page d))
+
+pub first_due : (d : Due) (ds : List Due) → due_at (d ∷ ds) (due_page d) ≡ Some d
+first_due d ds = ap (λ (b : Bool). cond b (Some d) (due_at ds (due_page d))) (same_page_self (due_page d))
+
+some_length : {A : Type 0} (xs : List A) (x : A) (rest : List A) → xs ≡ x ∷ rest → 0 < length xs
+some_length xs x rest e = subst (λ l. 0 < length l) (sym e) (omega arith)
+
+pub transfers_some : (p : Placement) → (p.transfers ≡ [] → ⊥) → 0 < length p.transfers
+transfers_some p n = go p.transfers refl
+  where
+    go : (ts : List Transfer) → p.transfers ≡ ts → 0 < length ts
+    go [] e = absurd (n e)
+    go (t ∷ ts) e = omega arith
+
+pub done_allowed : (p : Placement) → 0 < length p.transfers → IsAllowed p entries.Done
+done_allowed p l = record { can = tt; shared = tt; begins = tt; leaves = tt; finds = l }
+
+-- Forcing.
+
+pub forced_allowed : (p : Placement) (ts : List Transfer) → p.transfers ≡ ts → IsAllowed p (force_entry ts)
+forced_allowed p [] e = record { can = tt; shared = tt; begins = tt; leaves = tt; finds = tt }
+forced_allowed p (t ∷ ts) e = done_allowed p (some_length p.transfers t ts e)
+
+pub forced_few : (locked : List Page) (at : ℕ) (p : Placement) (ts : List Transfer) → p.transfers ≡ ts → length p.transfers ≤ 16 → length (place_entry locked at p (force_entry ts)).transfers ≤ 16
+forced_few locked at p [] e l = let n = entry_count locked at p (entries.Hands 1) in let k = ap length e in omega arith
+forced_few locked at p (t ∷ ts) e l = let n = done_count p in omega arith
+
+-- Serving a page.
+
+pub served_allowed : (p : Placement) (q : Page) → OwnsFrames p → DueStand p → IsThere p q → IsShared p q → NotDue p.due q → is_valid (state_of p q) ≡ false → IsAllowed p (serve_entry p q)
+served_allowed p q o d there shared n v = state (state_of p q) refl v
+  where
+    read : (full : Bool) → is_full p ≡ full → 0 < length p.free → CanEnter p q → IsAllowed p (read_entry_if p q full)
+    read true e l c = done_allowed p (full_some p e)
+    read false e l c = record { can = run_in_enters p q c; shared = shared; begins = (run_some p q (state_of p q) (spare_frames p), l); leaves = run_in_due p q d n; finds = tt }
+
+    bring : (s : PageState) (x : Filling) (full : Bool) → state_of p q ≡ s → filling_of p q ≡ x → is_full p ≡ full → 0 < length p.free → frame_of s ≡ None → IsAllowed p (bring_entry_by p q s x full)
+    bring Unfilled Zeros full e x f l k = record {
+      can = record { there = there; frameless = ap frame_of e };
+      shared = shared;
+      begins = tt;
+      leaves = subst (λ (ds : List Due). NotDue ds q) (sym (not_due_after p.due q n)) n;
+      finds = (l, e, x);
+    }
+    bring Unfilled OfImage full e x f l k = read full f l (record { there = there; frameless = ap frame_of e })
+    bring OnSwap x full e y f l k = read full f l (record { there = there; frameless = ap frame_of e })
+    bring (Valid g) x full e y f l k = absurd cc
+    bring (Invalid g) x full e y f l k = absurd cc
+    bring (Coming g) x full e y f l k = absurd cc
+    bring (Going g) x full e y f l k = absurd cc
+
+    feed : (s : PageState) (fr : List ℕ) → state_of p q ≡ s → p.free ≡ fr → frame_of s ≡ None → IsAllowed p (feed_entry_by p q s (filling_of p q) fr (is_full p))
+    feed s [] e h k = forced_allowed p p.transfers refl
+    feed s (f ∷ fs) e h k = bring s (filling_of p q) (is_full p) e refl refl (some_length p.free f fs h) k
+
+    state : (s : PageState) → state_of p q ≡ s → is_valid s ≡ false → IsAllowed p (serve_entry_by p q s)
+    state (Valid f) e v = absurd cc
+    state (Invalid f) e v = record { can = tt; shared = shared; begins = tt; leaves = tt; finds = (f, e) }
+    state (Coming f) e v = done_allowed p (transfers_some p (in_flight p q f o (ap frame_of e) (λ k. absurd (let z : Coming f ≡ Invalid f = sym e ∙ k in cc)) (ap (seats 0) e)))
+    state (Going f) e v = done_allowed p (transfers_some p (in_flight p q f o (ap frame_of e) (λ k. absurd (let z : Going f ≡ Invalid f = sym e ∙ k in cc)) (ap (seats 0) e)))
+    state Unfilled e v = feed Unfilled p.free e refl refl
+    state OnSwap e v = feed OnSwap p.free e refl refl
+
+pub served_few : (locked : List Page) (at : ℕ) (p : Placement) (q : Page) → length p.transfers ≤ 16 → length (place_entry locked at p (serve_entry p q)).transfers ≤ 16
+served_few locked at p q l = state (state_of p q)
+  where
+    finish : length (done p).transfers ≤ 16
+    finish = let n = done_count p in omega arith
+
+    read : (full : Bool) → is_full p ≡ full → length (place_entry locked at p (read_entry_if p q full)).transfers ≤ 16
+    read true e = finish
+    read false e = let n = entry_count locked at p (read_entry p q) in let m = not_full (length p.transfers) e in omega arith
+
+    zero_few : length (place_entry locked at p (entries.Zero q)).transfers ≤ 16
+    zero_few = let n = entry_count locked at p (entries.Zero q) in omega arith
+
+    bring : (s : PageState) (x : Filling) (full : Bool) → is_full p ≡ full → length (place_entry locked at p (bring_entry_by p q s x full)).transfers ≤ 16
+    bring Unfilled Zeros full e = zero_few
+    bring Unfilled OfImage full e = read full e
+    bring (Valid f) x full e = read full e
+    bring (Invalid f) x full e = read full e
+    bring (Coming f) x full e = read full e
+    bring (Going f) x full e = read full e
+    bring OnSwap x full e = read full e
+
+    feed : (s : PageState) (fr : List ℕ) → length (place_entry locked at p (feed_entry_by p q s (filling_of p q) fr (is_full p))).transfers ≤ 16
+    feed s [] = forced_few locked at p p.transfers refl l
+    feed s (f ∷ fs) = bring s (filling_of p q) (is_full p) refl
+
+    state : (s : PageState) → length (place_entry locked at p (serve_entry_by p q s)).transfers ≤ 16
+    state (Valid f) = finish
+    state (Invalid f) = let n = entry_count locked at p (entries.Reclaim q) in omega arith
+    state (Coming f) = finish
+    state (Going f) = finish
+    state Unfilled = feed Unfilled p.free
+    state OnSwap = feed OnSwap p.free
+
+-- Fills that are due.
+
+writable_shared : (p : Placement) (q : Page) → IsWritable q → IsShared p q
+writable_shared p (Data sid v) w = tt
+writable_shared p (Stack sid v) w = tt
+writable_shared p (Text image v) w = absurd w
+
+-- the fill of what is due first
+pub fill_allowed : (p : Placement) (d : Due) (ds : List Due) (e : Entry) → p.due ≡ d ∷ ds → DueStand p → EachOnce p.due → ((u : Entry) → u ≡ e → 0 < length p.free → CanEnter p (due_page d) → IsShared p (due_page d) → NotDue (due_after p.due (due_page d)) (due_page d) → state_of p (due_page d) ≡ Unfilled → filling_of p (due_page d) ≡ Zeros → IsAllowed p u) → IsAllowed p (fill_unit p e)
+fill_allowed p d ds e h s once make = go p.free refl
+  where
+    due : IsDue p (due_page d) d
+    due = s (due_page d) d (ap (λ (l : List Due). due_at l (due_page d)) h ∙ first_due d ds)
+
+    rest : due_after p.due (due_page d) ≡ ds
+    rest = ap (λ (l : List Due). due_after l (due_page d)) h ∙ first_after d ds
+
+    once_at : EachOnce (d ∷ ds)
+    once_at = subst EachOnce h once
+
+    go : (fr : List ℕ) → p.free ≡ fr → IsAllowed p (fill_by p e fr)
+    go [] k = forced_allowed p p.transfers refl
+    go (f ∷ fs) k = make e refl (some_length p.free f fs k) (record { there = due.there; frameless = ap frame_of due.unfilled }) (writable_shared p (due_page d) due.writable)
+        (subst (λ (l : List Due). NotDue l (due_page d)) (sym rest) once_at.0) due.unfilled due.zeros
+
+pub start_allowed : (p : Placement) (q : Page) (ds : List Due) → p.due ≡ Start q ∷ ds → DueStand p → EachOnce p.due → IsAllowed p (fill_unit p (entries.Zero q))
+start_allowed p q ds h s once = fill_allowed p (Start q) ds (entries.Zero q) h s once (λ u i l c sh n st x. subst (IsAllowed p) (sym i) (record { can = c; shared = sh; begins = tt; leaves = n; finds = (l, st, x) }))
+
+pub copy_allowed : (p : Placement) (q parent : Page) (ds : List Due) → p.due ≡ CopyOf q parent ∷ ds → DueStand p → EachOnce p.due → IsAllowed p (fill_unit p (entries.Copy q))
+copy_allowed p q parent ds h s once = fill_allowed p (CopyOf q parent) ds (entries.Copy q) h s once (λ u i l c sh n st x. subst (IsAllowed p) (sym i) (record { can = c; shared = sh; begins = tt; leaves = n; finds = (l, st) }))
+
+pub fill_few : (locked : List Page) (at : ℕ) (p : Placement) (e : Entry) → length p.transfers ≤ 16 → length (place_entry locked at p e).transfers ≤ 16 → length (place_entry locked at p (fill_unit p e)).transfers ≤ 16
+fill_few locked at p e l k = go p.free
+  where
+    go : (fr : List ℕ) → length (place_entry locked at p (fill_by p e fr)).transfers ≤ 16
+    go [] = forced_few locked at p p.transfers refl l
+    go (f ∷ fs) = k
+
+-- Putting out.
+
+pub put_out_allowed : (p : Placement) (pid sid : ℕ) → IsAllowed p (put_out_unit p pid sid)
+put_out_allowed p pid sid = unit_case (IsAllowed p) p pid sid
+    (λ t ts h. done_allowed p (some_length p.transfers t ts h))
+    (λ v e h k. record { can = can v e h k; shared = tt; begins = put_some p v; leaves = tt; finds = tt })
+    (λ e h. record { can = tt; shared = tt; begins = tt; leaves = tt; finds = tt })
+  where
+    can : (v : Page) → Rattle.page_model.specs.Swapper.is_settled p sid ≡ true → Rattle.page_model.specs.Swapper.first_seated p (Rattle.page_model.specs.Place.pages_of_space p sid) ≡ Some v → (is_dirty p v && is_full p) ≡ false
+        → Rattle.page_model.specs.Conditions.CanPlace p (entries.Put v (run_put p v).n)
+    can v e h k = subst (Rattle.page_model.specs.Conditions.CanPlace p) (
+        ap (Rattle.page_model.specs.Swapper.put_out_if p pid sid) e ∙ ap (Rattle.page_model.specs.Swapper.put_out_by p pid) h ∙ ap (Rattle.page_model.specs.Swapper.put_unit_by p v) k) (unit_can p pid sid)
+
+-- Moves of the hands.
+
+-- a move that begins no write
+no_write : (p : Placement) (locked : List Page) → begins_write p locked ≡ false → length (hand_move p locked).transfers ≤ length p.transfers
+no_write p locked n = let k = ap length (expire_transfers p locked) in let h = of x.back (page_of x x.back) n in omega arith
+  where
+    x : Placement
+    x = expire p locked
+
+    by : (q : Page) (d : Bool) → d ≡ false → length (sweep_by x locked q d).transfers ≤ length x.transfers
+    by q true e = absurd cc
+    by q false e = let k = retire_count x q in omega arith
+
+    to : (q : Page) (s : PageState) (m : ℕ) (b : Bool) → writes_to x locked q s m b ≡ false → length (sweep_to x locked q s m b).transfers ≤ length x.transfers
+    to q (Invalid f) zero false e = by q (is_dirty x q) e
+    to q (Invalid f) zero true e = omega arith
+    to q (Invalid f) (suc m) b e = omega arith
+    to q Unfilled m b e = omega arith
+    to q (Valid f) m b e = omega arith
+    to q (Coming f) m b e = omega arith
+    to q (Going f) m b e = omega arith
+    to q OnSwap m b e = omega arith
+
+    of : (f : ℕ) (h : Option Page) → writes_of x locked f h ≡ false → length (sweep_of x locked f h).transfers ≤ length x.transfers
+    of f None e = omega arith
+    of f (Some q) e = to q (state_of x q) (times f x.free) (is_among q locked) e
+
+both_is : (a b : Bool) → a ≡ false → (a && b) ≡ false
+both_is a b e = ap (λ (x : Bool). x && b) e
+
+pub move_allowed : (p : Placement) (locked : List Page) → IsAllowed p (move_unit p locked)
+move_allowed p locked = go (begins_write p locked) (is_full p) refl
+  where
+    go : (a b : Bool) → is_full p ≡ b → IsAllowed p (move_by (a && b))
+    go true true e = done_allowed p (full_some p e)
+    go true false e = record { can = tt; shared = tt; begins = tt; leaves = tt; finds = tt }
+    go false b e = record { can = tt; shared = tt; begins = tt; leaves = tt; finds = tt }
+
+pub move_few : (locked : List Page) (at : ℕ) (p : Placement) → length p.transfers ≤ 16 → length (place_entry locked at p (move_unit p locked)).transfers ≤ 16
+move_few locked at p l = go (begins_write p locked) (is_full p) refl refl
+  where
+    go : (a b : Bool) → begins_write p locked ≡ a → is_full p ≡ b → length (place_entry locked at p (move_by (a && b))).transfers ≤ 16
+    go true true h e = let n = done_count p in omega arith
+    go true false h e = let n = entry_count locked at p (entries.Hands 1) in let m = not_full (length p.transfers) e in omega arith
+    go false b h e = let n = no_write p locked h in omega arith

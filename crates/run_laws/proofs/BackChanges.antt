@@ -1,0 +1,238 @@
+-- Execve and the end of a borrower leave what stands.
+use Rattle.std.proofs.Common.{◌≡◌, ◌⊎◌, ℕ, Bool, true, false, List, [], length, map, Option, Some, Ok, refl, sym, ap, ◌∙◌, subst}
+use Rattle.vm_facts.specs.Flat.{Space, Holds, Process, FlatState}
+use Rattle.vm_facts.specs.declared.regs.Regs.{Regs}
+use Rattle.vm_facts.specs.declared.entry.Entry.{Entry}
+use Rattle.swap_book.specs.Holdings.{Holdings}
+use Rattle.swap_book.specs.Placing.{place_all}
+use Rattle.page_model.specs.declared.change.Change.{Change}
+use Rattle.page_model.specs.declared.change.Change.TheVariants.{Exec, End}
+use Rattle.page_model.specs.Flat.{NamedImage, Inputs, image_numbered, process_of}
+use Rattle.page_model.specs.Change.{apply_change}
+use Rattle.page_model.specs.Journal.{append}
+use Rattle.page_model.specs.Pages.{numbered}
+use Rattle.page_model.specs.Placement.{Placement, space_number}
+use Rattle.page_model.specs.Place.{is_borrower, place_change}
+use Rattle.page_model.specs.Dues.{DueStand}
+use Rattle.page_model.specs.Conditions.{HaveParts, CanChange}
+use Rattle.page_model.specs.Swapper.{is_out}
+use Rattle.page_model.specs.Kernel.{Kernel, Proc, New, Fits, SameTables, Sound, lives, lives_in, has_life}
+use Rattle.page_model.specs.FlatStep.{flat_step, pass_step, holdings_after, life_of_proc}
+use Rattle.page_laws.specs.Asks.{asked}
+use Rattle.page_laws.specs.Taken.{ApartFrom}
+use Rattle.page_laws.specs.Numbers.{Numbered, TakesNext, ReadyBy, ReadyFor}
+use Rattle.page_laws.specs.Start.{ImageFits, ImagesFit}
+use Rattle.page_laws.specs.FlatStands.{IsNumbered, LendsStand, IsLender, Stands}
+use Rattle.page_laws.proofs.Sounds.{pass_sound}
+use Rattle.page_laws.proofs.Numbers.{flat_numbered, pass_numbered}
+use Rattle.page_laws.proofs.Allowed.{ready_sound}
+use Rattle.page_laws.proofs.SoundChanges.{Unhanded, change_unhanded}
+use Rattle.page_laws.proofs.ServeStands.{SameHands}
+use Rattle.page_laws.proofs.DueChanges.{change_due}
+use Rattle.page_laws.proofs.KernelForks.{fit_image, next_new}
+use Rattle.page_laws.proofs.FlatLenders.{lender_found}
+use Rattle.page_laws.proofs.KernelReturns.{passes, Borrowing, borrowing, back_kernel, back_proc}
+use Rattle.page_laws.proofs.KernelStandsChanges.{exec_back_stands, end_back_stands}
+use Rattle.page_laws.proofs.ProcTables.{Stepping, by_life, step_is}
+use Rattle.page_laws.proofs.TablesThrough.{exec_back_tables, end_back_tables}
+use Rattle.flat_laws.proofs.Asking.{own_space, change_same}
+use Rattle.flat_model.specs.Asked.{given_up}
+use Rattle.run_laws.specs.Standing.{machine_of, EachOnce, Placed, ExecFits}
+use Rattle.run_laws.proofs.Bridge.{from_machine}
+use Rattle.run_laws.proofs.Changes.{given_same, change_once}
+use Rattle.run_laws.proofs.OwnChanges.{Changing, Changed, with_found}
+use Rattle.run_laws.proofs.Living.{LivedOr, flat_back, back_from}
+use Rattle.page_laws.proofs.Allowed.{wants_these}
+use Rattle.page_laws.proofs.Sounds.{pass_lives}
+
+-- a change by which a borrower gives its space back
+abbrev pub GivesBack : Change → Type 0
+GivesBack (Exec image top) = Unit {0}
+GivesBack (End status) = Unit {0}
+GivesBack _ = ⊥
+
+pub record Told (A : Inputs) (l : Kernel) (after : FlatState) : Type 0 where
+  pub tables : SameTables l after
+  pub stands : Stands A.images l after
+
+pub back_told : (A : Inputs) (k : Kernel) (flat : FlatState) (pid : ℕ) (regs : Regs) (e : Entry) (q m : Process) (s : Space) (change : Change) → GivesBack change → ImagesFit A.images → IsNumbered flat → process_of flat pid ≡ Some q → q.holding ≡ Holds s → IsLender flat pid s.sid m
+    → is_out k.place pid ≡ false → k.place.due ≡ [] → ExecFits A.images change → SameTables k flat → Stands A.images k flat → Told A (flat_step A.images (pass_step k pid m.pid) pid regs e change) (apply_change A.images flat pid regs change)
+back_told A k flat pid regs e q m s (Exec number top) gb fit nums f h is out due (named, im, whole) t st =
+    let i : ImageFits named = fit number named im in
+    record { tables = exec_back_tables k A.images flat pid regs e number top named q m s nums f h is im i.«data» whole t; stands = exec_back_stands A.images k flat pid regs e number top named q m s t due f h is out im st }
+back_told A k flat pid regs e q m s (End status) gb fit nums f h is out due x t st = record { tables = end_back_tables k A.images flat pid regs e status q m s nums f h is t; stands = end_back_stands A.images k flat pid regs e status q m s t f h is st }
+back_told A k flat pid regs e q m s _ gb fit nums f h is out due x t st = absurd gb
+
+-- where the change lands
+pub record Lands (A : Inputs) (k : Kernel) (pid sid : ℕ) (e : Entry) (change : Change) (l : Kernel) : Type 0 where
+  pub place : l.place ≡ place_change A.images k.place pid sid true k.next_sid (length (append k.journal e)) change
+  pub holdings : l.holdings ≡ holdings_after k.holdings k.place l.place pid sid true change
+  pub journal : l.journal ≡ append k.journal e
+
+pub lands_any : (A : Inputs) (k : Kernel) (pid : ℕ) (sid : ℕ) (e : Entry) (change : Change) (l : Kernel) → GivesBack change → Lands A k pid 0 e change l → Lands A k pid sid e change l
+lands_any A k pid sid e (Exec image top) l gb x = record { place = x.place; holdings = x.holdings; journal = x.journal }
+lands_any A k pid sid e (End status) l gb x = record { place = x.place; holdings = x.holdings; journal = x.journal }
+lands_any A k pid sid e _ l gb x = absurd gb
+
+pub back_lands : (A : Inputs) (k : Kernel) (flat : FlatState) (pid : ℕ) (regs : Regs) (e : Entry) (q m : Process) (s : Space) (change : Change) (a : Borrowing k flat pid q m s) → GivesBack change → Lands A k pid s.sid e change (flat_step A.images (pass_step k pid m.pid) pid regs e change)
+back_lands A k flat pid regs e q m s change a gb =
+    let g : Stepping k flat pid q s = a.step in
+    let k1 : Kernel = record k { processes = map (passes s.sid pid m.pid) k.processes } in
+    lands_any A k pid s.sid e change (flat_step A.images (pass_step k pid m.pid) pid regs e change) gb
+    (subst (λ (x : Kernel). Lands A k pid 0 e change (flat_step A.images x pid regs e change)) (sym (back_kernel k flat pid q m s a))
+    (subst (Lands A k pid 0 e change) (sym (step_is A.images k1 pid regs e change (record g.proc { life = New }) New (back_proc k flat pid q m s a) refl))
+    (subst (λ (n : ℕ). Lands A k n 0 e change (by_life A.images k1 (record g.proc { regs = regs; life = New }) New e change)) g.pid_is (record { place = refl; holdings = refl; journal = refl }))))
+
+pub takes_none : (k : Kernel) (change : Change) → GivesBack change → TakesNext k change
+takes_none k (Exec image top) gb = tt
+takes_none k (End status) gb = tt
+takes_none k _ gb = absurd gb
+
+-- who borrowed is ready once the space went back
+pub back_ready : (k : Kernel) (flat : FlatState) (pid : ℕ) (q m : Process) (s : Space) (change : Change) → (a : Borrowing k flat pid q m s) → GivesBack change → ReadyFor (pass_step k pid m.pid) pid change
+back_ready k flat pid q m s change a gb =
+    subst (λ (x : Kernel). ReadyFor x pid change) (sym (back_kernel k flat pid q m s a))
+    (subst (λ (o : Option Proc). ReadyBy k1 pid (life_of_proc o) change) (sym (back_proc k flat pid q m s a)) (by change gb))
+  where
+    k1 : Kernel
+    k1 = record k { processes = map (passes s.sid pid m.pid) k.processes }
+
+    alive : lives k1.processes pid ≡ true
+    alive = ap lives_in (back_proc k flat pid q m s a)
+
+    by : (x : Change) → GivesBack x → ReadyBy k1 pid New x
+    by (Exec image top) gb = record { alive = alive; next = tt; reaps = tt; space = λ z. absurd cc }
+    by (End status) gb = record { alive = alive; next = tt; reaps = tt; space = λ z. absurd cc }
+    by _ gb = absurd gb
+
+pub asks_same : (images : List NamedImage) (k l : Kernel) (pid : ℕ) (change : Change) → GivesBack change → l.place ≡ k.place → l.next_sid ≡ k.next_sid → asked images l pid change ≡ asked images k pid change
+asks_same images k l pid (Exec image top) gb p n = ap (λ (x : Placement). Rattle.page_laws.specs.Asks.image_asked x l.next_sid image (image_numbered images image)) p ∙ ap (λ (m : ℕ). Rattle.page_laws.specs.Asks.image_asked k.place m image (image_numbered images image)) n
+asks_same images k l pid (End status) gb p n = refl
+asks_same images k l pid _ gb p n = absurd gb
+
+pub back_change : (A : Inputs) (flat : FlatState) (p : Placement) (hs found : Holdings) (pid : ℕ) (regs : Regs) (j : List Entry) (e : Entry) (q : Process) (s : Space) (change : Change) → Changing A flat p hs found pid q s change → LendsStand flat → is_borrower flat.processes pid ≡ true → GivesBack change
+    → Placed A flat p hs
+    → Changed A flat (apply_change A.images flat pid regs change) (place_change A.images p pid s.sid true flat.next_sid (length (append j e)) change) (given_up flat (apply_change A.images flat pid regs change) pid s change found) pid change
+back_change A flat p hs found pid regs j e q s change c lend w gb st = record {
+  placed =
+      subst (Placed A after (place_change A.images p pid s.sid true flat.next_sid at change)) (sym back)
+      (subst (λ (x : Placement). Placed A after x (holdings_after found p l.place pid s.sid true change)) lands.place
+      (subst (Placed A after l.place) lands.holdings
+      (from_machine A after l sound numbered_now told.tables told.stands dues once parts frames)));
+  back = back_from k l flat after pid change refl told.tables (λ n x. subst (λ (y : Bool). Rattle.page_laws.proofs.Askings.IsChild change n ⊎ ((y ≡ true) × Rattle.run_laws.proofs.Living.Lasting change pid n)) (pass_lives k pid m.pid own_lives lender_lives n) (flat_back A.images k1 pid regs e change n (wants_these k1 pid change n1 ready) x));
+}
+  where
+    at : ℕ
+    at = length (append j e)
+
+    after : FlatState
+    after = apply_change A.images flat pid regs change
+
+    k : Kernel
+    k = with_found flat p found j
+
+    so : Sound A.swap_blocks (machine_of flat p hs)
+    so = st.sound
+
+    before : Sound A.swap_blocks (record k { holdings = hs })
+    before = record { owner = so.owner; tokens = so.tokens; hands = so.hands; few_transfers = so.few_transfers }
+
+    nb : Numbered (machine_of flat p hs)
+    nb = st.numbered
+
+    n : Numbered k
+    n = record { spaces_differ = nb.spaces_differ; spaces_below = nb.spaces_below; pids_differ = nb.pids_differ; pids_below = nb.pids_below }
+
+    tb : SameTables (machine_of flat p hs) flat
+    tb = st.tables
+
+    t : SameTables k flat
+    t = record { processes = tb.processes; next_pid = refl; next_sid = refl; spaces = tb.spaces }
+
+    sb : Stands A.images (machine_of flat p hs) flat
+    sb = st.stands
+
+    stands : Stands A.images k flat
+    stands = record { starts = λ x h. refl; texts = sb.texts; out = sb.out }
+
+    lender : (m : Process) × IsLender flat pid s.sid m
+    lender = lender_found flat pid q s c.found_process c.holds w c.numbers lend
+
+    m : Process
+    m = lender.0
+
+    a : Borrowing k flat pid q m s
+    a = borrowing k flat pid q m s t c.found_process c.holds lender.1
+
+    g : Stepping k flat pid q s
+    g = a.step
+
+    own_lives : lives k.processes pid ≡ true
+    own_lives = ap lives_in g.kept ∙ ap has_life g.life
+
+    lender_lives : lives k.processes m.pid ≡ true
+    lender_lives = ap lives_in a.kept ∙ ap has_life a.life
+
+    k1 : Kernel
+    k1 = pass_step k pid m.pid
+
+    sound1 : Sound A.swap_blocks (record k1 { holdings = hs })
+    sound1 = pass_sound A.swap_blocks (record k { holdings = hs }) pid m.pid own_lives lender_lives before
+
+    n1 : Numbered k1
+    n1 = pass_numbered k pid m.pid n
+
+    ready : ReadyFor k1 pid change
+    ready = back_ready k flat pid q m s change a gb
+
+    pieces : place_all A.swap_blocks hs (asked A.images k1 pid change) ≡ Ok found
+    pieces = ap (place_all A.swap_blocks hs) (asks_same A.images k k1 pid change gb refl refl ∙ change_same A.images k flat pid q s change c.images sb.texts n c.numbers t c.found_process c.holds) ∙ c.pieces
+
+    l : Kernel
+    l = flat_step A.images k1 pid regs e change
+
+    sound : Sound A.swap_blocks l
+    sound = ready_sound A.swap_blocks A.images k1 hs pid regs e change sound1 n1 ready pieces
+
+    numbered_now : Numbered l
+    numbered_now = flat_numbered A.images k1 pid regs e change (takes_none k1 change gb) n1
+
+    told : Told A l after
+    told = back_told A k flat pid regs e q m s change gb c.images c.numbers c.found_process c.holds lender.1 c.resident c.clear c.execs t stands
+
+    lands : Lands A k pid s.sid e change l
+    lands = back_lands A k flat pid regs e q m s change a gb
+
+    can : (x : Change) → GivesBack x → CanChange p s.sid true flat.next_sid x
+    can (Exec image top) gb = (next_new flat p c.numbers tb.spaces, λ z. absurd cc)
+    can (End status) gb = λ z. absurd cc
+    can _ gb = absurd gb
+
+    is_apart : (x : Change) → GivesBack x → ApartFrom s.sid true flat.next_sid x
+    is_apart (Exec image top) gb = λ z. absurd cc
+    is_apart (End status) gb = tt
+    is_apart _ gb = absurd gb
+
+    un : Unhanded p (place_change A.images p pid s.sid true flat.next_sid at change)
+    un = change_unhanded A.images p pid s.sid true flat.next_sid at change
+
+    hands : SameHands p (place_change A.images p pid s.sid true flat.next_sid at change)
+    hands = un.hands
+
+    dues : DueStand l.place
+    dues = subst DueStand (sym lands.place) (change_due A.images p pid s.sid true flat.next_sid at change c.clear (can change gb) (is_apart change gb))
+
+    once : EachOnce l.place.due
+    once = subst (λ (x : Placement). EachOnce x.due) (sym lands.place) (change_once A.images p pid s.sid true flat.next_sid at change c.clear)
+
+    parts : HaveParts l.place.transfers
+    parts = subst (λ (x : Placement). HaveParts x.transfers) (sym lands.place) (subst HaveParts (sym un.transfers) st.parts)
+
+    frames : length l.place.holds ≡ A.frames
+    frames = subst (λ (x : Placement). length x.holds ≡ A.frames) (sym lands.place) (hands.frames ∙ st.frames)
+
+    fits : Fits (Some s) (numbered space_number s.sid p.spaces)
+    fits = subst (λ (x : Option Space). Fits x (numbered space_number s.sid p.spaces)) (own_space flat pid q s c.numbers c.found_process c.holds) (tb.spaces s.sid)
+
+    back : given_up flat after pid s change found ≡ holdings_after found p l.place pid s.sid true change
+    back = given_same flat after pid s change found p l.place true w (fit_image s (numbered space_number s.sid p.spaces) fits) (λ z. absurd cc)

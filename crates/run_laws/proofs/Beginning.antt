@@ -1,0 +1,218 @@
+-- What stands of a run stands at its start.
+use Rattle.std.proofs.Common.{◌≡◌, ℕ, suc, ◌+◌, ◌*◌, ◌<◌, ◌==◌, ◌||◌, ◌&&◌, Bool, true, false, cond, List, [], ◌∷◌, ◌++◌, length, map, replicate, Option, Some, None, Result, Ok, Err, refl, sym, ap, ◌∙◌, subst, arith}
+use Rattle.std.proofs.lemmas.List.{length-replicate}
+use Rattle.vm_facts.specs.Flat.{Process}
+use Rattle.vm_facts.specs.declared.page.Page.TheVariants as pages
+use Rattle.aout_image.specs.declared.Image.{Image}
+use Rattle.aout_image.specs.Image.{data_pages_of, text_pages_of}
+use Rattle.swap_dmap.specs.Chunks.{pieces}
+use Rattle.swap_book.specs.declared.Owner.TheVariants as owners
+use Rattle.swap_book.specs.Owners.{u_pieces}
+use Rattle.swap_book.specs.Holdings.{Holdings}
+use Rattle.swap_book.specs.Placing.{Wanted, wanted, and_then, place_all}
+use Rattle.swap_book.proofs.GrowthLaws.{place_all-append}
+use Rattle.page_model.specs.Flat.{NamedImage, Inputs, image_numbered, start_process, start_if, start_processes, start_state}
+use Rattle.page_model.specs.Pages.{numbered}
+use Rattle.page_model.specs.Frames.{times}
+use Rattle.page_model.specs.Placement.{Placement, Starting, Due, Start, due_page, due_at, due_from, slots_of, start_placement}
+use Rattle.page_model.specs.Rank.{HandsStand}
+use Rattle.page_model.specs.Dues.{NotDue}
+use Rattle.page_model.specs.Ownership.{OneOwner}
+use Rattle.page_model.specs.Kernel.{Kernel, Proc, lives, lives_in, Sound, SameTables, Coupled}
+use Rattle.page_laws.specs.Asks.{text_asked, start_asks, is_started}
+use Rattle.page_laws.specs.Numbers.{EachBelow, AllDiffer, Numbered}
+use Rattle.page_laws.specs.Start.{kept_of, start_kernel, AreStarting, ImageFits, ImagesFit}
+use Rattle.page_laws.specs.FlatStands.{IsAbsent, AllDistinct, AllBelow, IsNumbered, Stands}
+use Rattle.page_laws.proofs.Numbered.{not_eq}
+use Rattle.page_laws.proofs.Sounds.{alive_owner}
+use Rattle.page_laws.proofs.StartAsks.{start_found}
+use Rattle.page_laws.proofs.Allowed.{start_numbers}
+use Rattle.page_laws.proofs.DueLaws.{start_due}
+use Rattle.page_laws.proofs.KernelStarts.{start_coupled_all}
+use Rattle.page_laws.proofs.KernelStartStands.{start_lent, start_beside}
+use Rattle.flat_laws.proofs.Numbers.{start_numbered}
+use Rattle.flat_laws.proofs.Asking.{text_same}
+use Rattle.flat_model.specs.Asked.{pieces_for, text_wanted, image_wanted, contains, first_then, first_wanted, first_held, start_held}
+use Rattle.flat_model.specs.State.{starting_as, starting, start}
+use Rattle.touch_laws.proofs.Sized.{start_sized}
+use Rattle.flat_laws.proofs.Few.{images_whole}
+use Rattle.run_laws.specs.Standing.{EachOnce}
+use Rattle.run_laws.specs.Running.{IsRun, FirstThere}
+use Rattle.run_laws.proofs.Bridge.{from_machine}
+use Rattle.run_laws.proofs.Texts.{start_texts}
+
+pub are_starting : (images : List NamedImage) (ns : List ℕ) → FirstThere images ns → AreStarting images ns (starting images ns)
+are_starting images [] h = tt
+are_starting images (n ∷ ns) h =
+    subst (λ (o : Option NamedImage). AreStarting images (n ∷ ns) (starting_as n o ++ starting images ns)) (sym h.0.1) (h.0.0, h.0.1, refl, refl, are_starting images ns h.1)
+
+-- The pieces of the first processes.
+
+contains_times : (ns : List ℕ) (n : ℕ) → (times n ns ≡ 0 → contains ns n ≡ false) × ((m : ℕ) → times n ns ≡ suc m → contains ns n ≡ true)
+contains_times [] n = ((λ e. refl), (λ m e. absurd cc))
+contains_times (k ∷ ns) n = go (k == n) (contains_times ns n)
+  where
+    go : (b : Bool) → (times n ns ≡ 0 → contains ns n ≡ false) × ((m : ℕ) → times n ns ≡ suc m → contains ns n ≡ true)
+        → (cond b 1 0 + times n ns ≡ 0 → (b || contains ns n) ≡ false) × ((m : ℕ) → cond b 1 0 + times n ns ≡ suc m → (b || contains ns n) ≡ true)
+    go true ih = ((λ e. absurd (omega (arith, e))), (λ m e. refl))
+    go false ih = ((λ e. ih.0 (omega (arith, e))), (λ m e. ih.1 m (omega (arith, e))))
+
+assoc : (xs ys zs : List Wanted) → (xs ++ ys) ++ zs ≡ xs ++ (ys ++ zs)
+assoc [] ys zs = refl
+assoc (x ∷ xs) ys zs = ap (λ (l : List Wanted). x ∷ l) (assoc xs ys zs)
+
+-- one process's pieces, as the flat state and as the placement has them
+first_same : (images : List NamedImage) (p : Placement) (earlier : List ℕ) (pid n : ℕ) (named : NamedImage) (rest : List Wanted) → image_numbered images n ≡ Some named → 2 * length (slots_of p (pages.Text n 0)) ≡ 2 * text_pages_of named.image.facts
+    → first_wanted images (contains earlier n) pid n ++ rest
+    ≡ text_asked (times n earlier) n (2 * length (slots_of p (pages.Text n 0))) ++ (wanted (owners.Data pid) (pieces (2 * data_pages_of named.image.facts)) ++ (wanted (owners.Stack pid) (pieces 2) ++ (wanted (owners.U pid) (u_pieces 2) ++ rest)))
+first_same images p earlier pid n named rest e size =
+    ap (λ (o : Option NamedImage). (image_wanted (contains earlier n) pid n o ++ u) ++ rest) e
+    ∙ assoc ((t ++ d) ++ k) u rest ∙ assoc (t ++ d) k (u ++ rest) ∙ assoc t d (k ++ (u ++ rest))
+    ∙ ap (λ (x : List Wanted). x ++ (d ++ (k ++ (u ++ rest)))) (sym (text_same n (times n earlier) (2 * length (slots_of p (pages.Text n 0))) (contains earlier n) named (contains_times earlier n).0 (contains_times earlier n).1 size))
+  where
+    t : List Wanted
+    t = text_wanted (contains earlier n) n named.image
+
+    d : List Wanted
+    d = pieces_for (owners.Data pid) (data_pages_of named.image.facts)
+
+    k : List Wanted
+    k = pieces_for (owners.Stack pid) 1
+
+    u : List Wanted
+    u = pieces_for (owners.U pid) 1
+
+first_joined : (A : Inputs) (p : Placement) (earlier : List ℕ) (pid : ℕ) (ns : List ℕ) (hs found : Holdings) → FirstThere A.images ns → ((n : ℕ) (named : NamedImage) → image_numbered A.images n ≡ Some named → 2 * length (slots_of p (pages.Text n 0)) ≡ 2 * text_pages_of named.image.facts)
+    → first_held A earlier pid ns hs ≡ Ok found → place_all A.swap_blocks hs (start_asks p earlier pid (starting A.images ns)) ≡ Ok found
+unfolding first_held place_all
+first_joined A p earlier pid [] hs found there sizes h = ok h
+  where
+    ok : (let x : Result Holdings ℕ = Ok hs in x) ≡ Ok found → (let y : Result Holdings ℕ = Ok hs in y) ≡ Ok found
+    ok e = ap (λ (z : Holdings). Ok z) (same e)
+      where
+        same : (let x : Result Holdings ℕ = Ok hs in x) ≡ Ok found → hs ≡ found
+        same e = cc
+first_joined A p earlier pid (n ∷ ns) hs found there sizes h =
+    ap (λ (o : Option NamedImage). place_all A.swap_blocks hs (start_asks p earlier pid (starting_as n o ++ starting A.images ns))) there.0.1
+    ∙ ap (place_all A.swap_blocks hs) (sym (first_same A.images p earlier pid n there.0.0 (start_asks p (n ∷ earlier) (pid + 1) (starting A.images ns)) there.0.1 (sizes n there.0.0 there.0.1)))
+    ∙ place_all-append A.swap_blocks hs (first_wanted A.images (contains earlier n) pid n) (start_asks p (n ∷ earlier) (pid + 1) (starting A.images ns))
+    ∙ go (λ now k. first_joined A p (n ∷ earlier) (pid + 1) ns now found there.1 sizes k) (place_all A.swap_blocks hs (first_wanted A.images (contains earlier n) pid n)) h
+  where
+    go : ((now : Holdings) → first_held A (n ∷ earlier) (pid + 1) ns now ≡ Ok found → place_all A.swap_blocks now (start_asks p (n ∷ earlier) (pid + 1) (starting A.images ns)) ≡ Ok found)
+        → (r : Result Holdings ℕ) → first_then pid r (first_held A (n ∷ earlier) (pid + 1) ns) ≡ Ok found → and_then r (λ now. place_all A.swap_blocks now (start_asks p (n ∷ earlier) (pid + 1) (starting A.images ns))) ≡ Ok found
+    go ih (Ok now) k = ih now k
+    go ih (Err m) k = absurd cc
+
+-- Who lives.
+
+pub started_lives : (images : List NamedImage) (ns : List ℕ) (pid n : ℕ) → FirstThere images ns → lives (map kept_of (start_processes images pid ns)) n ≡ is_started pid (starting images ns) n
+started_lives images [] pid n h = refl
+started_lives images (m ∷ ns) pid n h =
+    ap (λ (o : Option NamedImage). lives (map kept_of (start_if pid m o ++ start_processes images (pid + 1) ns)) n) h.0.1
+    ∙ go (pid == n) (started_lives images ns (pid + 1) n h.1)
+    ∙ sym (ap (λ (o : Option NamedImage). is_started pid (starting_as m o ++ starting images ns) n) h.0.1)
+  where
+    go : (b : Bool) → lives (map kept_of (start_processes images (pid + 1) ns)) n ≡ is_started (pid + 1) (starting images ns) n
+        → lives_in (cond b (Some (kept_of (start_process pid m h.0.0))) (numbered (λ (x : Proc). x.pid) n (map kept_of (start_processes images (pid + 1) ns)))) ≡ cond b true (is_started (pid + 1) (starting images ns) n)
+    go true ih = refl
+    go false ih = ih
+
+-- Numbers.
+
+absent_times : (n : ℕ) (ms : List ℕ) → IsAbsent n ms → times n ms ≡ 0
+absent_times n [] a = refl
+absent_times n (m ∷ ms) a = ap (λ (b : Bool). cond b 1 0 + times n ms) (not_eq m n a.0) ∙ (let h = absent_times n ms a.1 in let k : 0 + times n ms ≡ 0 = omega arith in k)
+
+distinct_differ : (ms : List ℕ) → AllDistinct ms → AllDiffer ms
+distinct_differ [] d = tt
+distinct_differ (m ∷ ms) d = (absent_times m ms d.0, distinct_differ ms d.1)
+
+below_each : (n : ℕ) (ms : List ℕ) → AllBelow n ms → EachBelow n ms
+below_each n [] b = tt
+below_each n (m ∷ ms) b = (b.0, below_each n ms b.1)
+
+kept_pids : (ps : List Process) → map (λ (p : Proc). p.pid) (map kept_of ps) ≡ map (λ (p : Process). p.pid) ps
+kept_pids [] = refl
+kept_pids (p ∷ ps) = ap (λ (l : List ℕ). p.pid ∷ l) (kept_pids ps)
+
+started_count : (images : List NamedImage) (ns : List ℕ) → FirstThere images ns → length (starting images ns) ≡ length ns
+started_count images [] h = refl
+started_count images (n ∷ ns) h = ap (λ (o : Option NamedImage). length (starting_as n o ++ starting images ns)) h.0.1 ∙ ap suc (started_count images ns h.1)
+
+-- What is due.
+
+later_not_due : (m n : ℕ) (first : List Starting) → m < n → NotDue (due_from n first) (pages.Stack m 0)
+later_not_due m n [] l = refl
+later_not_due m n (a ∷ more) l = ap (λ (b : Bool). cond (b && (0 == 0)) (Some (Start (pages.Stack n 0))) (due_at (due_from (n + 1) more) (pages.Stack m 0))) (not_eq n m (λ e. absurd (omega arith))) ∙ later_not_due m (n + 1) more (omega arith)
+
+start_once : (n : ℕ) (first : List Starting) → EachOnce (due_from n first)
+start_once n [] = tt
+start_once n (a ∷ more) = (later_not_due n (n + 1) more (omega arith), start_once (n + 1) more)
+
+-- All of it.
+
+pub run_start : (A : Inputs) (hs : Holdings) → ImagesFit A.images → FirstThere A.images A.first → 0 < A.frames → start_held A ≡ Ok hs → IsRun A (start A hs)
+run_start A hs images there some found = record {
+  placed = from_machine A (start_state A) k sound numbers coupled.tables beside (start_due facts first A.frames) (start_once 1 first) tt (length-replicate A.frames None);
+  numbers = start_numbered A;
+  lenders = start_lent A;
+  texts = start_texts A.images 1 A.first;
+  sized = start_sized A (images_whole A.images images);
+  flows = record { says = tt; waits = tt };
+  mark = tt;
+}
+  where
+    first : List Starting
+    first = starting A.images A.first
+
+    facts : List Image
+    facts = map (λ (named : NamedImage). named.image.facts) A.images
+
+    p : Placement
+    p = start_placement facts first A.frames
+
+    frames : List (List ℕ)
+    frames = replicate A.frames []
+
+    k : Kernel
+    k = start_kernel A first hs frames
+
+    are : AreStarting A.images A.first first
+    are = are_starting A.images A.first there
+
+    coupled : Coupled k A.images [] (start_state A)
+    coupled = start_coupled_all A first hs frames [] are images
+
+    beside : Stands A.images k (start_state A)
+    beside = start_beside A first hs frames are images
+
+    sizes : (n : ℕ) (named : NamedImage) → image_numbered A.images n ≡ Some named → 2 * length (slots_of p (pages.Text n 0)) ≡ 2 * text_pages_of named.image.facts
+    sizes n named e =
+        let i : ImageFits named = images n named e in
+        let t : length named.image.text ≡ 1024 * length (slots_of p (pages.Text n 0)) = sym (ap (λ (o : Option NamedImage). length (Rattle.page_model.specs.Kernel.text_of o)) e) ∙ beside.texts n in
+        let r = i.text in omega (arith, t, r)
+
+    owner : OneOwner A.swap_blocks (is_started 1 first) p hs
+    owner = start_found A.swap_blocks facts first A.frames hs (first_joined A p [] 1 A.first [] hs there sizes found)
+
+    sound : Sound A.swap_blocks k
+    sound = record {
+      owner = alive_owner A.swap_blocks (is_started 1 first) (lives k.processes) p hs (λ n. started_lives A.images A.first 1 n there) owner;
+      tokens = length-replicate A.frames [] ∙ sym (length-replicate A.frames None);
+      hands = hands;
+      few_transfers = omega arith;
+    }
+      where
+        hands : HandsStand p
+        hands = Rattle.page_laws.proofs.Starts.start_hands facts first A.frames some
+
+    n : IsNumbered (start_state A)
+    n = start_numbered A
+
+    numbers : Numbered k
+    numbers = record {
+      spaces_differ = (start_numbers facts first A.frames).0;
+      spaces_below = subst (λ (m : ℕ). EachBelow m (map Rattle.page_model.specs.Placement.space_number p.spaces)) (let e = started_count A.images A.first there in let z : 1 + length first ≡ length A.first + 1 = omega arith in z) (start_numbers facts first A.frames).1;
+      pids_differ = subst AllDiffer (sym (kept_pids (start_state A).processes)) (distinct_differ (map (λ (q : Process). q.pid) (start_state A).processes) n.pids);
+      pids_below = subst (EachBelow (start_state A).next_pid) (sym (kept_pids (start_state A).processes)) (below_each (start_state A).next_pid (map (λ (q : Process). q.pid) (start_state A).processes) n.pids_below);
+    }

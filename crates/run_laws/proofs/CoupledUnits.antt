@@ -1,0 +1,155 @@
+-- What paging entries do to a machine with bytes; and a unit of serving keeps it coupled, whatever unit it is.
+use Rattle.std.proofs.Common.{◌≡◌, ℕ, ◌*◌, ◌<◌, ◌≤◌, Bool, true, false, List, [], ◌∷◌, length, Some, None, refl, sym, ap, subst, arith}
+use Rattle.vm_facts.specs.Flat.{FlatState}
+use Rattle.vm_facts.specs.declared.page.Page.{Page}
+use Rattle.vm_facts.specs.declared.page.Page.TheVariants.{Data, Stack, Text}
+use Rattle.vm_facts.specs.declared.page.PageState.{PageState}
+use Rattle.vm_facts.specs.declared.page.PageState.TheVariants.{Unfilled, Valid, Invalid, Coming, Going, OnSwap}
+use Rattle.vm_facts.specs.declared.entry.Entry.{Entry}
+use Rattle.vm_facts.specs.declared.entry.Entry.TheVariants as entries
+use Rattle.page_model.specs.Flat.{NamedImage}
+use Rattle.page_model.specs.Pages.{number_of, pages_from, Filling, Zeros, OfImage, frame_of, is_valid}
+use Rattle.page_model.specs.Placement.{Placement, Transfer, Start, CopyOf, IsThere, due_at, state_of, filling_of}
+use Rattle.page_model.specs.Runs.{run_in}
+use Rattle.page_model.specs.Serve.{force_entry, is_full, source_for, read_entry_if, bring_entry_by, feed_entry_by, serve_entry_by, serve_entry}
+use Rattle.page_model.specs.Conditions.{CanEnter, EachPage, HasSeat}
+use Rattle.page_model.specs.Coupled.{IsWritable, ReadsFrom}
+use Rattle.page_model.specs.Dues.{NotDue}
+use Rattle.page_model.specs.Kernel.{Kernel, Sound, AreRead, Coupled, plain_step, beside_kernel, image_after, zero_step, copy_step, get_step, reclaim_step, hand_step, push_step, done_step, note_step}
+use Rattle.page_laws.specs.FlatStands.{Stands}
+use Rattle.page_laws.proofs.Sounds.{first_length, landed_length}
+use Rattle.page_laws.proofs.KernelStands.{get_stands, reclaim_stands, hand_stands, push_stands, done_stands, zero_stands, copy_stands}
+use Rattle.page_laws.proofs.KernelDone.{done_coupled_step}
+use Rattle.page_laws.proofs.KernelCoupled.{push_coupled_step, start_coupled, copy_coupled, read_coupled_step, reclaim_coupled_step, hand_coupled_step, zero_coupled}
+
+-- the machine behind a paging entry, and the swap image
+abbrev pub page_step : Kernel → List Page → List (List ℕ) → Entry → Kernel
+page_step k locked read (entries.Zero q) = zero_step k q
+page_step k locked read (entries.Copy q) = copy_step k q
+page_step k locked read (entries.Get q lo n) = get_step k q lo n
+page_step k locked read (entries.Reclaim q) = reclaim_step k q
+page_step k locked read (entries.Hands n) = plain_step k locked (entries.Hands n)
+page_step k locked read (entries.Put q n) = push_step k q n
+page_step k locked read entries.Done = done_step k read
+page_step k locked read e = note_step k e
+
+abbrev pub page_image : Kernel → List ℕ → Entry → List ℕ
+page_image k image entries.Done = image_after k image
+page_image k image e = image
+
+-- the machine is coupled, what the coupling asks beside it is so, and what was read for the oldest transfer is told
+pub record Machine (size : ℕ) (k : Kernel) (images : List NamedImage) (image : List ℕ) (flat : FlatState) (read : List (List ℕ)) : Type 0 where
+  pub sound : Sound size k
+  pub stands : Stands images k flat
+  pub room : 512 * size ≤ length image
+  pub are : AreRead (beside_kernel k images image flat) k.place.transfers read
+  pub coupled : Coupled k images image flat
+
+-- so it is behind the entry
+pub record Goes (k : Kernel) (images : List NamedImage) (image : List ℕ) (flat : FlatState) (locked : List Page) (read : List (List ℕ)) (e : Entry) : Type 0 where
+  pub coupled : Coupled (page_step k locked read e) images (page_image k image e) flat
+  pub stands : Stands images (page_step k locked read e) flat
+  pub tokens : length (Kernel.frames (page_step k locked read e)) ≡ length k.frames
+
+pub goes_done : (size : ℕ) (k : Kernel) (images : List NamedImage) (image : List ℕ) (flat : FlatState) (locked : List Page) (read : List (List ℕ)) → Machine size k images image flat read → Goes k images image flat locked read entries.Done
+goes_done size k images image flat locked read x = let t = x.stands in record {
+  coupled = done_coupled_step size k images image flat read x.sound t.texts x.room x.are x.coupled;
+  stands = done_stands size images k flat read x.sound x.stands;
+  tokens = landed_length k.place.transfers read k.frames;
+}
+
+pub goes_hand : (size : ℕ) (k : Kernel) (images : List NamedImage) (image : List ℕ) (flat : FlatState) (locked : List Page) (read : List (List ℕ)) → Machine size k images image flat read → Goes k images image flat locked read (entries.Hands 1)
+goes_hand size k images image flat locked read x = record {
+  coupled = hand_coupled_step size k images image flat locked x.sound x.coupled;
+  stands = hand_stands images k flat locked x.stands;
+  tokens = refl;
+}
+
+pub goes_put : (size : ℕ) (k : Kernel) (images : List NamedImage) (image : List ℕ) (flat : FlatState) (locked : List Page) (read : List (List ℕ)) (q : Page) (n : ℕ) → Machine size k images image flat read → HasSeat k.place q → EachPage (HasSeat k.place) (pages_from q (number_of q) n)
+    → Goes k images image flat locked read (entries.Put q n)
+goes_put size k images image flat locked read q n x h hs = record {
+  coupled = push_coupled_step size k images image flat q n x.sound h hs x.coupled;
+  stands = push_stands images k flat q n x.stands;
+  tokens = refl;
+}
+
+pub goes_start : (size : ℕ) (k : Kernel) (images : List NamedImage) (image : List ℕ) (flat : FlatState) (locked : List Page) (read : List (List ℕ)) (q r : Page) → Machine size k images image flat read → CanEnter k.place q → IsWritable q → 0 < length k.place.free
+    → state_of k.place q ≡ Unfilled → due_at k.place.due q ≡ Some (Start r) → Goes k images image flat locked read (entries.Zero q)
+goes_start size k images image flat locked read q r x c w some e d = record {
+  coupled = start_coupled size k images image flat q r x.sound c w some e d x.coupled;
+  stands = zero_stands images k flat q x.stands;
+  tokens = first_length k.place.free k.frames (Rattle.page_model.specs.Kernel.start_bytes k.starts q);
+}
+
+pub goes_copy : (size : ℕ) (k : Kernel) (images : List NamedImage) (image : List ℕ) (flat : FlatState) (locked : List Page) (read : List (List ℕ)) (q r parent : Page) (f : ℕ) → Machine size k images image flat read → CanEnter k.place q → IsWritable q → 0 < length k.place.free
+    → state_of k.place q ≡ Unfilled → due_at k.place.due q ≡ Some (CopyOf r parent) → state_of k.place parent ≡ Valid f → Goes k images image flat locked read (entries.Copy q)
+goes_copy size k images image flat locked read q r parent f x c w some e d v = record {
+  coupled = copy_coupled size k images image flat q r parent f x.sound c w some e d v x.coupled;
+  stands = copy_stands images k flat q r parent d x.stands;
+  tokens = first_length k.place.free k.frames (Rattle.page_model.specs.Kernel.copied_bytes k (due_at k.place.due q));
+}
+
+-- a page that is filled with zeros is one of data or stack
+zeros_writable : (p : Placement) (q : Page) → filling_of p q ≡ Zeros → IsWritable q
+zeros_writable p (Data sid v) e = tt
+zeros_writable p (Stack sid v) e = tt
+zeros_writable p (Text image v) e = absurd cc
+
+pub serve_goes : (size : ℕ) (k : Kernel) (images : List NamedImage) (image : List ℕ) (flat : FlatState) (locked : List Page) (read : List (List ℕ)) (q : Page) → Machine size k images image flat read → IsThere k.place q → NotDue k.place.due q → is_valid (state_of k.place q) ≡ false
+    → Goes k images image flat locked read (serve_entry k.place q)
+serve_goes size k images image flat locked read q y there due nv = state (state_of k.place q) refl nv
+  where
+    P : Entry → Type 0
+    P e = Goes k images image flat locked read e
+
+    so : Sound size k
+    so = y.sound
+
+    finish : P entries.Done
+    finish = goes_done size k images image flat locked read y
+
+    forced : (ts : List Transfer) → P (force_entry ts)
+    forced [] = goes_hand size k images image flat locked read y
+    forced (t ∷ ts) = finish
+
+    enters : frame_of (state_of k.place q) ≡ None → CanEnter k.place q
+    enters e = record { there = there; frameless = e }
+
+    reads : (full : Bool) → frame_of (state_of k.place q) ≡ None → ReadsFrom k.place (source_for (state_of k.place q)) q q → P (read_entry_if k.place q full)
+    reads true e r = finish
+    reads false e r = record {
+      coupled = read_coupled_step size k images image flat q so (enters e) r y.coupled;
+      stands = get_stands images k flat q (run_in k.place q).lo (run_in k.place q).n y.stands;
+      tokens = refl;
+    }
+
+    zero : 0 < length k.place.free → state_of k.place q ≡ Unfilled → filling_of k.place q ≡ Zeros → P (entries.Zero q)
+    zero some e x = let t = y.stands in record {
+      coupled = zero_coupled size k images image flat q so t.starts (enters (ap frame_of e)) (zeros_writable k.place q x) some e due x y.coupled;
+      stands = zero_stands images k flat q y.stands;
+      tokens = first_length k.place.free k.frames (Rattle.page_model.specs.Kernel.start_bytes k.starts q);
+    }
+
+    bring : (s : PageState) (x : Filling) → state_of k.place q ≡ s → filling_of k.place q ≡ x → frame_of s ≡ None → (f : ℕ) (fs : List ℕ) → k.place.free ≡ f ∷ fs → P (bring_entry_by k.place q s x (is_full k.place))
+    bring Unfilled Zeros e x n f fs l = zero (subst (λ (fr : List ℕ). 0 < length fr) (sym l) (omega arith)) e x
+    bring Unfilled OfImage e x n f fs l = reads (is_full k.place) (ap frame_of e) (subst (λ (s : PageState). ReadsFrom k.place (source_for s) q q) (sym e) (e, x, due, λ w. refl))
+    bring OnSwap x e y n f fs l = reads (is_full k.place) (ap frame_of e) (subst (λ (s : PageState). ReadsFrom k.place (source_for s) q q) (sym e) e)
+    bring (Valid g) x e y n f fs l = absurd cc
+    bring (Invalid g) x e y n f fs l = absurd cc
+    bring (Coming g) x e y n f fs l = absurd cc
+    bring (Going g) x e y n f fs l = absurd cc
+
+    feed : (s : PageState) (fr : List ℕ) → state_of k.place q ≡ s → k.place.free ≡ fr → frame_of s ≡ None → P (feed_entry_by k.place q s (filling_of k.place q) fr (is_full k.place))
+    feed s [] e l n = forced k.place.transfers
+    feed s (f ∷ fs) e l n = bring s (filling_of k.place q) e refl n f fs l
+
+    reclaims : P (entries.Reclaim q)
+    reclaims = record { coupled = reclaim_coupled_step size k images image flat q so y.coupled; stands = reclaim_stands images k flat q y.stands; tokens = refl }
+
+    state : (s : PageState) → state_of k.place q ≡ s → is_valid s ≡ false → P (serve_entry_by k.place q s)
+    state (Valid f) e n = absurd cc
+    state (Invalid f) e n = reclaims
+    state (Coming f) e n = finish
+    state (Going f) e n = finish
+    state Unfilled e n = feed Unfilled k.place.free e refl refl
+    state OnSwap e n = feed OnSwap k.place.free e refl refl

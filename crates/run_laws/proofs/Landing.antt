@@ -1,0 +1,310 @@
+-- A change of a process keeps the machine with its bytes, and lands where the state of the run does.
+use Rattle.std.proofs.Common.{◌≡◌, ◌≢◌, ℕ, Bool, true, false, cond, List, [], ◌∷◌, length, map, Option, Some, Ok, refl, sym, ap, ◌∙◌, subst}
+use Rattle.vm_facts.specs.Flat.{Space, Holding, Holds, Lends, Zombie, Process, FlatState}
+use Rattle.vm_facts.specs.declared.regs.Regs.{Regs}
+use Rattle.vm_facts.specs.declared.entry.Entry.{Entry}
+use Rattle.swap_book.specs.Holdings.{Holdings}
+use Rattle.swap_book.specs.Placing.{place_all}
+use Rattle.page_model.specs.declared.change.Change.{Change}
+use Rattle.page_model.specs.declared.change.Change.TheVariants.{Keep, Resize, Fork, Lend, Exec, Reap, Sleep, End}
+use Rattle.page_model.specs.Flat.{Inputs}
+use Rattle.page_model.specs.Change.{lends_to, apply_change}
+use Rattle.page_model.specs.Journal.{append}
+use Rattle.page_model.specs.Pages.{numbered}
+use Rattle.page_model.specs.Placement.{space_number, image_of, sharers}
+use Rattle.page_model.specs.Place.{is_borrower, place_change}
+use Rattle.page_model.specs.Conditions.{MayForget}
+use Rattle.page_model.specs.Ownership.{OneOwner}
+use Rattle.page_model.specs.Kernel.{Kernel, Proc, Life, Outline, outline_of, outline_kept, life_of, Fits, SameTables, Sound, Coupled, lives, lives_in, has_life}
+use Rattle.page_model.specs.FlatStep.{flat_step, pass_step, holdings_after, space_of_life, gave_back, life_of_proc}
+use Rattle.page_laws.specs.Asks.{asked}
+use Rattle.page_laws.specs.Numbers.{Numbered, SettlesFor, ReadyFor}
+use Rattle.page_laws.specs.Start.{ImageFits}
+use Rattle.page_laws.specs.FlatStands.{IsNumbered, LendsStand, IsLender, Stands, MayChange}
+use Rattle.page_laws.proofs.Local.{none_some, some_is}
+use Rattle.page_laws.proofs.Sames.{settled_rests}
+use Rattle.page_laws.proofs.Sounds.{pass_sound}
+use Rattle.page_laws.proofs.Numbers.{flat_numbered, pass_numbered}
+use Rattle.page_laws.proofs.Allowed.{ready_sound, may_change}
+use Rattle.page_laws.proofs.CoupledReady.{coupled_ready}
+use Rattle.page_laws.proofs.KernelForks.{fit_image, fork_coupled_step}
+use Rattle.page_laws.proofs.KernelSteps.{keep_coupled, sleep_coupled, reap_coupled}
+use Rattle.page_laws.proofs.KernelSizes.{resize_coupled_step}
+use Rattle.page_laws.proofs.KernelLends.{lend_coupled_step}
+use Rattle.page_laws.proofs.KernelExecs.{exec_coupled_step}
+use Rattle.page_laws.proofs.KernelEnds.{end_coupled_step}
+use Rattle.page_laws.proofs.KernelReturns.{Borrowing, borrowing, exec_back, end_back}
+use Rattle.page_laws.proofs.FlatLists.{pid_of, found_is}
+use Rattle.page_laws.proofs.FlatLenders.{lender_found}
+use Rattle.page_laws.proofs.FlatNumbers.{changes_numbered}
+use Rattle.page_laws.proofs.ProcTables.{Stepping, stepping}
+use Rattle.flat_laws.proofs.Asking.{own_space, shared_same, no_sharers, some_sharers, change_same}
+use Rattle.flat_model.specs.Asked.{is_shared, given_up}
+use Rattle.run_laws.specs.Standing.{Own}
+use Rattle.run_laws.specs.Machine.{lends_life, lender_among, keeps_step, back_step, change_step}
+use Rattle.run_laws.proofs.Changes.{given_same}
+use Rattle.run_laws.proofs.OwnChanges.{Changing, keeps_place, keeps_holdings, own_false, end_false, own_told, takes_next, may_reap, own_kept, own_lands}
+use Rattle.run_laws.proofs.OwnChanges as own
+use Rattle.run_laws.proofs.BackChanges.{GivesBack, back_told, back_lands, takes_none, back_ready, asks_same}
+use Rattle.run_laws.proofs.BackChanges as back
+use Rattle.run_laws.proofs.Acts.{none_found}
+use Rattle.run_laws.proofs.Written.{Mid}
+
+-- the machine behind a change
+pub record Landed (A : Inputs) (after : FlatState) (k l : Kernel) (image : List ℕ) (pid sid : ℕ) (b : Bool) (e : Entry) (change : Change) (held : Holdings) : Type 0 where
+  pub mid : Mid A after l image
+  pub place : l.place ≡ place_change A.images k.place pid sid b k.next_sid (length (append k.journal e)) change
+  pub holdings : l.holdings ≡ held
+  pub journal : l.journal ≡ append k.journal e
+
+-- a machine that found the pieces of a change
+pub record Found (A : Inputs) (flat : FlatState) (k : Kernel) (image : List ℕ) (before : Holdings) : Type 0 where
+  pub sound : Sound A.swap_blocks (record k { holdings = before })
+  pub numbered : Numbered k
+  pub coupled : Coupled k A.images image flat
+  pub stands : Stands A.images k flat
+
+-- with no pieces it is as sound as it was
+found_none : (A : Inputs) (flat : FlatState) (k : Kernel) (image : List ℕ) (before : Holdings) → Found A flat k image before → place_all A.swap_blocks before [] ≡ Ok k.holdings → Sound A.swap_blocks k
+found_none A flat k image before x e = subst (λ (hs : Holdings). Sound A.swap_blocks (record k { holdings = hs })) (none_found A before k.holdings [] refl e) x.sound
+
+-- Who keeps its space, or has one of its own.
+
+own_coupled : (A : Inputs) (k : Kernel) (flat : FlatState) (image : List ℕ) (before : Holdings) (pid : ℕ) (regs : Regs) (e : Entry) (q : Process) (s : Space) (b : Bool) (change : Change) → Changing A flat k.place before k.holdings pid q s change → is_borrower flat.processes pid ≡ b
+    → Own b change → SettlesFor k.place s.sid change → MayForget A.images k.place s.sid false k.next_sid change → Found A flat k image before → Coupled (keeps_step A.images k pid regs e change) A.images image (apply_change A.images flat pid regs change)
+own_coupled A k flat image before pid regs e q s b Keep c w o z y x = keep_coupled k A.images image flat pid regs e q s c.numbers c.found_process c.holds c.resident x.coupled
+own_coupled A k flat image before pid regs e q s b (Resize d r) c w o z y x = let st : Stands A.images k flat = x.stands in resize_coupled_step k A.images image flat pid regs e d r q s c.numbers st.out c.clear c.found_process c.holds c.resident x.coupled
+own_coupled A k flat image before pid regs e q s b (Fork child) c w o z y x = let st : Stands A.images k flat = x.stands in
+    subst (λ (n : ℕ). Coupled (keeps_step A.images k pid regs e (Fork n)) A.images image (apply_change A.images flat pid regs (Fork n))) (sym c.may)
+    (fork_coupled_step k A.images image flat pid regs e q s c.numbers st.out c.clear c.found_process c.holds c.resident x.coupled)
+own_coupled A k flat image before pid regs e q s b (Lend child) c w o z y x = let st : Stands A.images k flat = x.stands in
+    subst (λ (n : ℕ). Coupled (keeps_step A.images k pid regs e (Lend n)) A.images image (apply_change A.images flat pid regs (Lend n))) (sym c.may)
+    (lend_coupled_step k A.images image flat pid regs e q s c.numbers st.out c.found_process c.holds c.resident x.coupled)
+own_coupled A k flat image before pid regs e q s b (Exec number top) c w o z y x =
+    let st : Stands A.images k flat = x.stands in
+    let so : Sound A.swap_blocks (record k { holdings = before }) = x.sound in
+    let ow : OneOwner A.swap_blocks (lives k.processes) k.place before = so.owner in
+    let i : ImageFits c.execs.0 = c.images number c.execs.0 c.execs.1 in
+    exec_coupled_step A.swap_blocks before k A.images image flat pid regs e number top c.execs.0 q s so c.numbers st.out c.clear st.starts c.found_process c.holds (w ∙ own_false b number top o) c.resident (settled_rests k.place s.sid ow.frames z) y c.execs.1 i.«data» c.execs.2 x.coupled
+own_coupled A k flat image before pid regs e q s b (Reap child) c w o z y x =
+    reap_coupled k A.images image flat pid regs e child c.may.1 q c.may.0 s c.numbers c.found_process c.holds c.resident c.may.2 c.may.3 x.coupled
+own_coupled A k flat image before pid regs e q s b Sleep c w o z y x = sleep_coupled k A.images image flat pid regs e q s c.numbers c.found_process c.holds c.resident x.coupled
+own_coupled A k flat image before pid regs e q s b (End status) c w o z y x =
+    let st : Stands A.images k flat = x.stands in
+    let so : Sound A.swap_blocks k = found_none A flat k image before x c.pieces in
+    let ow : OneOwner A.swap_blocks (lives k.processes) k.place k.holdings = so.owner in
+    end_coupled_step A.swap_blocks k A.images image flat pid regs e status q s so c.numbers st.out c.clear c.found_process c.holds (w ∙ end_false b status o) (settled_rests k.place s.sid ow.frames z) y x.coupled
+
+pub own_landed : (A : Inputs) (k : Kernel) (flat : FlatState) (image : List ℕ) (before : Holdings) (pid : ℕ) (regs : Regs) (e : Entry) (q : Process) (s : Space) (b : Bool) (change : Change) → Changing A flat k.place before k.holdings pid q s change → is_borrower flat.processes pid ≡ b
+    → Own b change → SettlesFor k.place s.sid change → Found A flat k image before
+    → Landed A (apply_change A.images flat pid regs change) k (keeps_step A.images k pid regs e change) image pid s.sid b e change (given_up flat (apply_change A.images flat pid regs change) pid s change k.holdings)
+own_landed A k flat image before pid regs e q s b change c w o settles x = record {
+  mid = record { sound = kept.sound; numbered = kept.numbered; coupled = coupled; stands = told.stands };
+  place = lands.place ∙ keeps_place A.images k.place pid s.sid b k.next_sid (length (append k.journal e)) change o;
+  holdings = lands.holdings ∙ sym back;
+  journal = lands.journal;
+}
+  where
+    after : FlatState
+    after = apply_change A.images flat pid regs change
+
+    cp : Coupled k A.images image flat
+    cp = x.coupled
+
+    t : SameTables k flat
+    t = cp.tables
+
+    st : Stands A.images k flat
+    st = x.stands
+
+    so : Sound A.swap_blocks (record k { holdings = before })
+    so = x.sound
+
+    ready : ReadyFor k pid change
+    ready = coupled_ready k flat pid q s change t c.found_process c.holds (takes_next k flat change t c.may) (may_reap k flat change t c.may) settles
+
+    pieces : place_all A.swap_blocks before (asked A.images k pid change) ≡ Ok k.holdings
+    pieces = ap (place_all A.swap_blocks before) (change_same A.images k flat pid q s change c.images st.texts x.numbered c.numbers t c.found_process c.holds) ∙ c.pieces
+
+    l : Kernel
+    l = keeps_step A.images k pid regs e change
+
+    kept : own.Kept A l
+    kept = own_kept A k flat pid regs e q s change c.numbers c.found_process c.holds t c.may (ready_sound A.swap_blocks A.images k before pid regs e change so x.numbered ready pieces) (flat_numbered A.images k pid regs e change (takes_next k flat change t c.may) x.numbered)
+
+    told : own.Told A l after
+    told = own_told A k flat pid regs e q s b change c.images c.numbers c.found_process c.holds w o c.resident c.clear c.may c.execs t st
+
+    lands : own.Lands A k pid s.sid e change l
+    lands = own_lands A k flat pid regs e q s change c.found_process c.holds t
+
+    g : Stepping k flat pid q s
+    g = stepping k flat pid q s t c.found_process c.holds
+
+    ow : OneOwner A.swap_blocks (lives k.processes) k.place before
+    ow = so.owner
+
+    forgets : MayForget A.images k.place s.sid false k.next_sid change
+    forgets = subst (λ (y : Life). MayForget A.images k.place (space_of_life y) (gave_back y) k.next_sid change) (ap life_of_proc g.kept ∙ g.life) (may_change A.images k pid change ow.frames x.numbered ready).forgets
+
+    coupled : Coupled l A.images image after
+    coupled = own_coupled A k flat image before pid regs e q s b change c w o settles forgets x
+
+    fits : Fits (Some s) (numbered space_number s.sid k.place.spaces)
+    fits = subst (λ (y : Option Space). Fits y (numbered space_number s.sid k.place.spaces)) (own_space flat pid q s c.numbers c.found_process c.holds) (t.spaces s.sid)
+
+    numbers : IsNumbered after
+    numbers = changes_numbered A.images flat pid regs change q s c.found_process c.holds c.may c.numbers
+
+    shared : is_shared after s.image ≡ Rattle.flat_laws.proofs.Asking.is_some_of Rattle.flat_laws.proofs.Asking.image_of_pages s.image l.place.spaces
+    shared = shared_same l after s.image kept.numbered numbers told.tables
+
+    same_image : image_of k.place s.sid ≡ s.image
+    same_image = fit_image s (numbered space_number s.sid k.place.spaces) fits
+
+    back : given_up flat after pid s change k.holdings ≡ holdings_after k.holdings k.place l.place pid s.sid false change
+    back = given_same flat after pid s change k.holdings k.place l.place b w same_image
+        (λ z. ((λ i. shared ∙ no_sharers s.image l.place.spaces (ap (sharers l.place) (sym same_image) ∙ i)), (λ m i. shared ∙ some_sharers s.image m l.place.spaces (ap (sharers l.place) (sym same_image) ∙ i))))
+        ∙ keeps_holdings k.holdings k.place l.place pid s.sid b change o
+
+-- The lender of a borrower.
+
+abbrev lender_in : List Outline → ℕ → ℕ
+lender_in [] pid = 0
+lender_in (o ∷ os) pid = cond (lends_life pid o.life) o.pid (lender_in os pid)
+
+lender_kept : (ks : List Proc) (pid : ℕ) → lender_among ks pid ≡ lender_in (map outline_kept ks) pid
+lender_kept [] pid = refl
+lender_kept (p ∷ ks) pid = ap (cond (lends_life pid p.life) p.pid) (lender_kept ks pid)
+
+lends_is : (pid : ℕ) (h : Holding) → lends_life pid (life_of h) ≡ lends_to pid h
+lends_is pid (Holds s) = refl
+lends_is pid (Lends sid child) = refl
+lends_is pid (Zombie status) = refl
+
+lender_flat : (ps : List Process) (pid : ℕ) (m : Process) → Rattle.page_laws.specs.FlatStands.AllDistinct (map pid_of ps) → numbered pid_of m.pid ps ≡ Some m → lends_to pid m.holding ≡ true → ((x : Process) → numbered pid_of x.pid ps ≡ Some x → lends_to pid x.holding ≡ true → x.pid ≡ m.pid)
+    → lender_in (map outline_of ps) pid ≡ m.pid
+lender_flat [] pid m d e t only = none_some m e
+lender_flat (p ∷ ps) pid m d e t only = ap (λ (b : Bool). cond b p.pid (lender_in (map outline_of ps) pid)) (lends_is pid p.holding) ∙ go (lender_flat ps pid m d.1) (lends_to pid p.holding) refl
+  where
+    go : (numbered pid_of m.pid ps ≡ Some m → lends_to pid m.holding ≡ true → ((x : Process) → numbered pid_of x.pid ps ≡ Some x → lends_to pid x.holding ≡ true → x.pid ≡ m.pid) → lender_in (map outline_of ps) pid ≡ m.pid)
+        → (b : Bool) → lends_to pid p.holding ≡ b → cond b p.pid (lender_in (map outline_of ps) pid) ≡ m.pid
+    go later true y = only p (Rattle.page_laws.proofs.Numbered.hit pid_of p.pid p ps refl) y
+    go later false y = later (sym (Rattle.page_laws.proofs.Numbered.miss pid_of m.pid p ps other) ∙ e) t
+        (λ x f l. only x (Rattle.page_laws.proofs.Numbered.miss pid_of x.pid p ps (λ i. none_some x (sym (Rattle.page_laws.proofs.Numbered.absent_none pid_of x.pid ps (subst (λ (n : ℕ). Rattle.page_laws.specs.FlatStands.IsAbsent n (map pid_of ps)) i d.0)) ∙ f)) ∙ f) l)
+      where
+        other : p.pid ≢ m.pid
+        other i = let same : p ≡ m = some_is p m (sym (Rattle.page_laws.proofs.Numbered.hit pid_of m.pid p ps i) ∙ e) in let z : false ≡ true = sym y ∙ ap (λ (r : Process). lends_to pid r.holding) same ∙ t in cc
+
+pub lender_is : (k : Kernel) (flat : FlatState) (pid sid : ℕ) (m : Process) → SameTables k flat → IsNumbered flat → IsLender flat pid sid m → lender_among k.processes pid ≡ m.pid
+lender_is k flat pid sid m t n is =
+    lender_kept k.processes pid ∙ ap (λ (os : List Outline). lender_in os pid) t.processes
+    ∙ lender_flat flat.processes pid m n.pids (sym (found_is flat.processes m.pid) ∙ is.found) (ap (lends_to pid) is.holding ∙ Rattle.page_laws.proofs.Numbered.eq_self pid) (λ x e l. is.only x (found_is flat.processes x.pid ∙ e) l)
+
+-- Who borrowed its space, and gives it back.
+
+back_coupled : (A : Inputs) (k : Kernel) (flat : FlatState) (image : List ℕ) (before : Holdings) (pid : ℕ) (regs : Regs) (e : Entry) (q m : Process) (s : Space) (change : Change) → Changing A flat k.place before k.holdings pid q s change → IsLender flat pid s.sid m → GivesBack change
+    → Found A flat k image before → Coupled (flat_step A.images (pass_step k pid m.pid) pid regs e change) A.images image (apply_change A.images flat pid regs change)
+back_coupled A k flat image before pid regs e q m s (Exec number top) c is gb x =
+    let st : Stands A.images k flat = x.stands in
+    let i : ImageFits c.execs.0 = c.images number c.execs.0 c.execs.1 in
+    exec_back A.swap_blocks before k A.images image flat pid regs e number top c.execs.0 q m s x.sound c.numbers st.out c.clear st.starts c.found_process c.holds is c.resident c.execs.1 i.«data» c.execs.2 x.coupled
+back_coupled A k flat image before pid regs e q m s (End status) c is gb x =
+    let st : Stands A.images k flat = x.stands in
+    end_back A.swap_blocks k A.images image flat pid regs e status q m s (found_none A flat k image before x c.pieces) c.numbers st.out c.clear c.found_process c.holds is x.coupled
+back_coupled A k flat image before pid regs e q m s _ c is gb x = absurd gb
+
+back_is : (A : Inputs) (k : Kernel) (pid n : ℕ) (regs : Regs) (e : Entry) (change : Change) → GivesBack change → lender_among k.processes pid ≡ n → back_step A.images k pid regs e change ≡ flat_step A.images (pass_step k pid n) pid regs e change
+back_is A k pid n regs e (Exec number top) gb i = ap (λ (m : ℕ). flat_step A.images (pass_step k pid m) pid regs e (Exec number top)) i
+back_is A k pid n regs e (End status) gb i = ap (λ (m : ℕ). flat_step A.images (pass_step k pid m) pid regs e (End status)) i
+back_is A k pid n regs e _ gb i = absurd gb
+
+pub back_landed : (A : Inputs) (k : Kernel) (flat : FlatState) (image : List ℕ) (before : Holdings) (pid : ℕ) (regs : Regs) (e : Entry) (q : Process) (s : Space) (change : Change) → Changing A flat k.place before k.holdings pid q s change → LendsStand flat → is_borrower flat.processes pid ≡ true → GivesBack change
+    → Found A flat k image before
+    → Landed A (apply_change A.images flat pid regs change) k (back_step A.images k pid regs e change) image pid s.sid true e change (given_up flat (apply_change A.images flat pid regs change) pid s change k.holdings)
+back_landed A k flat image before pid regs e q s change c lend w gb x =
+    subst (λ (y : Kernel). Landed A after k y image pid s.sid true e change (given_up flat after pid s change k.holdings)) (sym (back_is A k pid m.pid regs e change gb (lender_is k flat pid s.sid m t c.numbers lender.1))) (record {
+      mid = record { sound = sound; numbered = flat_numbered A.images k1 pid regs e change (takes_none k1 change gb) n1; coupled = back_coupled A k flat image before pid regs e q m s change c lender.1 gb x; stands = told.stands };
+      place = lands.place;
+      holdings = lands.holdings ∙ sym (given_same flat after pid s change k.holdings k.place l.place true w (fit_image s (numbered space_number s.sid k.place.spaces) fits) (λ z. absurd cc));
+      journal = lands.journal;
+    })
+  where
+    after : FlatState
+    after = apply_change A.images flat pid regs change
+
+    cp : Coupled k A.images image flat
+    cp = x.coupled
+
+    t : SameTables k flat
+    t = cp.tables
+
+    st : Stands A.images k flat
+    st = x.stands
+
+    lender : (m : Process) × IsLender flat pid s.sid m
+    lender = lender_found flat pid q s c.found_process c.holds w c.numbers lend
+
+    m : Process
+    m = lender.0
+
+    a : Borrowing k flat pid q m s
+    a = borrowing k flat pid q m s t c.found_process c.holds lender.1
+
+    g : Stepping k flat pid q s
+    g = a.step
+
+    k1 : Kernel
+    k1 = pass_step k pid m.pid
+
+    sound1 : Sound A.swap_blocks (record k1 { holdings = before })
+    sound1 = pass_sound A.swap_blocks (record k { holdings = before }) pid m.pid (ap lives_in g.kept ∙ ap has_life g.life) (ap lives_in a.kept ∙ ap has_life a.life) x.sound
+
+    n1 : Numbered k1
+    n1 = pass_numbered k pid m.pid x.numbered
+
+    ready : ReadyFor k1 pid change
+    ready = back_ready k flat pid q m s change a gb
+
+    pieces : place_all A.swap_blocks before (asked A.images k1 pid change) ≡ Ok k.holdings
+    pieces = ap (place_all A.swap_blocks before) (asks_same A.images k k1 pid change gb refl refl ∙ change_same A.images k flat pid q s change c.images st.texts x.numbered c.numbers t c.found_process c.holds) ∙ c.pieces
+
+    l : Kernel
+    l = flat_step A.images k1 pid regs e change
+
+    sound : Sound A.swap_blocks l
+    sound = ready_sound A.swap_blocks A.images k1 before pid regs e change sound1 n1 ready pieces
+
+    told : back.Told A l after
+    told = back_told A k flat pid regs e q m s change gb c.images c.numbers c.found_process c.holds lender.1 c.resident c.clear c.execs t st
+
+    lands : back.Lands A k pid s.sid e change l
+    lands = back_lands A k flat pid regs e q m s change a gb
+
+    fits : Fits (Some s) (numbered space_number s.sid k.place.spaces)
+    fits = subst (λ (y : Option Space). Fits y (numbered space_number s.sid k.place.spaces)) (own_space flat pid q s c.numbers c.found_process c.holds) (t.spaces s.sid)
+
+-- Either, by whether the process borrowed.
+
+pub step_landed : (A : Inputs) (k : Kernel) (flat : FlatState) (image : List ℕ) (before : Holdings) (pid : ℕ) (regs : Regs) (e : Entry) (q : Process) (s : Space) (b : Bool) (change : Change) → Changing A flat k.place before k.holdings pid q s change → LendsStand flat → is_borrower flat.processes pid ≡ b
+    → (Own b change → SettlesFor k.place s.sid change) → Found A flat k image before
+    → Landed A (apply_change A.images flat pid regs change) k (change_step b A.images k pid regs e change) image pid s.sid b e change (given_up flat (apply_change A.images flat pid regs change) pid s change k.holdings)
+step_landed A k flat image before pid regs e q s false change c lend w settles x = own_landed A k flat image before pid regs e q s false change c w (own_of change) (settles (own_of change)) x
+  where
+    own_of : (y : Change) → Own false y
+    own_of Keep = tt
+    own_of (Resize d t) = tt
+    own_of (Fork child) = tt
+    own_of (Lend child) = tt
+    own_of (Exec number top) = tt
+    own_of (Reap child) = tt
+    own_of Sleep = tt
+    own_of (End status) = tt
+step_landed A k flat image before pid regs e q s true Keep c lend w settles x = own_landed A k flat image before pid regs e q s true Keep c w tt (settles tt) x
+step_landed A k flat image before pid regs e q s true (Resize d r) c lend w settles x = own_landed A k flat image before pid regs e q s true (Resize d r) c w tt (settles tt) x
+step_landed A k flat image before pid regs e q s true (Fork child) c lend w settles x = own_landed A k flat image before pid regs e q s true (Fork child) c w tt (settles tt) x
+step_landed A k flat image before pid regs e q s true (Lend child) c lend w settles x = own_landed A k flat image before pid regs e q s true (Lend child) c w tt (settles tt) x
+step_landed A k flat image before pid regs e q s true (Exec number top) c lend w settles x = back_landed A k flat image before pid regs e q s (Exec number top) c lend w tt x
+step_landed A k flat image before pid regs e q s true (Reap child) c lend w settles x = own_landed A k flat image before pid regs e q s true (Reap child) c w tt (settles tt) x
+step_landed A k flat image before pid regs e q s true Sleep c lend w settles x = own_landed A k flat image before pid regs e q s true Sleep c w tt (settles tt) x
+step_landed A k flat image before pid regs e q s true (End status) c lend w settles x = back_landed A k flat image before pid regs e q s (End status) c lend w tt x

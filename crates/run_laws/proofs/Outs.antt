@@ -1,0 +1,70 @@
+-- Who is out stays so with its registers, whatever another process does.
+use Rattle.std.proofs.Common.{◌≡◌, ◌≢◌, inl, inr, ℕ, Bool, true, false, List, Option, Some, None, refl, sym, ap, ◌∙◌, subst}
+use Rattle.std.proofs.lemmas.Bool.{cases_eq}
+use Rattle.vm_facts.specs.Answers.{ByteWrite}
+use Rattle.vm_facts.specs.Flat.{Space, Holding, Holds, Lends, Zombie, Process, FlatState}
+use Rattle.vm_facts.specs.declared.regs.Regs.{Regs}
+use Rattle.page_model.specs.declared.change.Change.{Change}
+use Rattle.page_model.specs.declared.change.Change.TheVariants.{Keep, Resize, Fork, Lend, Exec, Reap, Sleep, End}
+use Rattle.page_model.specs.Flat.{NamedImage, image_numbered, process_of}
+use Rattle.page_model.specs.Change.{apply_change, apply_writes}
+use Rattle.page_model.specs.Placement.{Placement, Residence}
+use Rattle.page_model.specs.Place.{place_change, enter_image, give_up_unless}
+use Rattle.page_model.specs.Moves.{drop_all}
+use Rattle.page_model.specs.Swapper.{is_out, residence_of}
+use Rattle.page_model.specs.Kernel.{AreRegs}
+use Rattle.page_laws.specs.FlatStands.{OutHold, MayChange, holds_some}
+use Rattle.page_laws.proofs.OwnsChanges.{dropped_pages}
+use Rattle.page_laws.proofs.KernelShapes.{Shaped, drop_all_shaped}
+use Rattle.page_laws.proofs.KernelForks.{out_begun}
+use Rattle.page_laws.proofs.KernelGone.{Gone, gone_unless}
+use Rattle.page_laws.proofs.KernelEnds.{out_ended, out_gone}
+use Rattle.run_laws.specs.Machine.{OutRegs}
+use Rattle.run_laws.proofs.Registered.{FoundRegs, writes_stay, change_stays}
+
+entered_residents : (p : Placement) (next image : ℕ) (o : Option NamedImage) → (enter_image p next image o).residents ≡ p.residents
+entered_residents p next image None = refl
+entered_residents p next image (Some named) = refl
+
+-- nobody goes out by a change of a process
+pub change_out : (images : List NamedImage) (p : Placement) (pid sid : ℕ) (b : Bool) (next at : ℕ) (change : Change) (n : ℕ) → is_out (place_change images p pid sid b next at change) n ≡ true → is_out p n ≡ true
+change_out images p pid sid b next at Keep n e = e
+change_out images p pid sid b next at (Resize d s) n e = let sh : Shaped p (drop_all p (dropped_pages p sid d s)) = drop_all_shaped (dropped_pages p sid d s) p in ap (λ (rs : List Residence). (residence_of rs n).out) (sym sh.residents) ∙ e
+change_out images p pid sid b next at (Fork child) n e = sym (out_begun p.residents child at n) ∙ e
+change_out images p pid sid b next at (Lend child) n e = sym (out_begun p.residents child at n) ∙ e
+change_out images p pid sid b next at (Exec image top) n e =
+    let p1 : Placement = enter_image p next image (image_numbered images image) in
+    let g : Gone p1 (give_up_unless b p1 sid) b sid = gone_unless b p1 sid in
+    ap (λ (rs : List Residence). (residence_of rs n).out) (sym (g.residents ∙ entered_residents p next image (image_numbered images image))) ∙ e
+change_out images p pid sid b next at (Reap child) n e = e
+change_out images p pid sid b next at Sleep n e = e
+change_out images p pid sid b next at (End status) n e =
+    let g : Gone p (give_up_unless b p sid) b sid = gone_unless b p sid in
+    elim (cases_eq n pid) [
+      | inl i ↦ absurd (let z : false ≡ true = sym (out_gone (give_up_unless b p sid).residents pid) ∙ ap (is_out (place_change images p pid sid b next at (End status))) (sym i) ∙ e in cc)
+      | inr d ↦ ap (λ (rs : List Residence). (residence_of rs n).out) (sym g.residents) ∙ sym (out_ended (give_up_unless b p sid).residents pid n d) ∙ e
+    ]
+
+-- who is out holds a space
+pub out_holder : (p : Placement) (flat : FlatState) (n : ℕ) → OutHold p flat → is_out p n ≡ true → (x : Process) × (t : Space) × (process_of flat n ≡ Some x) × (x.holding ≡ Holds t)
+out_holder p flat n o e = go (process_of flat n) refl (o n e)
+  where
+    holding : (x : Process) → process_of flat n ≡ Some x → (h : Holding) → x.holding ≡ h → Rattle.page_model.specs.Flat.holds_space h ≡ true → (x : Process) × (t : Space) × (process_of flat n ≡ Some x) × (x.holding ≡ Holds t)
+    holding x f (Holds t) h z = (x, t, f, h)
+    holding x f (Lends sid child) h z = absurd cc
+    holding x f (Zombie status) h z = absurd cc
+
+    go : (q : Option Process) → process_of flat n ≡ q → holds_some q ≡ true → (x : Process) × (t : Space) × (process_of flat n ≡ Some x) × (x.holding ≡ Holds t)
+    go None f z = absurd cc
+    go (Some x) f z = holding x f x.holding refl z
+
+-- their registers stay
+pub regs_stay : (images : List NamedImage) (flat : FlatState) (p r : Placement) (pid : ℕ) (ws : List ByteWrite) (regs : Regs) (change : Change) → is_out p pid ≡ false → OutHold p flat → MayChange (apply_writes flat pid ws) change → ((n : ℕ) → is_out r n ≡ true → is_out p n ≡ true) → OutRegs p flat
+    → OutRegs r (apply_change images (apply_writes flat pid ws) pid regs change)
+regs_stay images flat p r pid ws regs change inside o may was old n a e f =
+    let x = out_holder p flat n o (was n e) in
+    let other : pid ≢ n = λ i. (let z : true ≡ false = sym (was n e) ∙ ap (is_out p) (sym i) ∙ inside in cc) in
+    let y : FoundRegs (apply_change images (apply_writes flat pid ws) pid regs change).processes n x.1 x.0.regs =
+    change_stays images (apply_writes flat pid ws) pid regs change n x.1 x.0.regs may other (writes_stay flat pid ws n x.1 x.0.regs other (record { process = x.0; here = x.2; holds = x.3; regs = refl })) in
+    let same : y.process ≡ a = Rattle.page_laws.proofs.Local.some_is y.process a (sym y.here ∙ f) in
+    subst AreRegs (sym y.regs ∙ ap (λ (q : Process). q.regs) same) (old n x.0 (was n e) x.2)

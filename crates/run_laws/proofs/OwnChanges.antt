@@ -1,0 +1,354 @@
+-- A change of a process that holds its own space, or doesn't give it up, leaves what stands.
+use Rattle.std.proofs.Common.{◌≡◌, ◌≢◌, ℕ, Bool, true, false, List, [], ◌∷◌, ◌++◌, length, Option, Some, None, Ok, refl, sym, ap, ◌∙◌, subst}
+use Rattle.vm_facts.specs.Flat.{Space, Holds, Process, FlatState}
+use Rattle.vm_facts.specs.declared.regs.Regs.{Regs}
+use Rattle.vm_facts.specs.declared.entry.Entry.{Entry}
+use Rattle.swap_book.specs.Holdings.{Holdings}
+use Rattle.swap_book.specs.Placing.{place_all}
+use Rattle.page_model.specs.declared.change.Change.{Change}
+use Rattle.page_model.specs.declared.change.Change.TheVariants.{Keep, Resize, Fork, Lend, Exec, Reap, Sleep, End}
+use Rattle.page_model.specs.Flat.{NamedImage, Inputs, process_of}
+use Rattle.page_model.specs.Change.{apply_change}
+use Rattle.page_model.specs.Journal.{append}
+use Rattle.page_model.specs.Pages.{SpacePages, numbered}
+use Rattle.page_model.specs.Placement.{Placement, space_number, image_of, sharers}
+use Rattle.page_model.specs.Place.{is_borrower, place_change}
+use Rattle.page_model.specs.Dues.{DueStand}
+use Rattle.page_model.specs.Conditions.{HaveParts, CanChange}
+use Rattle.page_model.specs.Swapper.{is_out}
+use Rattle.page_model.specs.Ownership.{OneOwner}
+use Rattle.page_model.specs.Kernel.{Kernel, Proc, Life, New, Fits, AllFit, HoldsSpace, SameTables, Sound, lives, lives_in, DataFits, spaces_of}
+use Rattle.page_model.specs.FlatStep.{flat_step, holdings_after, space_of_life, gave_back, life_of_proc, with_proc, child_proc}
+use Rattle.page_laws.specs.Asks.{asked}
+use Rattle.page_laws.specs.Taken.{MayReap, ApartFrom}
+use Rattle.page_laws.specs.Numbers.{Numbered, TakesNext, SettlesFor, ReadyFor}
+use Rattle.page_laws.specs.Start.{ImageFits, ImagesFit}
+use Rattle.page_laws.specs.FlatStands.{IsNumbered, Stands, MayChange}
+use Rattle.page_laws.proofs.Local.{none_some}
+use Rattle.page_laws.proofs.Numbered.{pushed_new, pushed_found}
+use Rattle.page_laws.proofs.Sounds.{pass_sound}
+use Rattle.page_laws.proofs.Numbers.{flat_numbered, pass_numbered}
+use Rattle.page_laws.proofs.Allowed.{ready_sound, may_change}
+use Rattle.page_laws.proofs.CoupledReady.{coupled_ready, coupled_reaps}
+use Rattle.page_laws.proofs.SoundChanges.{Unhanded, change_unhanded}
+use Rattle.page_laws.proofs.ServeStands.{SameHands}
+use Rattle.page_laws.proofs.DueChanges.{change_due}
+use Rattle.page_laws.proofs.KernelForks.{fit_image, next_new, next_pid_none, kept_none}
+use Rattle.page_laws.proofs.KernelTables.{kept_pid}
+use Rattle.page_laws.proofs.FlatLists.{pid_of}
+use Rattle.page_laws.proofs.ProcTables.{Stepping, stepping, by_life, step_is, with_at, with_not}
+use Rattle.page_laws.proofs.TablesThrough.{keep_tables, sleep_tables, reap_tables, resize_tables, fork_tables, lend_tables, exec_tables, end_tables}
+use Rattle.page_laws.proofs.KernelStandsChanges.{keep_stands, sleep_stands, reap_stands, resize_stands, fork_stands, lend_stands, exec_stands, end_stands}
+use Rattle.flat_laws.proofs.Asking.{own_space, shared_same, no_sharers, some_sharers, change_same}
+use Rattle.flat_model.specs.Asked.{is_shared, given_up, change_wanted}
+use Rattle.run_laws.specs.Standing.{machine_of, EachOnce, Placed, ExecFits, Own}
+use Rattle.run_laws.specs.Machine.{keeps_step as next_of}
+use Rattle.run_laws.proofs.Bridge.{from_machine}
+use Rattle.run_laws.proofs.Changes.{given_same, change_once}
+use Rattle.run_laws.proofs.Living.{LivedOr, BackTo, flat_back, back_from}
+use Rattle.page_laws.proofs.Allowed.{wants_these}
+use Rattle.page_laws.proofs.Sounds.{pass_lives}
+use Rattle.page_laws.specs.Asks.{WantsThese}
+
+-- Who keeps a space does with it what the owner does.
+
+pub keeps_place : (images : List NamedImage) (p : Placement) (pid sid : ℕ) (b : Bool) (next at : ℕ) (change : Change) → Own b change → place_change images p pid sid false next at change ≡ place_change images p pid sid b next at change
+keeps_place images p pid sid false next at change o = refl
+keeps_place images p pid sid true next at Keep o = refl
+keeps_place images p pid sid true next at (Resize d s) o = refl
+keeps_place images p pid sid true next at (Fork child) o = refl
+keeps_place images p pid sid true next at (Lend child) o = refl
+keeps_place images p pid sid true next at (Exec image top) o = absurd o
+keeps_place images p pid sid true next at (Reap child) o = refl
+keeps_place images p pid sid true next at Sleep o = refl
+keeps_place images p pid sid true next at (End status) o = absurd o
+
+pub keeps_holdings : (hs : Holdings) (p q : Placement) (pid sid : ℕ) (b : Bool) (change : Change) → Own b change → holdings_after hs p q pid sid b change ≡ holdings_after hs p q pid sid false change
+keeps_holdings hs p q pid sid false change o = refl
+keeps_holdings hs p q pid sid true Keep o = refl
+keeps_holdings hs p q pid sid true (Resize d s) o = refl
+keeps_holdings hs p q pid sid true (Fork child) o = refl
+keeps_holdings hs p q pid sid true (Lend child) o = refl
+keeps_holdings hs p q pid sid true (Exec image top) o = absurd o
+keeps_holdings hs p q pid sid true (Reap child) o = refl
+keeps_holdings hs p q pid sid true Sleep o = refl
+keeps_holdings hs p q pid sid true (End status) o = absurd o
+
+-- Tables, and what stands beside them.
+pub record Told (A : Inputs) (l : Kernel) (after : FlatState) : Type 0 where
+  pub tables : SameTables l after
+  pub stands : Stands A.images l after
+
+pub own_false : (b : Bool) (image : ℕ) (top : List ℕ) → Own b (Exec image top) → b ≡ false
+own_false true image top o = absurd o
+own_false false image top o = refl
+
+pub end_false : (b : Bool) (status : ℕ) → Own b (End status) → b ≡ false
+end_false true status o = absurd o
+end_false false status o = refl
+
+pub own_told : (A : Inputs) (k : Kernel) (flat : FlatState) (pid : ℕ) (regs : Regs) (e : Entry) (q : Process) (s : Space) (b : Bool) (change : Change) → ImagesFit A.images → IsNumbered flat → process_of flat pid ≡ Some q → q.holding ≡ Holds s → is_borrower flat.processes pid ≡ b → Own b change
+    → is_out k.place pid ≡ false → k.place.due ≡ [] → MayChange flat change → ExecFits A.images change → SameTables k flat → Stands A.images k flat → Told A (next_of A.images k pid regs e change) (apply_change A.images flat pid regs change)
+own_told A k flat pid regs e q s b Keep fit nums f h w o out due m x t st = record { tables = keep_tables k A.images flat pid regs e q s nums f h t; stands = keep_stands A.images k flat pid regs e q s t f h out st }
+own_told A k flat pid regs e q s b (Resize d r) fit nums f h w o out due m x t st = record { tables = resize_tables k A.images flat pid regs e d r q s nums f h t; stands = resize_stands A.images k flat pid regs e d r q s t f h out st }
+own_told A k flat pid regs e q s b (Fork child) fit nums f h w o out due m x t st = subst (λ (c : ℕ). Told A (next_of A.images k pid regs e (Fork c)) (apply_change A.images flat pid regs (Fork c))) (sym m)
+    (record { tables = fork_tables k A.images flat pid regs e q s nums f h t; stands = fork_stands A.images k flat pid regs e q s t due f h out st })
+own_told A k flat pid regs e q s b (Lend child) fit nums f h w o out due m x t st = subst (λ (c : ℕ). Told A (next_of A.images k pid regs e (Lend c)) (apply_change A.images flat pid regs (Lend c))) (sym m)
+    (record { tables = lend_tables k A.images flat pid regs e q s nums f h t; stands = lend_stands A.images k flat pid regs e q s t f h out st })
+own_told A k flat pid regs e q s b (Exec number top) fit nums f h w o out due m (named, im, whole) t st =
+    let i : ImageFits named = fit number named im in
+    record { tables = exec_tables k A.images flat pid regs e number top named q s nums f h (w ∙ own_false b number top o) im i.«data» whole t; stands = exec_stands A.images k flat pid regs e number top named q s t due f h out im st }
+own_told A k flat pid regs e q s b (Reap child) fit nums f h w o out due (z, status, fz, hz) x t st = record { tables = reap_tables k A.images flat pid regs e child status q z s nums f h fz hz t; stands = reap_stands A.images k flat pid regs e child status q z s t f h out fz hz st }
+own_told A k flat pid regs e q s b Sleep fit nums f h w o out due m x t st = record { tables = sleep_tables k A.images flat pid regs e q s nums f h t; stands = sleep_stands A.images k flat pid regs e q s t f h out st }
+own_told A k flat pid regs e q s b (End status) fit nums f h w o out due m x t st = record { tables = end_tables k A.images flat pid regs e status q s nums f h (w ∙ end_false b status o) t; stands = end_stands A.images k flat pid regs e status q s t f h st }
+
+-- What a process asks of its machine.
+
+pub takes_next : (k : Kernel) (flat : FlatState) (change : Change) → SameTables k flat → MayChange flat change → TakesNext k change
+takes_next k flat Keep t m = tt
+takes_next k flat (Resize d s) t m = tt
+takes_next k flat (Fork child) t m = m ∙ sym t.next_pid
+takes_next k flat (Lend child) t m = m ∙ sym t.next_pid
+takes_next k flat (Exec image top) t m = tt
+takes_next k flat (Reap child) t m = tt
+takes_next k flat Sleep t m = tt
+takes_next k flat (End status) t m = tt
+
+pub may_reap : (k : Kernel) (flat : FlatState) (change : Change) → SameTables k flat → MayChange flat change → MayReap k.processes change
+may_reap k flat Keep t m = tt
+may_reap k flat (Resize d s) t m = tt
+may_reap k flat (Fork child) t m = tt
+may_reap k flat (Lend child) t m = tt
+may_reap k flat (Exec image top) t m = tt
+may_reap k flat (Reap child) t (z, status, fz, hz) = coupled_reaps k flat child status z t fz hz
+may_reap k flat Sleep t m = tt
+may_reap k flat (End status) t m = tt
+
+-- parent and child live before the space passes
+pub lend_lives : (images : List NamedImage) (k : Kernel) (flat : FlatState) (pid : ℕ) (regs : Regs) (e : Entry) (q : Process) (s : Space) → IsNumbered flat → process_of flat pid ≡ Some q → q.holding ≡ Holds s → SameTables k flat
+    → (lives (flat_step images k pid regs e (Lend flat.next_pid)).processes pid ≡ true) × (lives (flat_step images k pid regs e (Lend flat.next_pid)).processes flat.next_pid ≡ true)
+lend_lives images k flat pid regs e q s nums f h t =
+    subst (λ (x : Kernel). (lives x.processes pid ≡ true) × (lives x.processes flat.next_pid ≡ true)) (sym (step_is images k pid regs e (Lend flat.next_pid) g.proc (HoldsSpace s.sid) g.kept g.life))
+    (ap lives_in parent_kept ∙ ap Rattle.page_model.specs.Kernel.has_life g.life, ap lives_in child_kept)
+  where
+    g : Stepping k flat pid q s
+    g = stepping k flat pid q s t f h
+
+    kp : Proc
+    kp = record g.proc { regs = regs }
+
+    kn : Proc
+    kn = child_proc kp flat.next_pid New
+
+    kept_found : numbered kept_pid kp.pid k.processes ≡ Some g.proc
+    kept_found = ap (λ (m : ℕ). numbered kept_pid m k.processes) g.pid_is ∙ g.kept
+
+    child_other : flat.next_pid ≢ kp.pid
+    child_other i = none_some q (sym (next_pid_none flat nums) ∙ ap (λ (m : ℕ). numbered pid_of m flat.processes) (i ∙ g.pid_is) ∙ g.found)
+
+    parent_kept : numbered kept_pid pid (with_proc k.processes kp ++ kn ∷ []) ≡ Some kp
+    parent_kept = pushed_found kept_pid pid (with_proc k.processes kp) kn kp (ap (λ (m : ℕ). numbered kept_pid m (with_proc k.processes kp)) (sym g.pid_is) ∙ with_at k.processes kp g.proc kept_found)
+
+    child_kept : numbered kept_pid flat.next_pid (with_proc k.processes kp ++ kn ∷ []) ≡ Some kn
+    child_kept = pushed_new kept_pid flat.next_pid (with_proc k.processes kp) kn (with_not k.processes kp flat.next_pid child_other ∙ kept_none k flat flat.next_pid t.processes (next_pid_none flat nums)) refl
+
+-- sound and numbered behind the change
+pub record Kept (A : Inputs) (l : Kernel) : Type 0 where
+  pub sound : Sound A.swap_blocks l
+  pub numbered : Numbered l
+
+pub own_kept : (A : Inputs) (k : Kernel) (flat : FlatState) (pid : ℕ) (regs : Regs) (e : Entry) (q : Process) (s : Space) (change : Change) → IsNumbered flat → process_of flat pid ≡ Some q → q.holding ≡ Holds s → SameTables k flat → MayChange flat change
+    → Sound A.swap_blocks (flat_step A.images k pid regs e change) → Numbered (flat_step A.images k pid regs e change) → Kept A (next_of A.images k pid regs e change)
+own_kept A k flat pid regs e q s Keep nums f h t m so n = record { sound = so; numbered = n }
+own_kept A k flat pid regs e q s (Resize d r) nums f h t m so n = record { sound = so; numbered = n }
+own_kept A k flat pid regs e q s (Fork child) nums f h t m so n = record { sound = so; numbered = n }
+own_kept A k flat pid regs e q s (Lend child) nums f h t m so n =
+    let l = subst (λ (c : ℕ). (lives (flat_step A.images k pid regs e (Lend c)).processes pid ≡ true) × (lives (flat_step A.images k pid regs e (Lend c)).processes c ≡ true)) (sym m) (lend_lives A.images k flat pid regs e q s nums f h t) in
+    record { sound = pass_sound A.swap_blocks (flat_step A.images k pid regs e (Lend child)) pid child l.0 l.1 so; numbered = pass_numbered (flat_step A.images k pid regs e (Lend child)) pid child n }
+own_kept A k flat pid regs e q s (Exec image top) nums f h t m so n = record { sound = so; numbered = n }
+own_kept A k flat pid regs e q s (Reap child) nums f h t m so n = record { sound = so; numbered = n }
+own_kept A k flat pid regs e q s Sleep nums f h t m so n = record { sound = so; numbered = n }
+own_kept A k flat pid regs e q s (End status) nums f h t m so n = record { sound = so; numbered = n }
+
+-- the placement and the holdings behind it
+pub record Lands (A : Inputs) (k : Kernel) (pid sid : ℕ) (e : Entry) (change : Change) (l : Kernel) : Type 0 where
+  pub place : l.place ≡ place_change A.images k.place pid sid false k.next_sid (length (append k.journal e)) change
+  pub holdings : l.holdings ≡ holdings_after k.holdings k.place l.place pid sid false change
+  pub journal : l.journal ≡ append k.journal e
+
+pub next_lands : (A : Inputs) (k : Kernel) (pid sid : ℕ) (regs : Regs) (e : Entry) (change : Change) → Lands A k pid sid e change (flat_step A.images k pid regs e change) → Lands A k pid sid e change (next_of A.images k pid regs e change)
+next_lands A k pid sid regs e Keep l = l
+next_lands A k pid sid regs e (Resize d r) l = l
+next_lands A k pid sid regs e (Fork child) l = l
+next_lands A k pid sid regs e (Lend child) l = record { place = l.place; holdings = l.holdings; journal = l.journal }
+next_lands A k pid sid regs e (Exec image top) l = l
+next_lands A k pid sid regs e (Reap child) l = l
+next_lands A k pid sid regs e Sleep l = l
+next_lands A k pid sid regs e (End status) l = l
+
+pub own_lands : (A : Inputs) (k : Kernel) (flat : FlatState) (pid : ℕ) (regs : Regs) (e : Entry) (q : Process) (s : Space) (change : Change) → process_of flat pid ≡ Some q → q.holding ≡ Holds s → SameTables k flat → Lands A k pid s.sid e change (next_of A.images k pid regs e change)
+own_lands A k flat pid regs e q s change f h t =
+    let g : Stepping k flat pid q s = stepping k flat pid q s t f h in
+    next_lands A k pid s.sid regs e change
+    (subst (Lands A k pid s.sid e change) (sym (step_is A.images k pid regs e change g.proc (HoldsSpace s.sid) g.kept g.life))
+    (subst (λ (n : ℕ). Lands A k n s.sid e change (by_life A.images k (record g.proc { regs = regs }) (HoldsSpace s.sid) e change)) g.pid_is (record { place = refl; holdings = refl; journal = refl })))
+
+-- who lives behind it
+pub own_lived : (A : Inputs) (k : Kernel) (flat : FlatState) (pid : ℕ) (regs : Regs) (e : Entry) (q : Process) (s : Space) (change : Change) (n : ℕ) → IsNumbered flat → process_of flat pid ≡ Some q → q.holding ≡ Holds s → SameTables k flat → MayChange flat change → WantsThese k pid change
+    → lives (next_of A.images k pid regs e change).processes n ≡ true → LivedOr k.processes change pid n
+own_lived A k flat pid regs e q s Keep n nums f h t m w l = flat_back A.images k pid regs e Keep n w l
+own_lived A k flat pid regs e q s (Resize d r) n nums f h t m w l = flat_back A.images k pid regs e (Resize d r) n w l
+own_lived A k flat pid regs e q s (Fork child) n nums f h t m w l = flat_back A.images k pid regs e (Fork child) n w l
+own_lived A k flat pid regs e q s (Lend child) n nums f h t m w l =
+    let x = subst (λ (c : ℕ). (lives (flat_step A.images k pid regs e (Lend c)).processes pid ≡ true) × (lives (flat_step A.images k pid regs e (Lend c)).processes c ≡ true)) (sym m) (lend_lives A.images k flat pid regs e q s nums f h t) in
+    flat_back A.images k pid regs e (Lend child) n w (sym (pass_lives (flat_step A.images k pid regs e (Lend child)) pid child x.0 x.1 n) ∙ l)
+own_lived A k flat pid regs e q s (Exec image top) n nums f h t m w l = flat_back A.images k pid regs e (Exec image top) n w l
+own_lived A k flat pid regs e q s (Reap child) n nums f h t m w l = flat_back A.images k pid regs e (Reap child) n w l
+own_lived A k flat pid regs e q s Sleep n nums f h t m w l = flat_back A.images k pid regs e Sleep n w l
+own_lived A k flat pid regs e q s (End status) n nums f h t m w l = flat_back A.images k pid regs e (End status) n w l
+
+-- what stands, and who lives
+pub record Changed (A : Inputs) (flat after : FlatState) (p : Placement) (hs : Holdings) (pid : ℕ) (change : Change) : Type 0 where
+  pub placed : Placed A after p hs
+  pub back : BackTo flat after pid change
+
+-- All of it.
+
+-- what is known of a change and of the process that makes it
+pub record Changing (A : Inputs) (flat : FlatState) (p : Placement) (hs found : Holdings) (pid : ℕ) (q : Process) (s : Space) (change : Change) : Type 0 where
+  pub images : ImagesFit A.images
+  pub numbers : IsNumbered flat
+  pub found_process : process_of flat pid ≡ Some q
+  pub holds : q.holding ≡ Holds s
+  pub resident : is_out p pid ≡ false
+  pub clear : p.due ≡ []
+  pub may : MayChange flat change
+  pub execs : ExecFits A.images change
+  pub pieces : place_all A.swap_blocks hs (change_wanted A.images flat s change) ≡ Ok found
+
+abbrev pub with_found : FlatState → Placement → Holdings → List Entry → Kernel
+with_found flat p found j = record (machine_of flat p found) { journal = j }
+
+pub fit_some : (s : Space) (o : Option SpacePages) → Fits (Some s) o → o ≡ None → ⊥
+fit_some s None f e = f
+fit_some s (Some x) f e = absurd cc
+
+pub own_change : (A : Inputs) (flat : FlatState) (p : Placement) (hs found : Holdings) (pid : ℕ) (regs : Regs) (j : List Entry) (e : Entry) (q : Process) (s : Space) (b : Bool) (change : Change) → Changing A flat p hs found pid q s change → is_borrower flat.processes pid ≡ b → Own b change
+    → SettlesFor p s.sid change → Placed A flat p hs
+    → Changed A flat (apply_change A.images flat pid regs change) (place_change A.images p pid s.sid b flat.next_sid (length (append j e)) change) (given_up flat (apply_change A.images flat pid regs change) pid s change found) pid change
+own_change A flat p hs found pid regs j e q s b change c w o settles st = record {
+  placed =
+      subst (Placed A after (place_change A.images p pid s.sid b flat.next_sid at change)) (sym back)
+      (subst (λ (x : Placement). Placed A after x (holdings_after found p l.place pid s.sid false change)) (lands.place ∙ keeps_place A.images p pid s.sid b flat.next_sid at change o)
+      (subst (Placed A after l.place) lands.holdings
+      (from_machine A after l kept.sound kept.numbered told.tables told.stands dues once parts frames)));
+  back = back_from k l flat after pid change refl told.tables (λ m x. own_lived A k flat pid regs e q s change m c.numbers c.found_process c.holds t c.may (wants_these k pid change n ready) x);
+}
+  where
+    at : ℕ
+    at = length (append j e)
+
+    after : FlatState
+    after = apply_change A.images flat pid regs change
+
+    k : Kernel
+    k = with_found flat p found j
+
+    so : Sound A.swap_blocks (machine_of flat p hs)
+    so = st.sound
+
+    before : Sound A.swap_blocks (record k { holdings = hs })
+    before = record { owner = so.owner; tokens = so.tokens; hands = so.hands; few_transfers = so.few_transfers }
+
+    nb : Numbered (machine_of flat p hs)
+    nb = st.numbered
+
+    n : Numbered k
+    n = record { spaces_differ = nb.spaces_differ; spaces_below = nb.spaces_below; pids_differ = nb.pids_differ; pids_below = nb.pids_below }
+
+    tb : SameTables (machine_of flat p hs) flat
+    tb = st.tables
+
+    t : SameTables k flat
+    t = record { processes = tb.processes; next_pid = refl; next_sid = refl; spaces = tb.spaces }
+
+    sb : Stands A.images (machine_of flat p hs) flat
+    sb = st.stands
+
+    stands : Stands A.images k flat
+    stands = record { starts = λ x h. refl; texts = sb.texts; out = sb.out }
+
+    ready : ReadyFor k pid change
+    ready = coupled_ready k flat pid q s change t c.found_process c.holds (takes_next k flat change t c.may) (may_reap k flat change t c.may) settles
+
+    pieces : place_all A.swap_blocks hs (asked A.images k pid change) ≡ Ok found
+    pieces = ap (place_all A.swap_blocks hs) (change_same A.images k flat pid q s change c.images sb.texts n c.numbers t c.found_process c.holds) ∙ c.pieces
+
+    l : Kernel
+    l = next_of A.images k pid regs e change
+
+    kept : Kept A l
+    kept = own_kept A k flat pid regs e q s change c.numbers c.found_process c.holds t c.may (ready_sound A.swap_blocks A.images k hs pid regs e change before n ready pieces) (flat_numbered A.images k pid regs e change (takes_next k flat change t c.may) n)
+
+    told : Told A l after
+    told = own_told A k flat pid regs e q s b change c.images c.numbers c.found_process c.holds w o c.resident c.clear c.may c.execs t stands
+
+    lands : Lands A k pid s.sid e change l
+    lands = own_lands A k flat pid regs e q s change c.found_process c.holds t
+
+    fits : Fits (Some s) (numbered space_number s.sid p.spaces)
+    fits = subst (λ (x : Option Space). Fits x (numbered space_number s.sid p.spaces)) (own_space flat pid q s c.numbers c.found_process c.holds) (tb.spaces s.sid)
+
+    apart : flat.next_sid ≢ s.sid
+    apart i = fit_some s (numbered space_number s.sid p.spaces) fits (ap (λ (m : ℕ). numbered space_number m p.spaces) (sym i) ∙ next_new flat p c.numbers tb.spaces)
+
+    is_apart : (x : Change) → ApartFrom s.sid false flat.next_sid x
+    is_apart Keep = tt
+    is_apart (Resize d r) = tt
+    is_apart (Fork child) = tt
+    is_apart (Lend child) = tt
+    is_apart (Exec image top) = λ z. apart
+    is_apart (Reap child) = tt
+    is_apart Sleep = tt
+    is_apart (End status) = tt
+
+    g : Stepping k flat pid q s
+    g = stepping k flat pid q s t c.found_process c.holds
+
+    ow : OneOwner A.swap_blocks (lives k.processes) p hs
+    ow = so.owner
+
+    can : CanChange p s.sid false flat.next_sid change
+    can = subst (λ (x : Life). CanChange p (space_of_life x) (gave_back x) flat.next_sid change) (ap life_of_proc g.kept ∙ g.life) (may_change A.images k pid change ow.frames n ready).can
+
+    un : Unhanded p (place_change A.images p pid s.sid false flat.next_sid at change)
+    un = change_unhanded A.images p pid s.sid false flat.next_sid at change
+
+    hands : SameHands p (place_change A.images p pid s.sid false flat.next_sid at change)
+    hands = un.hands
+
+    dues : DueStand l.place
+    dues = subst DueStand (sym lands.place) (change_due A.images p pid s.sid false flat.next_sid at change c.clear can (is_apart change))
+
+    once : EachOnce l.place.due
+    once = subst (λ (x : Placement). EachOnce x.due) (sym lands.place) (change_once A.images p pid s.sid false flat.next_sid at change c.clear)
+
+    parts : HaveParts l.place.transfers
+    parts = subst (λ (x : Placement). HaveParts x.transfers) (sym lands.place) (subst HaveParts (sym un.transfers) st.parts)
+
+    frames : length l.place.holds ≡ A.frames
+    frames = subst (λ (x : Placement). length x.holds ≡ A.frames) (sym lands.place) (hands.frames ∙ st.frames)
+
+    numbers : IsNumbered after
+    numbers = Rattle.page_laws.proofs.FlatNumbers.changes_numbered A.images flat pid regs change q s c.found_process c.holds c.may c.numbers
+
+    shared : Rattle.flat_model.specs.Asked.is_shared after s.image ≡ Rattle.flat_laws.proofs.Asking.is_some_of Rattle.flat_laws.proofs.Asking.image_of_pages s.image l.place.spaces
+    shared = shared_same l after s.image kept.numbered numbers told.tables
+
+    image : image_of p s.sid ≡ s.image
+    image = fit_image s (numbered space_number s.sid p.spaces) fits
+
+    back : given_up flat after pid s change found ≡ holdings_after found p l.place pid s.sid false change
+    back = given_same flat after pid s change found p l.place b w image
+        (λ z. ((λ i. shared ∙ no_sharers s.image l.place.spaces (ap (sharers l.place) (sym image) ∙ i)), (λ m i. shared ∙ some_sharers s.image m l.place.spaces (ap (sharers l.place) (sym image) ∙ i))))
+        ∙ keeps_holdings found p l.place pid s.sid b change o

@@ -1,0 +1,39 @@
+-- The swap image along a run.
+use Rattle.std.specs.Prelude.{◌≡◌, ℕ, List, [], ◌∷◌, Some}
+use Rattle.vm_facts.specs.Flat.{Process}
+use Rattle.vm_facts.specs.declared.page.Page.{Page}
+use Rattle.vm_facts.specs.declared.page.PageState.TheVariants.{OnSwap}
+use Rattle.vm_facts.specs.declared.entry.Entry.{Entry}
+use Rattle.vm_facts.specs.declared.entry.Entry.TheVariants as entries
+use Rattle.page_model.specs.Flat.{Inputs, process_of}
+use Rattle.page_model.specs.Placement.{Transfer, Part, Errand, Writes, Reads, state_of}
+use Rattle.page_model.specs.Kernel.{Kernel, AreRegs, frame_bytes, memory_of, stored}
+use Rattle.flat_model.specs.State.{State}
+use Rattle.flat_model.specs.After.{after}
+
+-- who goes out has sixteen registers of longwords
+abbrev pub OutFits : State → Entry → Type 0
+OutFits s (entries.SwapOut pid) = (q : Process) → process_of s.point.flat pid ≡ Some q → AreRegs q.regs
+OutFits s u = Unit {0}
+
+abbrev pub OutsFit : Inputs → State → List Entry → Type 0
+OutsFit A s [] = Unit {0}
+OutsFit A s (u ∷ us) = OutFits s u × OutsFit A (after A s u) us
+
+-- each of these frames has the flat bytes of its page
+abbrev pub AreFlat : Inputs → State → Kernel → List Part → Type 0
+AreFlat A s k [] = Unit {0}
+AreFlat A s k (x ∷ xs) = (frame_bytes k x.frame ≡ memory_of A.images s.point.flat x.page) × AreFlat A s k xs
+
+abbrev pub WritesFlat : Inputs → State → Kernel → Errand → List Part → Type 0
+WritesFlat A s k Writes xs = AreFlat A s k xs
+WritesFlat A s k (Reads source demanded) xs = Unit {0}
+
+-- what is in flight to swap has its flat bytes
+abbrev pub AllFlat : Inputs → State → Kernel → List Transfer → Type 0
+AllFlat A s k [] = Unit {0}
+AllFlat A s k (t ∷ ts) = WritesFlat A s k t.errand t.parts × AllFlat A s k ts
+
+-- what a swap image has of each page that is there alone
+abbrev pub HasSwapped : Inputs → State → List ℕ → Type 0
+HasSwapped A s image = (q : Page) → state_of s.place q ≡ OnSwap → stored s.holdings image q ≡ memory_of A.images s.point.flat q

@@ -1,0 +1,224 @@
+-- What each unit of a run makes of the whole machine with its bytes and of the swap image, and what stands of it then.
+use Rattle.std.specs.Prelude.{◌≡◌, ℕ, ◌*◌, ◌%◌, ◌==◌, ◌≤◌, Bool, true, false, cond, List, [], ◌∷◌, length, Option, Some, None}
+use Rattle.vm_facts.specs.Answers.{ByteWrite}
+use Rattle.vm_facts.specs.Flat.{Space, Holding, Holds, Lends, Zombie, Process, FlatState}
+use Rattle.vm_facts.specs.declared.page.Page.{Page}
+use Rattle.vm_facts.specs.declared.page.Page.TheVariants.{Data, Stack}
+use Rattle.vm_facts.specs.declared.page.PageState.{PageState}
+use Rattle.vm_facts.specs.declared.page.PageState.TheVariants.{Valid}
+use Rattle.vm_facts.specs.declared.regs.Regs.{Regs}
+use Rattle.vm_facts.specs.declared.entry.Entry.{Entry}
+use Rattle.vm_facts.specs.declared.entry.Entry.TheVariants as entries
+use Rattle.swap_book.specs.declared.Owner.TheVariants as owners
+use Rattle.swap_book.specs.Holdings.{block_in}
+use Rattle.swap_book.specs.Placing.{Wanted}
+use Rattle.page_model.specs.declared.spot.Spot.{Spot}
+use Rattle.page_model.specs.declared.spot.Spot.TheVariants as spots
+use Rattle.page_model.specs.declared.change.Change.{Change}
+use Rattle.page_model.specs.declared.change.Change.TheVariants.{Lend, Exec, End}
+use Rattle.page_model.specs.Space.{address_in}
+use Rattle.page_model.specs.Flat.{NamedImage, Inputs, process_of}
+use Rattle.page_model.specs.Pages.{numbered}
+use Rattle.page_model.specs.Placement.{Placement, slots_of, state_of}
+use Rattle.page_model.specs.Place.{is_borrower}
+use Rattle.page_model.specs.Swapper.{is_out}
+use Rattle.page_model.specs.Kernel.{Kernel, Proc, Life, New, HoldsSpace, LendsSpace, Ended, Sound, Coupled, AreRegs, AreRead, beside_kernel, plain_step, zero_step, copy_step, get_step, reclaim_step, push_step, done_step, write_step, note_step, out_step, in_step, image_after, stored_at, store_at, u_page, regs_in}
+use Rattle.page_model.specs.FlatStep.{flat_step, ran_by, pass_step, space_of_life}
+use Rattle.page_laws.specs.Numbers.{Numbered}
+use Rattle.page_laws.specs.FlatStands.{Stands}
+use Rattle.flat_model.specs.Touched.{page_tested}
+use Rattle.flat_model.specs.Run.{step_at}
+use Rattle.flat_model.specs.Asked.{with_pieces, wanted_if}
+use Rattle.flat_model.specs.State.{State}
+use Rattle.flat_model.specs.Wanted.{locked}
+use Rattle.flat_model.specs.After.{after}
+use Rattle.run_model.specs.Next.{next_unit}
+use Rattle.page_laws.specs.Start.{ImagesFit}
+use Rattle.run_laws.specs.Running.{IsRun}
+
+-- Bytes that a process writes.
+
+-- the place of a byte in its page
+abbrev pub place_in : Spot → ℕ
+place_in (spots.Text i) = i % 1024
+place_in (spots.Data i) = i % 1024
+place_in (spots.Stack i) = i % 1024
+place_in spots.Below = 0
+place_in spots.Outside = 0
+
+abbrev pub write_into : Kernel → Page → PageState → ℕ → ℕ → Kernel
+write_into k q (Valid f) at byte = write_step k q f at byte
+write_into k q _ at byte = k
+
+abbrev pub write_page : Kernel → Option Page → ℕ → ℕ → Kernel
+write_page k None at byte = k
+write_page k (Some q) at byte = write_into k q (state_of k.place q) at byte
+
+-- a byte goes into the frame of its page
+abbrev pub write_byte : Kernel → Space → ByteWrite → Kernel
+write_byte k s w = write_page k (page_tested s (address_in s w.address)) (place_in (address_in s w.address)) w.byte
+
+abbrev pub write_bytes : Kernel → Space → List ByteWrite → Kernel
+write_bytes k s [] = k
+write_bytes k s (w ∷ ws) = write_bytes (write_byte k s w) s ws
+
+abbrev pub write_held : Kernel → Holding → List ByteWrite → Kernel
+write_held k (Holds s) ws = write_bytes k s ws
+write_held k (Lends sid child) ws = k
+write_held k (Zombie status) ws = k
+
+abbrev pub write_by : Kernel → Option Process → List ByteWrite → Kernel
+write_by k None ws = k
+write_by k (Some q) ws = write_held k q.holding ws
+
+-- Changes.
+
+abbrev pub lends_life : ℕ → Life → Bool
+lends_life pid New = false
+lends_life pid (HoldsSpace sid) = false
+lends_life pid (LendsSpace sid child) = child == pid
+lends_life pid (Ended status) = false
+
+-- the first process that lent a space to this one
+abbrev pub lender_among : List Proc → ℕ → ℕ
+lender_among [] pid = 0
+lender_among (p ∷ ps) pid = cond (lends_life pid p.life) p.pid (lender_among ps pid)
+
+-- who has a space of its own, or keeps the one that it borrowed; a space that it lends passes to the child
+abbrev pub keeps_step : List NamedImage → Kernel → ℕ → Regs → Entry → Change → Kernel
+keeps_step images k pid regs e (Lend child) = pass_step (flat_step images k pid regs e (Lend child)) pid child
+keeps_step images k pid regs e change = flat_step images k pid regs e change
+
+-- who borrowed its space gives it back before a new image and before its end
+abbrev pub back_step : List NamedImage → Kernel → ℕ → Regs → Entry → Change → Kernel
+back_step images k pid regs e (Exec image top) = flat_step images (pass_step k pid (lender_among k.processes pid)) pid regs e (Exec image top)
+back_step images k pid regs e (End status) = flat_step images (pass_step k pid (lender_among k.processes pid)) pid regs e (End status)
+back_step images k pid regs e change = keeps_step images k pid regs e change
+
+-- an entry of a process with its change, by whether the process borrowed its space
+abbrev pub change_step : Bool → List NamedImage → Kernel → ℕ → Regs → Entry → Change → Kernel
+change_step true = back_step
+change_step false = keeps_step
+
+-- pieces find their places
+abbrev pub takes_step : Inputs → Kernel → List Wanted → Kernel
+takes_step A k ws = record k { holdings = with_pieces A ws k.holdings }
+
+-- the bytes of a process's step, as its frames have them
+abbrev pub written_step : Inputs → State → Kernel → ℕ → Kernel
+written_step A s k pid = write_by k (process_of s.point.flat pid) (step_at A s.point pid).writes
+
+-- and with the pieces that it takes
+abbrev pub taken_step : Inputs → State → Kernel → ℕ → Kernel
+taken_step A s k pid = takes_step A (written_step A s k pid) (wanted_if A.images s.point.flat (step_at A s.point pid).change (process_of s.point.flat pid))
+
+-- the whole step
+abbrev pub process_step : Inputs → State → Kernel → ℕ → Entry → Kernel
+process_step A s k pid e =
+    change_step (is_borrower s.point.flat.processes pid) A.images (taken_step A s k pid) pid (step_at A s.point pid).regs e (step_at A s.point pid).change
+
+abbrev pub ran_step : Inputs → State → Kernel → ℕ → ℕ → Kernel
+ran_step A s k pid n = ran_by (written_step A s k pid) pid (step_at A s.point pid).regs (entries.Ran pid n)
+
+-- Units.
+
+-- the u page of a process
+abbrev pub u_bytes : Kernel → Option Proc → List ℕ
+u_bytes k None = []
+u_bytes k (Some p) = u_page p.regs (length (slots_of k.place (Data (space_of_life p.life) 0))) (length (slots_of k.place (Stack (space_of_life p.life) 0)))
+
+abbrev pub proc_of : Kernel → ℕ → Option Proc
+proc_of k pid = numbered (λ (p : Proc). p.pid) pid k.processes
+
+-- the machine behind a unit, with what was read for the oldest transfer
+abbrev pub unit_step : Inputs → State → Kernel → List ℕ → List (List ℕ) → Entry → Kernel
+unit_step A s k image read (entries.Zero q) = zero_step k q
+unit_step A s k image read (entries.Copy q) = copy_step k q
+unit_step A s k image read (entries.Get q lo n) = get_step k q lo n
+unit_step A s k image read (entries.Reclaim q) = reclaim_step k q
+unit_step A s k image read (entries.Hands n) = plain_step k (locked A s) (entries.Hands n)
+unit_step A s k image read (entries.Put q n) = push_step k q n
+unit_step A s k image read entries.Done = done_step k read
+unit_step A s k image read (entries.SwapOut pid) = out_step k pid
+unit_step A s k image read (entries.SwapIn pid) = in_step k pid (regs_in (stored_at image (block_in k.holdings (owners.U pid) 0)))
+unit_step A s k image read (entries.Ran pid n) = ran_step A s k pid n
+unit_step A s k image read (entries.Grew pid pages) = process_step A s k pid (entries.Grew pid pages)
+unit_step A s k image read (entries.Call pid number carry r0 r1) = process_step A s k pid (entries.Call pid number carry r0 r1)
+unit_step A s k image read (entries.Sleeps pid) = process_step A s k pid (entries.Sleeps pid)
+unit_step A s k image read (entries.Ended pid status) = process_step A s k pid (entries.Ended pid status)
+unit_step A s k image read e = note_step k e
+
+-- the swap image behind it
+abbrev pub unit_image : Kernel → List ℕ → Entry → List ℕ
+unit_image k image entries.Done = image_after k image
+unit_image k image (entries.SwapOut pid) = store_at image (block_in k.holdings (owners.U pid) 0) (u_bytes k (proc_of k pid))
+unit_image k image e = image
+
+-- what a unit is given: at `Done` what was read is what stands where the transfer reads; and who goes out has sixteen
+-- registers of longwords
+abbrev pub IsGiven : Inputs → State → Kernel → List ℕ → List (List ℕ) → Entry → Type 0
+IsGiven A s k image read entries.Done = AreRead (beside_kernel k A.images image s.point.flat) k.place.transfers read
+IsGiven A s k image read (entries.SwapOut pid) = (p : Proc) → proc_of k pid ≡ Some p → AreRegs p.regs
+IsGiven A s k image read e = Unit {0}
+
+-- What stands.
+
+-- who is out has registers that its u page gives back
+abbrev pub OutRegs : Placement → FlatState → Type 0
+OutRegs p flat = (pid : ℕ) (q : Process) → is_out p pid ≡ true → process_of flat pid ≡ Some q → AreRegs q.regs
+
+-- a machine and a swap image stand for a flat state
+pub record Keeps (A : Inputs) (flat : FlatState) (k : Kernel) (image : List ℕ) : Type 0 where
+  pub sound : Sound A.swap_blocks k
+  pub numbered : Numbered k
+  pub coupled : Coupled k A.images image flat
+  pub stands : Stands A.images k flat
+  pub room : 512 * A.swap_blocks ≤ length image
+  pub out_regs : OutRegs k.place flat
+
+-- A machine and a swap image stand at a state of a run: they have its placement, its holdings and its journal, and
+-- stand for its flat state.
+pub record StandsAt (A : Inputs) (s : State) (k : Kernel) (image : List ℕ) : Type 0 where
+  pub place : k.place ≡ s.place
+  pub holdings : k.holdings ≡ s.holdings
+  pub journal : k.journal ≡ s.journal
+  pub keeps : Keeps A s.point.flat k image
+
+-- Runs.
+
+-- these next units lead from a state, a machine and a swap image to others
+abbrev pub Makes : Inputs → State → Kernel → List ℕ → List Entry → State → Kernel → List ℕ → Type 0
+Makes A s k image [] t l behind = (s ≡ t) × (k ≡ l) × (image ≡ behind)
+Makes A s k image (u ∷ us) t l behind =
+    (next_unit A s ≡ Some u) × ((read : List (List ℕ)) × IsGiven A s k image read u × Makes A (after A s u) (unit_step A s k image read u) (unit_image k image u) us t l behind)
+
+-- Kinds of units.
+
+-- an entry that changes nothing but the journal
+abbrev pub IsNote : Entry → Type 0
+IsNote (entries.Event line) = Unit {0}
+IsNote (entries.Turn pid) = Unit {0}
+IsNote (entries.Out pid bytes) = Unit {0}
+IsNote (entries.Refused pid) = Unit {0}
+IsNote (entries.Owners free used moving held) = Unit {0}
+IsNote _ = ⊥
+
+-- an entry that completes a process's step with a change
+abbrev pub Completes : ℕ → Entry → Type 0
+Completes pid (entries.Grew p pages) = p ≡ pid
+Completes pid (entries.Call p number carry r0 r1) = p ≡ pid
+Completes pid (entries.Sleeps p) = p ≡ pid
+Completes pid (entries.Ended p status) = p ≡ pid
+Completes pid _ = ⊥
+
+-- A next unit at a state at which a machine and a swap image stand.
+pub record Next (A : Inputs) (s : State) (k : Kernel) (image : List ℕ) (u : Entry) : Type 0 where
+  pub images : ImagesFit A.images
+  pub run : IsRun A s
+  pub at : StandsAt A s k image
+  pub next : next_unit A s ≡ Some u
+
+-- an entry that completes a process's step, with or without a change
+abbrev pub EndsStep : ℕ → Entry → Type 0
+EndsStep pid (entries.Ran p n) = p ≡ pid
+EndsStep pid u = Completes pid u
