@@ -1,0 +1,274 @@
+-- Forcing a frame adds few entries.
+use Rattle.std.proofs.Common.{◌≡◌, ◌⊎◌, inl, inr, ℕ, zero, suc, ◌+◌, ◌/◌, ◌<◌, ◌≤◌, Bool, true, false, List, [], ◌∷◌, length, Option, Some, None, refl, sym, ap, ◌∙◌, subst, arith}
+use Rattle.std.proofs.lemmas.List.{length_push}
+use Rattle.vm_facts.specs.declared.page.Page.{Page}
+use Rattle.vm_facts.specs.declared.page.PageState.{PageState}
+use Rattle.vm_facts.specs.declared.page.PageState.TheVariants.{Unfilled, Valid, Invalid, Coming, Going, OnSwap}
+use Rattle.vm_facts.specs.declared.entry.Entry.{Entry}
+use Rattle.vm_facts.specs.declared.entry.Entry.TheVariants as entries
+use Rattle.page_model.specs.Pages.{is_among}
+use Rattle.page_model.specs.Frames.{times}
+use Rattle.page_model.specs.Placement.{Placement, Transfer, Part, Errand, Writes, state_of, is_dirty, page_of}
+use Rattle.page_model.specs.Moves.{launch, launch_to, launch_all, land, land_all, done, done_of, begin, retire, retire_to}
+use Rattle.page_model.specs.Runs.{run_out, pages_of_run}
+use Rattle.page_model.specs.Hands.{expire, sweep, sweep_of, sweep_to, sweep_by, hand_move}
+use Rattle.page_model.specs.Serve.{force, force_by, force_entry, Forces}
+use Rattle.page_model.specs.Rank.{is_usable, HandsStand, HasRoom, far, far_by, far_transfers, reach}
+use Rattle.page_model.specs.Ownership.{OwnsFrames}
+use Rattle.page_laws.proofs.Owns.{expire_owner}
+use Rattle.page_laws.proofs.OwnsServe.{force_owner}
+use Rattle.page_laws.proofs.Stays.{expire_free, expire_transfers}
+use Rattle.page_laws.proofs.Ends.{Freed, HasWrite, sweep_frees, sweep_idles, far_bound}
+use Rattle.page_laws.proofs.ServeEnds.{land_all_free, land_all_transfers, force_falls}
+use Rattle.page_laws.proofs.ServeStands.{force_stands, force_frames}
+use Rattle.page_laws.proofs.Wholes.{force_room}
+use Rattle.page_laws.proofs.OwnsHands.{move_owner}
+use Rattle.economy_laws.specs.Spans.{adds, added, moves_of}
+use Rattle.economy_laws.proofs.Spanning.{adds_one}
+
+-- What a step leaves.
+
+-- a write that ends frees a frame
+pub write_frees : (xs : List Part) (p : Placement) (ts : List Transfer) → (xs ≡ [] → ⊥) → 0 < length (land_all p Writes xs ts).free
+write_frees [] p ts n = absurd (n refl)
+write_frees (x ∷ xs) p ts n =
+    let a = length_push p.free x.frame in
+    let b = land_all_free xs (land p Writes x (record { errand = Writes; parts = xs } ∷ ts)) Writes ts in
+    omega arith
+
+pub done_rest : (p : Placement) (t : Transfer) (ts : List Transfer) → p.transfers ≡ t ∷ ts → (done p).transfers ≡ ts
+done_rest p t ts e = ap (λ (us : List Transfer). (done_of p us).transfers) e ∙ land_all_transfers t.parts p t.errand ts
+
+pub done_free : (p : Placement) → length p.free ≤ length (done p).free
+done_free p = go p.transfers
+  where
+    go : (ts : List Transfer) → length p.free ≤ length (done_of p ts).free
+    go [] = omega arith
+    go (t ∷ ts) = land_all_free t.parts p t.errand ts
+
+launch_free : (p : Placement) (v : Page) → (launch p v).free ≡ p.free
+launch_free p v = go (state_of p v)
+  where
+    go : (s : PageState) → (launch_to p v s).free ≡ p.free
+    go (Valid f) = refl
+    go (Invalid f) = refl
+    go Unfilled = refl
+    go (Coming f) = refl
+    go (Going f) = refl
+    go OnSwap = refl
+
+launch_all_free : (qs : List Page) (p : Placement) → (launch_all p qs).free ≡ p.free
+launch_all_free [] p = refl
+launch_all_free (v ∷ qs) p = launch_all_free qs (launch p v) ∙ launch_free p v
+
+retire_transfers : (p : Placement) (v : Page) → (retire p v).transfers ≡ p.transfers
+retire_transfers p v = go (state_of p v)
+  where
+    go : (s : PageState) → (retire_to p v s).transfers ≡ p.transfers
+    go (Valid f) = refl
+    go (Invalid f) = refl
+    go Unfilled = refl
+    go (Coming f) = refl
+    go (Going f) = refl
+    go OnSwap = refl
+
+-- the back hand frees nothing, or begins nothing
+pub sweep_either : (p : Placement) (locked : List Page) → ((sweep p locked).free ≡ p.free) ⊎ ((sweep p locked).transfers ≡ p.transfers)
+sweep_either p locked = go (page_of p p.back)
+  where
+    by : (q : Page) (d : Bool) → ((sweep_by p locked q d).free ≡ p.free) ⊎ ((sweep_by p locked q d).transfers ≡ p.transfers)
+    by q true = inl (launch_all_free (pages_of_run q (run_out p locked q)) (begin p Writes))
+    by q false = inr (retire_transfers p q)
+
+    to : (q : Page) (s : PageState) (n : ℕ) (b : Bool) → ((sweep_to p locked q s n b).free ≡ p.free) ⊎ ((sweep_to p locked q s n b).transfers ≡ p.transfers)
+    to q (Invalid f) zero false = by q (is_dirty p q)
+    to q (Invalid f) zero true = inr refl
+    to q (Invalid f) (suc n) b = inr refl
+    to q Unfilled n b = inr refl
+    to q (Valid f) n b = inr refl
+    to q (Coming f) n b = inr refl
+    to q (Going f) n b = inr refl
+    to q OnSwap n b = inr refl
+
+    go : (h : Option Page) → ((sweep_of p locked p.back h).free ≡ p.free) ⊎ ((sweep_of p locked p.back h).transfers ≡ p.transfers)
+    go None = inr refl
+    go (Some q) = to q (state_of p q) (times p.back p.free) (is_among q locked)
+
+-- What a move of the hands leaves where no frame is free and nothing in flight: a free frame; one write; or nothing new.
+pub data Moved (q : Placement) : Type 0 where
+  Frees : 0 < length q.free → q.transfers ≡ [] → Moved q
+  Writing : q.free ≡ [] → HasWrite q.transfers → Moved q
+  Idles : q.free ≡ [] → q.transfers ≡ [] → Moved q
+
+some_or : {A : Type 0} (xs : List A) → (xs ≡ []) ⊎ (0 < length xs)
+some_or [] = inl refl
+some_or (x ∷ xs) = inr (omega arith)
+
+pub moved : (p : Placement) (locked : List Page) → OwnsFrames p → p.free ≡ [] → p.transfers ≡ [] → Moved (hand_move p locked)
+moved p locked o e t = go (is_usable (expire p locked) locked (expire p locked).back) refl
+  where
+    still : (expire p locked).free ≡ []
+    still = expire_free p locked ∙ e
+
+    none : (expire p locked).transfers ≡ []
+    none = expire_transfers p locked ∙ t
+
+    writes : (sweep (expire p locked) locked).free ≡ [] → Freed (sweep (expire p locked) locked) → Moved (hand_move p locked)
+    writes z (inl n) = absurd (n z)
+    writes z (inr w) = Writing z w
+
+    lands : (sweep (expire p locked) locked).transfers ≡ [] → Freed (sweep (expire p locked) locked) → Moved (hand_move p locked)
+    lands z (inl n) = elim (some_or (sweep (expire p locked) locked).free) [
+      | inl k ↦ absurd (n k)
+      | inr l ↦ Frees l z
+    ]
+    lands z (inr w) = absurd (subst HasWrite z w)
+
+    go : (b : Bool) → is_usable (expire p locked) locked (expire p locked).back ≡ b → Moved (hand_move p locked)
+    go true i =
+        let a : Freed (sweep (expire p locked) locked) = sweep_frees (expire p locked) locked (expire_owner p locked o) still none i in
+        elim (sweep_either (expire p locked) locked) [
+          | inl k ↦ writes (k ∙ still) a
+          | inr k ↦ lands (k ∙ none) a
+        ]
+    go false i =
+        let same : sweep (expire p locked) locked ≡ expire p locked = sweep_idles (expire p locked) locked i in
+        Idles (ap (λ (q : Placement). q.free) same ∙ still) (ap (λ (q : Placement). q.transfers) same ∙ none)
+
+-- Counting.
+
+-- where a frame is free no unit forces one
+pub no_units : (us : List Entry) (p r : Placement) (locked : List Page) → 0 < length p.free → Forces us p locked r → (us ≡ []) × (p ≡ r)
+no_units [] p r locked l h = (refl, h)
+no_units (e ∷ es) p r locked l h = absurd (let k = ap length h.0 in omega arith)
+
+one_write : (ts : List Transfer) → HasWrite ts → length ts ≡ 1
+one_write [] h = absurd h
+one_write (t ∷ ts) h = ap (λ (us : List Transfer). length (t ∷ us)) h.2
+
+-- these units add so many entries at most, by what stays in flight; where a frame is free at the end, no more than so many
+-- transfers are in flight; and the hands make no more than so many moves
+pub record Short (b : Bool) (us : List Entry) (r : Placement) (most flights hands : ℕ) : Type 0 where
+  pub few : added b us + length r.transfers ≤ most
+  pub rest : 0 < length r.free → length r.transfers ≤ flights
+  pub moves : moves_of us ≤ hands
+
+-- the write that the back hand began ends, and a frame is free
+writing : (b : Bool) (us : List Entry) (p r : Placement) (locked : List Page) → p.free ≡ [] → HasWrite p.transfers → Forces us p locked r → Short b us r 1 0 0
+writing b [] p r locked fr w h = record {
+  few = subst (λ (x : Placement). 0 + length x.transfers ≤ 1) h (omega (arith, one_write p.transfers w));
+  rest = λ l. absurd (let k : length r.free ≡ 0 = subst (λ (x : Placement). length x.free ≡ 0) h (ap length fr) in omega arith);
+  moves = omega arith;
+}
+writing b (e ∷ es) p r locked fr w h = go p.transfers refl w h.1 h.2
+  where
+    go : (ts : List Transfer) → p.transfers ≡ ts → HasWrite ts → e ≡ force_entry ts → Forces es (force_by p locked ts) locked r → Short b (e ∷ es) r 1 0 0
+    go [] k v i f = absurd v
+    go (t ∷ ts) k v i f = subst (λ (x : Entry). Short b (x ∷ es) r 1 0 0) (sym i) (subst (λ (xs : List Entry). Short b (entries.Done ∷ xs) r 1 0 0) (sym n.0) (record {
+      few = let a = adds_one b entries.Done refl in omega (arith, none);
+      rest = λ l. omega (arith, none);
+      moves = omega arith;
+    }))
+      where
+        free : 0 < length (done p).free
+        free = subst (λ (q : Placement). 0 < length q.free) (sym (ap (done_of p) k)) (subst (λ (d : Errand). 0 < length (land_all p d t.parts ts).free) (sym v.0) (write_frees t.parts p ts v.1))
+
+        n : (es ≡ []) × (done p ≡ r)
+        n = no_units es (done p) r locked free f
+
+        none : length r.transfers ≡ 0
+        none = subst (λ (q : Placement). length q.transfers ≡ 0) n.1 (ap length (done_rest p t ts k ∙ v.2))
+
+-- with nothing in flight the hands move till a frame is free, or a write begins
+moving : (b : Bool) (us : List Entry) (p r : Placement) (locked : List Page) → OwnsFrames p → p.transfers ≡ [] → Forces us p locked r → Short b us r (adds b (entries.Hands 1) + 1) 0 (length us)
+moving b [] p r locked o t h = record {
+  few = subst (λ (x : Placement). 0 + length x.transfers ≤ adds b (entries.Hands 1) + 1) h (omega (arith, ap length t));
+  rest = λ l. subst (λ (x : Placement). length x.transfers ≤ 0) h (omega (arith, ap length t));
+  moves = omega arith;
+}
+moving b (e ∷ es) p r locked o t h = subst (λ (x : Entry). Short b (x ∷ es) r (adds b (entries.Hands 1) + 1) 0 (length (e ∷ es))) (sym (h.1 ∙ ap force_entry t))
+    (by (moved p locked o h.0 t) (subst (λ (q : Placement). Forces es q locked r) (ap (force_by p locked) t) h.2) (λ z f. moving true es (hand_move p locked) r locked (move_owner p locked o) z f))
+  where
+    by : Moved (hand_move p locked) → Forces es (hand_move p locked) locked r
+        → ((hand_move p locked).transfers ≡ [] → Forces es (hand_move p locked) locked r → Short true es r (adds true (entries.Hands 1) + 1) 0 (length es))
+        → Short b (entries.Hands 1 ∷ es) r (adds b (entries.Hands 1) + 1) 0 (length (e ∷ es))
+    by (Frees l z) f more = subst (λ (xs : List Entry). Short b (entries.Hands 1 ∷ xs) r (adds b (entries.Hands 1) + 1) 0 (length (e ∷ es))) (sym n.0) (record {
+      few = omega (arith, none);
+      rest = λ l. omega (arith, none);
+      moves = omega arith;
+    })
+      where
+        n : (es ≡ []) × (hand_move p locked ≡ r)
+        n = no_units es (hand_move p locked) r locked l f
+
+        none : length r.transfers ≡ 0
+        none = subst (λ (q : Placement). length q.transfers ≡ 0) n.1 (ap length z)
+    by (Writing z w) f more = let k : Short true es r 1 0 0 = writing true es (hand_move p locked) r locked z w f in record {
+      few = omega (arith, k.few);
+      rest = k.rest;
+      moves = omega (arith, k.moves);
+    }
+    by (Idles z y) f more = let k : Short true es r (adds true (entries.Hands 1) + 1) 0 (length es) = more y f in record {
+      few = omega (arith, k.few);
+      rest = k.rest;
+      moves = omega (arith, k.moves);
+    }
+
+-- how many entries forcing adds
+pub forced_short : (b : Bool) (us : List Entry) (p r : Placement) (locked : List Page) → OwnsFrames p → Forces us p locked r → Short b us r (length p.transfers + 2) (length p.transfers) (length us)
+forced_short b [] p r locked o h = record {
+  few = subst (λ (x : Placement). 0 + length x.transfers ≤ length p.transfers + 2) h (omega arith);
+  rest = λ l. subst (λ (x : Placement). length x.transfers ≤ length p.transfers) h (omega arith);
+  moves = omega arith;
+}
+forced_short b (e ∷ es) p r locked o h = go p.transfers refl h.1 h.2 (λ f. forced_short false es (done p) r locked (Rattle.page_laws.proofs.OwnsRuns.done_owner p o) f)
+  where
+    go : (ts : List Transfer) → p.transfers ≡ ts → e ≡ force_entry ts → Forces es (force_by p locked ts) locked r
+        → (Forces es (done p) locked r → Short false es r (length (done p).transfers + 2) (length (done p).transfers) (length es)) → Short b (e ∷ es) r (length p.transfers + 2) (length p.transfers) (length (e ∷ es))
+    go [] k i f more = let s : Short b (e ∷ es) r (adds b (entries.Hands 1) + 1) 0 (length (e ∷ es)) = moving b (e ∷ es) p r locked o k h in record {
+      few = let a = Rattle.economy_laws.proofs.Spanning.adds_most b (entries.Hands 1) in let c = s.few in omega arith;
+      rest = λ l. let c = s.rest l in omega arith;
+      moves = s.moves;
+    }
+    go (t ∷ ts) k i f more = subst (λ (x : Entry). Short b (x ∷ es) r (length p.transfers + 2) (length p.transfers) (length (e ∷ es))) (sym i) (
+        let s : Short false es r (length (done p).transfers + 2) (length (done p).transfers) (length es) = more f in
+        let a = ap length (done_rest p t ts k) in let c = ap length k in
+        record {
+          few = let d = adds_one b entries.Done refl in let x = s.few in omega arith;
+          rest = λ l. let x = s.rest l in omega arith;
+          moves = let x = s.moves in omega arith;
+        })
+
+-- No more moves than there are frames: each brings the back hand nearer.
+
+far_some : (p : Placement) (locked : List Page) → p.free ≡ [] → p.transfers ≡ [] → 2 ≤ far p locked
+far_some p locked e t = let k : far p locked ≡ 2 + reach p locked (length p.holds) (length p.holds / 4) p.back = ap (far_by p locked) e ∙ ap (far_transfers p locked) t in omega arith
+
+moving_moves : (us : List Entry) (p r : Placement) (locked : List Page) → OwnsFrames p → HandsStand p → HasRoom p locked → p.transfers ≡ [] → p.free ≡ [] → Forces us p locked r → moves_of us + 1 ≤ far p locked
+moving_moves [] p r locked o s m t fr h = omega (arith, far_some p locked fr t)
+moving_moves (e ∷ es) p r locked o s m t fr h = subst (λ (x : Entry). moves_of (x ∷ es) + 1 ≤ far p locked) (sym (h.1 ∙ ap force_entry t))
+    (by (moved p locked o fr t) (subst (λ (q : Placement). Forces es q locked r) move h.2)
+    (λ z y f. moving_moves es (hand_move p locked) r locked (move_owner p locked o) (Rattle.page_laws.proofs.Ends.move_stands p locked s) (subst (λ (q : Placement). HasRoom q locked) move (force_room p locked o m)) y z f))
+  where
+    move : force p locked ≡ hand_move p locked
+    move = ap (force_by p locked) t
+
+    falls : far (hand_move p locked) locked < far p locked
+    falls = subst (λ (q : Placement). far q locked < far p locked) move (force_falls p locked o s m fr)
+
+    two : 2 ≤ far p locked
+    two = far_some p locked fr t
+
+    by : Moved (hand_move p locked) → Forces es (hand_move p locked) locked r → ((hand_move p locked).free ≡ [] → (hand_move p locked).transfers ≡ [] → Forces es (hand_move p locked) locked r → moves_of es + 1 ≤ far (hand_move p locked) locked)
+        → moves_of (entries.Hands 1 ∷ es) + 1 ≤ far p locked
+    by (Frees l z) f more = let n = no_units es (hand_move p locked) r locked l f in let k = ap moves_of n.0 in omega (arith, two)
+    by (Writing z w) f more = let k : Short true es r 1 0 0 = writing true es (hand_move p locked) r locked z w f in let a = k.moves in omega (arith, two)
+    by (Idles z y) f more = let k = more z y f in omega (arith, falls)
+
+pub forced_moves : (us : List Entry) (p r : Placement) (locked : List Page) → OwnsFrames p → HandsStand p → HasRoom p locked → Forces us p locked r → moves_of us ≤ length p.holds
+forced_moves [] p r locked o s m h = omega arith
+forced_moves (e ∷ es) p r locked o s m h = go p.transfers refl h.1 (forced_moves es (force p locked) r locked (force_owner p locked o) (force_stands p locked o s) (force_room p locked o m) h.2)
+  where
+    go : (ts : List Transfer) → p.transfers ≡ ts → e ≡ force_entry ts → moves_of es ≤ length (force p locked).holds → moves_of (e ∷ es) ≤ length p.holds
+    go [] k i more = let a = moving_moves (e ∷ es) p r locked o s m k h.0 h in let b = far_bound p locked o s m k in omega arith
+    go (t ∷ ts) k i more = subst (λ (x : Entry). moves_of (x ∷ es) ≤ length p.holds) (sym i) (let a = force_frames p locked o in omega arith)

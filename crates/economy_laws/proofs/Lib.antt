@@ -1,0 +1,17 @@
+pub mod Spanning
+pub mod Forcing
+pub mod Serving
+pub mod Calm
+pub mod CalmChanges
+pub mod Writes
+pub mod Closing
+pub mod Left
+pub mod Stretching
+pub mod Opening
+pub mod Sleeping
+pub mod Steps
+pub mod Idle
+pub mod Growing
+pub mod Extending
+pub mod Growth
+pub mod Crowds
