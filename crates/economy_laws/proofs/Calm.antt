@@ -7,7 +7,8 @@ use Rattle.vm_facts.specs.declared.page.PageState.{PageState}
 use Rattle.vm_facts.specs.declared.page.PageState.TheVariants.{Unfilled, Valid, Invalid, Coming, Going, OnSwap}
 use Rattle.vm_facts.specs.declared.entry.Entry.{Entry}
 use Rattle.vm_facts.specs.declared.entry.Entry.TheVariants as entries
-use Rattle.page_model.specs.Pages.{Slot, no_slot, number_of, beside, pages_from, same_page, is_among, is_dirty_by, written_mark, left_state, frame_of, filling_behind}
+use Rattle.page_model.specs.Pages.{Slot, no_slot, is_dirty_by, written_mark, left_state, frame_of, filling_behind}
+use Rattle.flat_state.specs.PageNames.{number_of, beside, pages_from, same_page, is_among}
 use Rattle.page_model.specs.Frames.{times}
 use Rattle.page_model.specs.Placement.{Placement, Transfer, Part, Errand, Writes, Reads, Source, FromSwap, FromFile, slots_of, slot_of, state_of, mark_of, is_dirty, IsThere, page_of, put, Moving, moving, parts_of}
 use Rattle.page_model.specs.Moves.{evict, evict_at, fill, fill_at, begin, get_one, get_at, get_all, launch, launch_to, launch_all, launch_run, land, land_read, land_all, done, done_of, arrived_mark, reclaim, reclaim_to, retire, retire_to}
@@ -17,9 +18,9 @@ use Rattle.page_model.specs.Place.{put_step, put_by, place_entry}
 use Rattle.page_model.specs.Serve.{read_errand}
 use Rattle.page_model.specs.Conditions.{EachPage}
 use Rattle.page_model.specs.Ownership.{OwnsFrames, Each, IsMoving}
-use Rattle.page_laws.proofs.PageLaws.{page_cases, put_same, put_other, put_length, same_page_is, same_page_self}
-use Rattle.page_laws.proofs.Steps.{page_in}
-use Rattle.page_laws.proofs.RunLaws.{and_both, run_each, run_both_in}
+use Rattle.page_laws.proofs.Lists.Pages.{page_cases, put_same, put_other, put_length, same_page_is, same_page_self}
+use Rattle.page_laws.proofs.Moves.Steps.{page_in}
+use Rattle.page_laws.proofs.Lists.Runs.{and_both, run_each, run_both_in}
 use Rattle.economy_laws.specs.Worth.{stored_by, stored_first, stored_pages, arrives_by, arrives_first}
 
 abbrev pub is_going : PageState → Bool

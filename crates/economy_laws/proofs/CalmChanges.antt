@@ -1,24 +1,24 @@
 -- A clean page stays so through the changes of processes, but where its text is given back.
 use Rattle.std.proofs.Common.{◌≡◌, ◌≢◌, ◌⊎◌, inl, inr, ℕ, zero, suc, ◌-◌, ◌<◌, ◌≤◌, ◌||◌, Bool, true, false, List, [], ◌∷◌, ◌++◌, length, get_or, map, Option, Some, None, refl, sym, ap, ◌∙◌, subst, arith}
 use Rattle.std.proofs.lemmas.Bool.{cases_eq}
-use Rattle.vm_facts.specs.Flat.{FlatState}
+use Rattle.flat_state.specs.Flat.{FlatState, NamedImage, image_numbered, process_of}
 use Rattle.vm_facts.specs.declared.page.Page.{Page}
 use Rattle.vm_facts.specs.declared.page.Page.TheVariants.{Data, Stack, Text}
 use Rattle.vm_facts.specs.declared.page.PageState.{PageState}
 use Rattle.vm_facts.specs.declared.page.PageState.TheVariants.{Unfilled, Valid, Invalid, Coming, Going, OnSwap}
-use Rattle.page_model.specs.declared.change.Change.{Change}
-use Rattle.page_model.specs.declared.change.Change.TheVariants.{Keep, Resize, Fork, Lend, Exec, Reap, Sleep, End}
-use Rattle.page_model.specs.Flat.{NamedImage, image_numbered, process_of}
-use Rattle.page_model.specs.Pages.{Slot, no_slot, SpacePages, numbered, changed, data_in, stack_in, same_page, is_among, is_dirty_by, frame_of}
+use Rattle.flat_state.specs.declared.change.Change.{Change}
+use Rattle.flat_state.specs.declared.change.Change.TheVariants.{Keep, Resize, Fork, Lend, Exec, Reap, Sleep, End}
+use Rattle.page_model.specs.Pages.{Slot, no_slot, SpacePages, numbered, changed, data_in, stack_in, is_dirty_by, frame_of}
+use Rattle.flat_state.specs.PageNames.{same_page, is_among}
 use Rattle.page_model.specs.Placement.{Placement, Due, space_number, slots_of, state_of, image_of, sharers, new_pages}
 use Rattle.page_model.specs.Moves.{touch, touch_to, touch_all, drop_at, drop_page, drop_all}
 use Rattle.page_model.specs.Place.{sized, cut_space, resize, data_count, stack_count, data_from, stack_from, child_slot, fork_space, enter_space, remove_space, pages_of_space, pages_of_text, leave_text, leave_text_by, give_up, give_up_unless, enter_image, place_change, place_step, space_of_process, is_borrower}
 use Rattle.page_model.specs.Conditions.{EachPage}
-use Rattle.page_laws.proofs.PageLaws.{mapped, changed_same, changed_other, same_page_self}
-use Rattle.page_laws.proofs.RunLaws.{each_page_append, pages_from_each}
-use Rattle.page_laws.proofs.OwnsChanges.{Alike, BlankSlot, AllBlank, blank_slot_at, child_blank, unfilled_blank, sized_past, sized_within, cut, numbered_hit, numbered_miss, removed_other, removed_same, dropped_pages}
-use Rattle.page_laws.proofs.DueChanges.{leave_all_other}
-use Rattle.page_laws.proofs.Sizes.{leave_text_sharers}
+use Rattle.page_laws.proofs.Lists.Pages.{mapped, changed_same, changed_other, same_page_self}
+use Rattle.page_laws.proofs.Lists.Runs.{each_page_append, pages_from_each}
+use Rattle.page_laws.proofs.Ownership.Changes.{Alike, BlankSlot, AllBlank, blank_slot_at, child_blank, unfilled_blank, sized_past, sized_within, cut, numbered_hit, numbered_miss, removed_other, removed_same, dropped_pages}
+use Rattle.page_laws.proofs.Due.Changes.{leave_all_other}
+use Rattle.kernel_laws.proofs.Pieces.Sizes.{leave_text_sharers}
 use Rattle.economy_laws.proofs.Calm.{is_going, CalmSlot, Calm, put_calm, is_text}
 
 -- User writes.

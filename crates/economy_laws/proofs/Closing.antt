@@ -4,18 +4,18 @@ use Rattle.std.proofs.lemmas.Bool.Decides.{nat_tests}
 use Rattle.vm_facts.specs.declared.page.Page.{Page}
 use Rattle.vm_facts.specs.declared.entry.Entry.{Entry}
 use Rattle.vm_facts.specs.declared.entry.Entry.TheVariants as entries
-use Rattle.page_model.specs.Flat.{Inputs}
+use Rattle.flat_state.specs.Flat.{Inputs}
 use Rattle.page_model.specs.Placement.{Transfer, Due, Start, CopyOf}
 use Rattle.page_model.specs.Serve.{force_entry, serve_entry, serve_unit}
 use Rattle.page_model.specs.Swapper.{is_out}
-use Rattle.flat_model.specs.declared.mark.Mark.{Mark}
-use Rattle.flat_model.specs.declared.mark.Mark.TheVariants as marks
-use Rattle.flat_model.specs.State.{State}
-use Rattle.flat_model.specs.Wanted.{wanted}
-use Rattle.flat_model.specs.Act.{act}
-use Rattle.flat_model.specs.After.{completed, moved_on, brought_in, put_out, audited, after}
+use Rattle.run_model.specs.declared.mark.Mark.{Mark}
+use Rattle.run_model.specs.declared.mark.Mark.TheVariants as marks
+use Rattle.run_model.specs.State.{State}
+use Rattle.run_model.specs.Wanted.{wanted}
+use Rattle.run_model.specs.Act.{act}
+use Rattle.run_model.specs.After.{completed, moved_on, brought_in, put_out, audited, after}
 use Rattle.flat_model.specs.Run.{process_of_entry}
-use Rattle.page_laws.proofs.Units.{unit_is}
+use Rattle.page_laws.proofs.Moves.Units.{unit_is}
 use Rattle.run_laws.proofs.Flows.{Acted, Settles, Refuses, Steps, acted, steps_own}
 use Rattle.run_laws.proofs.Plain.{IsPaging, serve_paging, zero_paging, copy_paging}
 use Rattle.run_model.specs.Next.{fill_unit, when, turn_of, next_turned, last_turned, line_or_turn, next_mark, next_unit, goes_on, turn_instructions}

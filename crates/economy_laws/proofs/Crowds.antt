@@ -3,7 +3,8 @@ use Rattle.std.proofs.Common.{◌≡◌, ℕ, ◌%◌, ◌*◌, ◌<◌, ◌≤�
 use Rattle.std.proofs.lemmas.Bool.Decides.{nat_tests}
 use Rattle.std.proofs.lemmas.List.{length-append, length-map}
 use Rattle.vm_facts.specs.Answers.{Answers, ByteWrite}
-use Rattle.vm_facts.specs.Flat.{Space, Holding, Holds, Lends, Zombie, Process, FlatState}
+use Rattle.flat_state.specs.Space.{Space, answers_of, puts}
+use Rattle.flat_state.specs.Flat.{Holding, Holds, Lends, Zombie, Process, FlatState, NamedImage, Inputs, image_numbered, process_of}
 use Rattle.vm_facts.specs.declared.memory.ByteRead.{ByteRead}
 use Rattle.vm_facts.specs.declared.memory.ByteRead.TheVariants as bytes
 use Rattle.vm_facts.specs.declared.memory.MayWrite.{MayWrite}
@@ -13,11 +14,9 @@ use Rattle.user_vax.specs.Effects.{Effect}
 use Rattle.user_vax.specs.Program.{Program, Gives, Refuses, Reads, Tests, ◌>>=◌, run, after_read, after_test}
 use Rattle.user_vax.specs.declared.refused.Refused.{Refused}
 use Rattle.user_vax.specs.declared.refused.Refused.TheVariants.{Miss, Below, Signal}
-use Rattle.page_model.specs.Space.{answers_of, puts}
-use Rattle.page_model.specs.declared.change.Change.{Change}
-use Rattle.page_model.specs.declared.change.Change.TheVariants.{Keep, Resize, Fork, Lend, Exec, Reap, Sleep, End}
-use Rattle.page_model.specs.Change.{replaced, replaced_by, with_process, without_process, returned, returned_by, given_back, entered, is_zombie_child, without_parent, orphaned, awake, woken, left, ended, changed, changed_by, changed_if, apply_change, wrote_by, wrote_if, apply_writes}
-use Rattle.page_model.specs.Flat.{NamedImage, Inputs, image_numbered, process_of}
+use Rattle.flat_state.specs.declared.change.Change.{Change}
+use Rattle.flat_state.specs.declared.change.Change.TheVariants.{Keep, Resize, Fork, Lend, Exec, Reap, Sleep, End}
+use Rattle.flat_state.specs.Change.{replaced, replaced_by, with_process, without_process, returned, returned_by, given_back, entered, is_zombie_child, without_parent, orphaned, awake, woken, left, ended, changed, changed_by, changed_if, apply_change, wrote_by, wrote_if, apply_writes}
 use Rattle.flat_model.specs.declared.calls.Reply.{Reply}
 use Rattle.flat_model.specs.declared.calls.Reply.TheVariants.{Fails, Does, Writes, Waits, Exits}
 use Rattle.flat_model.specs.declared.calls.SystemCall.{SystemCall}
@@ -39,7 +38,7 @@ many_replaced (q ∷ qs) p = go (q.pid == p.pid) (many_replaced qs p)
 many_returned : (pid : ℕ) (s : Space) (ps : List Process) → length (returned pid s ps) ≡ length ps
 unfolding returned
 many_returned pid s [] = refl
-many_returned pid s (q ∷ qs) = go (Rattle.page_model.specs.Change.lends_to pid q.holding) (many_returned pid s qs)
+many_returned pid s (q ∷ qs) = go (Rattle.flat_state.specs.Change.lends_to pid q.holding) (many_returned pid s qs)
   where
     go : (b : Bool) → length (returned pid s qs) ≡ length qs → length (returned_by b s q qs (returned pid s qs)) ≡ length (q ∷ qs)
     go true e = refl
@@ -65,17 +64,17 @@ many_left false F pid parent = let k = length-map F.processes (awake parent) in 
 
 many_changed : (images : List NamedImage) (F : FlatState) (p : Process) (s : Space) (change : Change) → RoomFor F change → length F.processes ≤ 64 → length (changed images F p s change).processes ≤ 64
 many_changed images F p s Keep r l = let k = many_replaced F.processes p in omega arith
-many_changed images F p s (Resize d t) r l = let k = many_replaced F.processes (record p { holding = Holds (Rattle.page_model.specs.Change.resized s d t) }) in omega arith
-many_changed images F p s (Fork child) r l = let k = many_replaced F.processes p in let a = length-append (replaced F.processes p) (Rattle.page_model.specs.Change.child_of p child (record s { sid = F.next_sid }) ∷ []) in omega arith
-many_changed images F p s (Lend child) r l = let k = many_replaced F.processes (record p { holding = Lends s.sid child }) in let a = length-append (replaced F.processes (record p { holding = Lends s.sid child })) (Rattle.page_model.specs.Change.child_of p child s ∷ []) in omega arith
+many_changed images F p s (Resize d t) r l = let k = many_replaced F.processes (record p { holding = Holds (Rattle.flat_state.specs.Change.resized s d t) }) in omega arith
+many_changed images F p s (Fork child) r l = let k = many_replaced F.processes p in let a = length-append (replaced F.processes p) (Rattle.flat_state.specs.Change.child_of p child (record s { sid = F.next_sid }) ∷ []) in omega arith
+many_changed images F p s (Lend child) r l = let k = many_replaced F.processes (record p { holding = Lends s.sid child }) in let a = length-append (replaced F.processes (record p { holding = Lends s.sid child })) (Rattle.flat_state.specs.Change.child_of p child s ∷ []) in omega arith
 many_changed images F p s (Exec image top) r l = go (image_numbered images image)
   where
     go : (o : Option NamedImage) → length (entered F p s image o top).processes ≤ 64
     go None = l
     go (Some named) =
-        let q : Process = record p { holding = Holds (Rattle.page_model.specs.Flat.space_with F.next_sid image named.image top) } in
-        let k = many_replaced F.processes (record p { holding = Holds (Rattle.page_model.specs.Flat.space_with F.next_sid image named.image top) }) in
-        let a = many_returned p.pid s (replaced F.processes (record p { holding = Holds (Rattle.page_model.specs.Flat.space_with F.next_sid image named.image top) })) in omega arith
+        let q : Process = record p { holding = Holds (Rattle.flat_state.specs.Flat.space_with F.next_sid image named.image top) } in
+        let k = many_replaced F.processes (record p { holding = Holds (Rattle.flat_state.specs.Flat.space_with F.next_sid image named.image top) }) in
+        let a = many_returned p.pid s (replaced F.processes (record p { holding = Holds (Rattle.flat_state.specs.Flat.space_with F.next_sid image named.image top) })) in omega arith
 many_changed images F p s (Reap child) r l = let a = many_filtered (λ q. not (q.pid == child)) F.processes in let k = many_replaced (without_process F child).processes p in omega arith
 many_changed images F p s Sleep r l = let k = many_replaced F.processes (record p { asleep = true }) in omega arith
 many_changed images F p s (End status) r l =

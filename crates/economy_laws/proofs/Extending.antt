@@ -4,7 +4,7 @@ use Rattle.std.proofs.lemmas.Bool.Decides.{nat_tests}
 use Rattle.std.proofs.lemmas.List.{append_assoc, append-nil, get_or_append_left, take_all}
 use Rattle.std.specs.Prelude.{slice_index}
 use Rattle.std.specs.List.{cons_option}
-use Rattle.vm_facts.specs.Flat.{Space}
+use Rattle.flat_state.specs.Space.{Space, stack_top, stack_reach, stack_index, spot_by, spot_at, address_in, byte_at, may_write_at, answers_of}
 use Rattle.vm_facts.specs.declared.memory.ByteRead.{ByteRead}
 use Rattle.vm_facts.specs.declared.memory.ByteRead.TheVariants as bytes
 use Rattle.vm_facts.specs.declared.memory.MayWrite.{MayWrite}
@@ -13,14 +13,13 @@ use Rattle.vm_facts.specs.declared.page.Page.{Page}
 use Rattle.vm_facts.specs.declared.page.Page.TheVariants.{Data, Stack, Text}
 use Rattle.user_vax.specs.Program.{Program, Gives, Refuses, Reads, Tests, Access, ReadOf, TestOf, run, after_read, after_test, accesses, rest_of_read, rest_of_test}
 use Rattle.user_vax.specs.declared.refused.Refused.TheVariants.{Below}
-use Rattle.page_model.specs.declared.spot.Spot.{Spot}
-use Rattle.page_model.specs.declared.spot.Spot.TheVariants as spots
-use Rattle.page_model.specs.Change.{resized_bytes, resized}
-use Rattle.page_model.specs.Pages.{same_page}
-use Rattle.page_model.specs.Space.{stack_top, stack_reach, stack_index, spot_by, spot_at, address_in, byte_at, may_write_at, answers_of}
-use Rattle.page_model.specs.Writes.{IsWithin}
-use Rattle.page_model.proofs.SpaceLaws.{IsPaged, spot_within}
-use Rattle.page_laws.proofs.KernelSizes.{resized_length}
+use Rattle.flat_state.specs.declared.spot.Spot.{Spot}
+use Rattle.flat_state.specs.declared.spot.Spot.TheVariants as spots
+use Rattle.flat_state.specs.Change.{resized_bytes, resized}
+use Rattle.flat_state.specs.PageNames.{same_page}
+use Rattle.flat_state.specs.Writes.{IsWithin}
+use Rattle.flat_state.proofs.SpaceLaws.{IsPaged, spot_within}
+use Rattle.kernel_laws.proofs.Machine.Breaks.{resized_length}
 use Rattle.flat_model.specs.Touched.{page_read, page_tested, page_of_access, distinct}
 use Rattle.economy_laws.specs.Stretch.{Extends}
 

@@ -6,7 +6,7 @@ use Rattle.vm_facts.specs.declared.page.PageState.{PageState}
 use Rattle.vm_facts.specs.declared.page.PageState.TheVariants.{Unfilled, Valid, Invalid, Coming, Going, OnSwap}
 use Rattle.vm_facts.specs.declared.entry.Entry.{Entry}
 use Rattle.vm_facts.specs.declared.entry.Entry.TheVariants as entries
-use Rattle.page_model.specs.Pages.{is_among}
+use Rattle.flat_state.specs.PageNames.{is_among}
 use Rattle.page_model.specs.Frames.{times}
 use Rattle.page_model.specs.Placement.{Placement, Transfer, Part, Errand, Writes, state_of, is_dirty, page_of}
 use Rattle.page_model.specs.Moves.{launch, launch_to, launch_all, land, land_all, done, done_of, begin, retire, retire_to}
@@ -15,14 +15,14 @@ use Rattle.page_model.specs.Hands.{expire, sweep, sweep_of, sweep_to, sweep_by, 
 use Rattle.page_model.specs.Serve.{force, force_by, force_entry, Forces}
 use Rattle.page_model.specs.Rank.{is_usable, HandsStand, HasRoom, far, far_by, far_transfers, reach}
 use Rattle.page_model.specs.Ownership.{OwnsFrames}
-use Rattle.page_laws.proofs.Owns.{expire_owner}
-use Rattle.page_laws.proofs.OwnsServe.{force_owner}
-use Rattle.page_laws.proofs.Stays.{expire_free, expire_transfers}
-use Rattle.page_laws.proofs.Ends.{Freed, HasWrite, sweep_frees, sweep_idles, far_bound}
-use Rattle.page_laws.proofs.ServeEnds.{land_all_free, land_all_transfers, force_falls}
-use Rattle.page_laws.proofs.ServeStands.{force_stands, force_frames}
-use Rattle.page_laws.proofs.Wholes.{force_room}
-use Rattle.page_laws.proofs.OwnsHands.{move_owner}
+use Rattle.page_laws.proofs.Ownership.Pages.{expire_owner}
+use Rattle.page_laws.proofs.Ownership.Serve.{force_owner}
+use Rattle.page_laws.proofs.Moves.Stays.{expire_free, expire_transfers}
+use Rattle.page_laws.proofs.Ends.Forcing.{Freed, HasWrite, sweep_frees, sweep_idles, far_bound}
+use Rattle.page_laws.proofs.Ends.Serving.{land_all_free, land_all_transfers, force_falls}
+use Rattle.page_laws.proofs.Ends.Hands.{force_stands, force_frames}
+use Rattle.page_laws.proofs.Ends.Wholes.{force_room}
+use Rattle.page_laws.proofs.Ownership.Hands.{move_owner}
 use Rattle.economy_laws.specs.Spans.{adds, added, moves_of}
 use Rattle.economy_laws.proofs.Spanning.{adds_one}
 
@@ -221,7 +221,7 @@ forced_short b [] p r locked o h = record {
   rest = λ l. subst (λ (x : Placement). length x.transfers ≤ length p.transfers) h (omega arith);
   moves = omega arith;
 }
-forced_short b (e ∷ es) p r locked o h = go p.transfers refl h.1 h.2 (λ f. forced_short false es (done p) r locked (Rattle.page_laws.proofs.OwnsRuns.done_owner p o) f)
+forced_short b (e ∷ es) p r locked o h = go p.transfers refl h.1 h.2 (λ f. forced_short false es (done p) r locked (Rattle.page_laws.proofs.Ownership.Runs.done_owner p o) f)
   where
     go : (ts : List Transfer) → p.transfers ≡ ts → e ≡ force_entry ts → Forces es (force_by p locked ts) locked r
         → (Forces es (done p) locked r → Short false es r (length (done p).transfers + 2) (length (done p).transfers) (length es)) → Short b (e ∷ es) r (length p.transfers + 2) (length p.transfers) (length (e ∷ es))
@@ -248,7 +248,7 @@ moving_moves : (us : List Entry) (p r : Placement) (locked : List Page) → Owns
 moving_moves [] p r locked o s m t fr h = omega (arith, far_some p locked fr t)
 moving_moves (e ∷ es) p r locked o s m t fr h = subst (λ (x : Entry). moves_of (x ∷ es) + 1 ≤ far p locked) (sym (h.1 ∙ ap force_entry t))
     (by (moved p locked o fr t) (subst (λ (q : Placement). Forces es q locked r) move h.2)
-    (λ z y f. moving_moves es (hand_move p locked) r locked (move_owner p locked o) (Rattle.page_laws.proofs.Ends.move_stands p locked s) (subst (λ (q : Placement). HasRoom q locked) move (force_room p locked o m)) y z f))
+    (λ z y f. moving_moves es (hand_move p locked) r locked (move_owner p locked o) (Rattle.page_laws.proofs.Ends.Forcing.move_stands p locked s) (subst (λ (q : Placement). HasRoom q locked) move (force_room p locked o m)) y z f))
   where
     move : force p locked ≡ hand_move p locked
     move = ap (force_by p locked) t

@@ -3,7 +3,8 @@ use Rattle.std.proofs.Common.{◌≡◌, ◌⊎◌, inl, inr, ℕ, ◌+◌, ◌-
 use Rattle.std.proofs.lemmas.Bool.{cases_eq}
 use Rattle.std.proofs.lemmas.Bool.Decides.{nat_tests}
 use Rattle.std.proofs.lemmas.List.{get_or_past}
-use Rattle.vm_facts.specs.Flat.{Space, Holding, Holds, Lends, Zombie, Process}
+use Rattle.flat_state.specs.Space.{Space, stack_top, stack_reach, spot_by, spot_at, address_in, byte_at, may_write_at, answers_of}
+use Rattle.flat_state.specs.Flat.{Holding, Holds, Lends, Zombie, Process, Inputs, process_of}
 use Rattle.vm_facts.specs.declared.page.Page.{Page}
 use Rattle.vm_facts.specs.declared.page.Page.TheVariants.{Data, Stack, Text}
 use Rattle.vm_facts.specs.declared.entry.Entry.TheVariants as entries
@@ -11,28 +12,26 @@ use Rattle.user_vax.specs.Instruction.{instruction}
 use Rattle.user_vax.specs.Program.{Program, Gives, Refuses, Reads, Tests, run, after_read, after_test}
 use Rattle.user_vax.specs.declared.refused.Refused.{Refused}
 use Rattle.user_vax.specs.declared.refused.Refused.TheVariants.{Below}
-use Rattle.page_model.specs.declared.change.Change.TheVariants.{Resize}
-use Rattle.page_model.specs.declared.spot.Spot.{Spot}
-use Rattle.page_model.specs.declared.spot.Spot.TheVariants as spots
-use Rattle.page_model.specs.Flat.{Inputs, process_of}
-use Rattle.page_model.specs.Kernel.{Fits, SameTables}
+use Rattle.flat_state.specs.declared.change.Change.TheVariants.{Resize}
+use Rattle.flat_state.specs.declared.spot.Spot.{Spot}
+use Rattle.flat_state.specs.declared.spot.Spot.TheVariants as spots
+use Rattle.kernel_model.specs.Coupled.{Fits, SameTables}
 use Rattle.page_model.specs.Pages.{Slot, no_slot, SpacePages, numbered, changed, data_in, stack_in, is_valid}
 use Rattle.page_model.specs.Placement.{Placement, space_number, state_of}
 use Rattle.page_model.specs.Moves.{touch_all, drop_all}
 use Rattle.page_model.specs.Place.{sized, cut_space, resize, data_count, stack_count, data_from, stack_from, place_change, space_of_process, is_borrower}
-use Rattle.page_model.specs.Space.{stack_top, stack_reach, spot_by, spot_at, address_in, byte_at, may_write_at, answers_of}
 use Rattle.page_model.specs.Swapper.{is_out}
-use Rattle.page_laws.proofs.PageLaws.{mapped, changed_same, changed_other}
-use Rattle.page_laws.proofs.RunLaws.{each_page_imp}
-use Rattle.page_laws.proofs.OwnsChanges.{cut, sized_within}
+use Rattle.page_laws.proofs.Lists.Pages.{mapped, changed_same, changed_other}
+use Rattle.page_laws.proofs.Lists.Runs.{each_page_imp}
+use Rattle.page_laws.proofs.Ownership.Changes.{cut, sized_within}
 use Rattle.flat_laws.proofs.Asking.{own_space}
 use Rattle.flat_model.specs.Instruction.{instruction_in}
 use Rattle.flat_model.specs.Run.{step_at, is_refused}
-use Rattle.flat_model.specs.State.{State}
+use Rattle.run_model.specs.State.{State}
 use Rattle.flat_model.specs.Step.{Step, data_pages_of, pages_down_to}
 use Rattle.flat_model.specs.Touched.{touched}
-use Rattle.flat_model.specs.Wanted.{AllValid}
-use Rattle.flat_model.specs.After.{written_in, written_by, pages_written, place_at, after}
+use Rattle.run_model.specs.Wanted.{AllValid}
+use Rattle.run_model.specs.After.{written_in, written_by, pages_written, place_at, after}
 use Rattle.run_model.specs.Kinds.{Runs}
 use Rattle.run_laws.specs.Standing.{machine_of, Placed}
 use Rattle.run_laws.proofs.Acts.{Stepper, stepper, Completes, completes}

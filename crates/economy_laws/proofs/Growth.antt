@@ -1,6 +1,7 @@
 -- Behind `Grew` its process touches what it touched, and at least one page more.
 use Rattle.std.proofs.Common.{◌≡◌, ℕ, ◌+◌, ◌≤◌, Bool, true, false, List, [], ◌∷◌, ◌++◌, length, filter_map, Option, Some, None, Result, Err, if◌then◌else◌, refl, sym, ap, ◌∙◌, subst, arith}
-use Rattle.vm_facts.specs.Flat.{Space, Holding, Holds, Process, FlatState}
+use Rattle.flat_state.specs.Space.{Space, stack_top, answers_of}
+use Rattle.flat_state.specs.Flat.{Holding, Holds, Process, FlatState, NamedImage, Inputs, holds_space, is_ready, ready_if, process_of}
 use Rattle.vm_facts.specs.declared.regs.Regs.{Regs}
 use Rattle.vm_facts.specs.declared.page.Page.{Page}
 use Rattle.vm_facts.specs.declared.entry.Entry.TheVariants as entries
@@ -9,13 +10,11 @@ use Rattle.user_vax.specs.Instruction.{instruction}
 use Rattle.user_vax.specs.Program.{Access, accesses}
 use Rattle.user_vax.specs.declared.refused.Refused.{Refused}
 use Rattle.user_vax.specs.declared.refused.Refused.TheVariants.{Below}
-use Rattle.page_model.specs.declared.change.Change.TheVariants.{Resize}
-use Rattle.page_model.specs.Change.{with_process, changed_if, apply_change, wrote_by, wrote_if, apply_writes, resized}
-use Rattle.page_model.specs.Flat.{NamedImage, Inputs, holds_space, is_ready, ready_if, process_of}
-use Rattle.page_model.specs.Kernel.{Fits, SameTables}
+use Rattle.flat_state.specs.declared.change.Change.TheVariants.{Resize}
+use Rattle.flat_state.specs.Change.{with_process, changed_if, apply_change, wrote_by, wrote_if, apply_writes, resized}
+use Rattle.kernel_model.specs.Coupled.{Fits, SameTables}
 use Rattle.page_model.specs.Pages.{SpacePages, numbered}
 use Rattle.page_model.specs.Placement.{space_number}
-use Rattle.page_model.specs.Space.{stack_top, answers_of}
 use Rattle.flat_laws.proofs.Asking.{own_space}
 use Rattle.flat_laws.proofs.Others.{number_of_found}
 use Rattle.flat_laws.proofs.Shown.{is_touched}
@@ -23,7 +22,7 @@ use Rattle.flat_model.specs.Instruction.{instruction_in}
 use Rattle.flat_model.specs.Run.{step_at, is_refused}
 use Rattle.flat_model.specs.Step.{Step, data_pages_of, pages_down_to}
 use Rattle.flat_model.specs.Touched.{page_of_access, accesses_after, step_accesses, distinct, touched}
-use Rattle.flat_model.specs.After.{after}
+use Rattle.run_model.specs.After.{after}
 use Rattle.run_model.specs.Kinds.{Runs}
 use Rattle.run_laws.specs.Standing.{machine_of, Placed}
 use Rattle.run_laws.proofs.Acts.{Stepper, stepper, Stepped, Completes, completes}

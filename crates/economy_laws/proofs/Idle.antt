@@ -2,34 +2,33 @@
 use Rattle.std.proofs.Common.{◌≡◌, ◌⊎◌, inl, inr, ℕ, ◌+◌, ◌<◌, ◌≤◌, ◌&&◌, nat_lt, Bool, true, false, cond, List, [], ◌∷◌, ◌++◌, length, find, Option, Some, None, if◌then◌else◌, refl, sym, ap, ◌∙◌, subst, arith}
 use Rattle.std.proofs.lemmas.Bool.Decides.{nat_tests}
 use Rattle.vm_facts.specs.Answers.{ByteWrite}
-use Rattle.vm_facts.specs.Flat.{Space, Holding, Holds, Lends, Zombie, Process, FlatState}
+use Rattle.flat_state.specs.Space.{Space, puts}
+use Rattle.flat_state.specs.Flat.{Holding, Holds, Lends, Zombie, Process, FlatState, NamedImage, Inputs, holds_space, is_ready, ready_if, process_of, can_step}
 use Rattle.vm_facts.specs.declared.regs.Regs.{Regs}
 use Rattle.vm_facts.specs.declared.page.Page.{Page}
 use Rattle.vm_facts.specs.declared.entry.Entry.{Entry}
 use Rattle.vm_facts.specs.declared.entry.Entry.TheVariants as entries
-use Rattle.page_model.specs.declared.change.Change.TheVariants.{Resize, Sleep}
-use Rattle.page_model.specs.Change.{replaced, with_process, changed_by, changed_if, apply_change, wrote_by, wrote_if, apply_writes, resized}
-use Rattle.page_model.specs.Flat.{NamedImage, Inputs, holds_space, is_ready, ready_if, process_of, can_step}
-use Rattle.page_model.specs.Journal.{counted}
+use Rattle.flat_state.specs.declared.change.Change.TheVariants.{Resize, Sleep}
+use Rattle.flat_state.specs.Change.{replaced, with_process, changed_by, changed_if, apply_change, wrote_by, wrote_if, apply_writes, resized}
+use Rattle.flat_state.specs.Journal.{counted}
 use Rattle.page_model.specs.Place.{space_of_process}
 use Rattle.page_model.specs.Serve.{serve_entry}
-use Rattle.page_model.specs.Space.{puts}
 use Rattle.page_model.specs.Swapper.{is_out}
-use Rattle.page_laws.specs.Start.{ImagesFit}
-use Rattle.page_laws.proofs.FlatLists.{Parts, parts_at, found_is, replaced_at}
-use Rattle.page_laws.proofs.PutOuts.{unit_case}
-use Rattle.page_laws.proofs.Units.{unit_is, now_unit}
+use Rattle.kernel_model.specs.Start.{ImagesFit}
+use Rattle.kernel_laws.proofs.Flat.Lists.{Parts, parts_at, found_is, replaced_at}
+use Rattle.page_laws.proofs.Swapper.PuttingOut.{unit_case}
+use Rattle.page_laws.proofs.Moves.Units.{unit_is, now_unit}
 use Rattle.flat_laws.proofs.Finding.{found_by_number, found_passes}
 use Rattle.flat_laws.proofs.Others.{number_of_found}
-use Rattle.flat_model.specs.declared.mark.Mark.{Mark}
-use Rattle.flat_model.specs.declared.mark.Mark.TheVariants as marks
-use Rattle.flat_model.specs.Run.{Point, process_of_entry, step_at, is_refused, act as next_of_step}
-use Rattle.flat_model.specs.State.{State}
-use Rattle.flat_model.specs.Step.{Step}
-use Rattle.flat_model.specs.Wanted.{wanted, locked}
-use Rattle.flat_model.specs.After.{after}
-use Rattle.flat_model.proofs.After.{after_count}
-use Rattle.flat_model.proofs.Wanting.{wanted_splits}
+use Rattle.run_model.specs.declared.mark.Mark.{Mark}
+use Rattle.run_model.specs.declared.mark.Mark.TheVariants as marks
+use Rattle.flat_model.specs.Run.{Point, process_of_entry, step_at, is_refused, act as next_of_step, due}
+use Rattle.run_model.specs.State.{State}
+use Rattle.flat_model.specs.Step.{Step, data_pages_of, pages_down_to, step_of}
+use Rattle.run_model.specs.Wanted.{wanted, locked}
+use Rattle.run_model.specs.After.{after}
+use Rattle.run_model.proofs.After.{after_count}
+use Rattle.run_model.proofs.Wanting.{wanted_splits}
 use Rattle.run_model.specs.Next.{when, work_by, turn_by, turn_unit, goes_on, turn_instructions, under, pid_if, next_ready, or_else, next_turned, last_turned, turn_of, line_or_turn, next_mark, next_unit}
 use Rattle.run_model.specs.Kinds.{GoesOn, Runs, Kind, Fills, Brings, Copies, Serves, Acts, ComesIn, Interrupts, Moves, PutsOut, Notes, Begins}
 use Rattle.run_model.specs.Lawful.{Follows}
@@ -39,17 +38,13 @@ use Rattle.run_laws.proofs.Acts.{Stepper, stepper, Stepped, stepped_flat, steppe
 use Rattle.run_laws.proofs.Flows.{Acted, Settles, Refuses, Steps, acted, steps_own, on_steps, noted, refused_after, out_of, out_after, plain_point}
 use Rattle.run_laws.proofs.Plain.{IsPaging, serve_paging, zero_paging, copy_paging, move_paging}
 use Rattle.run_laws.proofs.Wholes.{unit_run}
-use Rattle.flat_model.specs.Act.{must_refuse, must_settle}
+use Rattle.run_model.specs.Act.{must_refuse, must_settle}
 use Rattle.flat_model.specs.Instruction.{instruction_in}
-use Rattle.flat_model.specs.Step.{data_pages_of, pages_down_to}
-use Rattle.flat_model.specs.Run.{due}
-use Rattle.economy_laws.specs.Stretch.{begins_stretch, IsClosing}
+use Rattle.economy_laws.specs.Stretch.{begins_stretch, IsClosing, turns, turns_of, counts, NoneCounts, ready_count}
 use Rattle.economy_laws.proofs.Closing.{closes, no_event, on_turn}
 use Rattle.economy_laws.proofs.Left.{is_closed}
 use Rattle.economy_laws.proofs.Stretching.{open_last}
-use Rattle.economy_laws.specs.Stretch.{turns, turns_of, counts, NoneCounts, ready_count}
 use Rattle.economy_laws.proofs.Sleeping.{Does, does}
-use Rattle.flat_model.specs.Step.{step_of}
 use Rattle.economy_laws.proofs.Crowds.{RoomFor, of_room, many_applied, many_written}
 use Rattle.economy_laws.proofs.Steps.{step_is, act_some, Grows, grows_of}
 
@@ -264,7 +259,7 @@ turn_next A s p l h = go (nat_lt s.count A.limit) (nat_lt s.lines (length A.line
     go true true x y e = absurd (let z = less s.lines (length A.lines) y in omega arith)
     go true false x y e = (less s.count A.limit x, turn (next_turned s.point.flat (last_turned s.mark)) e)
 
-ready_found : (F : FlatState) (above p : ℕ) → Rattle.page_laws.specs.FlatStands.AllDistinct (Rattle.page_laws.specs.FlatStands.pids_of F) → next_ready F above ≡ Some p → can_step F p ≡ true
+ready_found : (F : FlatState) (above p : ℕ) → Rattle.flat_state.specs.Numbers.AllDistinct (Rattle.flat_state.specs.Numbers.pids_of F) → next_ready F above ≡ Some p → can_step F p ≡ true
 ready_found F above p distinct h = go (find (λ (q : Process). is_ready q && nat_lt above q.pid) F.processes) refl h
   where
     number : (z : Process) → Some z.pid ≡ Some p → z.pid ≡ p
@@ -275,7 +270,7 @@ ready_found F above p distinct h = go (find (λ (q : Process). is_ready q && nat
     go (Some z) e k = subst (λ (n : ℕ). can_step F n ≡ true) (number z k)
         (ap ready_if (found_by_number (λ (q : Process). is_ready q && nat_lt above q.pid) F.processes z distinct e) ∙ (both_true (is_ready z) (nat_lt above z.pid) (found_passes (λ (q : Process). is_ready q && nat_lt above q.pid) F.processes z e)).0)
 
-turned_ready : (F : FlatState) (last p : ℕ) → Rattle.page_laws.specs.FlatStands.AllDistinct (Rattle.page_laws.specs.FlatStands.pids_of F) → next_turned F last ≡ Some p → can_step F p ≡ true
+turned_ready : (F : FlatState) (last p : ℕ) → Rattle.flat_state.specs.Numbers.AllDistinct (Rattle.flat_state.specs.Numbers.pids_of F) → next_turned F last ≡ Some p → can_step F p ≡ true
 turned_ready F last p distinct h = go (next_ready F last) refl h
   where
     go : (o : Option ℕ) → next_ready F last ≡ o → or_else o (next_ready F 0) ≡ Some p → can_step F p ≡ true
@@ -342,11 +337,11 @@ mark_stays A s (entries.Turn p) pid since m n e = absurd cc
 mark_stays A s (entries.Ran p k) pid since m n e = absurd cc
 mark_stays A s (entries.Call p k b r0 r1) pid since m n e = absurd cc
 mark_stays A s (entries.Ended p k) pid since m n e = absurd cc
-mark_stays A s (entries.Hands k) pid since m n e = ap (Rattle.flat_model.specs.After.moved_on k) m
-mark_stays A s entries.Done pid since m n e = ap Rattle.flat_model.specs.After.completed m
-mark_stays A s (entries.SwapOut p) pid since m n e = ap Rattle.flat_model.specs.After.put_out m
-mark_stays A s (entries.SwapIn p) pid since m n e = ap Rattle.flat_model.specs.After.brought_in m
-mark_stays A s (entries.Owners a b c d) pid since m n e = ap Rattle.flat_model.specs.After.audited m
+mark_stays A s (entries.Hands k) pid since m n e = ap (Rattle.run_model.specs.After.moved_on k) m
+mark_stays A s entries.Done pid since m n e = ap Rattle.run_model.specs.After.completed m
+mark_stays A s (entries.SwapOut p) pid since m n e = ap Rattle.run_model.specs.After.put_out m
+mark_stays A s (entries.SwapIn p) pid since m n e = ap Rattle.run_model.specs.After.brought_in m
+mark_stays A s (entries.Owners a b c d) pid since m n e = ap Rattle.run_model.specs.After.audited m
 mark_stays A s _ pid since m n e = m
 
 turn_mark : (A : Inputs) (s : State) (p : ℕ) → (after A s (entries.Turn p)).mark ≡ marks.Turn p s.count

@@ -6,7 +6,7 @@ use Rattle.vm_facts.specs.declared.page.PageState.{PageState}
 use Rattle.vm_facts.specs.declared.page.PageState.TheVariants.{Unfilled, Valid, Invalid, Coming, Going, OnSwap}
 use Rattle.vm_facts.specs.declared.entry.Entry.{Entry}
 use Rattle.vm_facts.specs.declared.entry.Entry.TheVariants as entries
-use Rattle.page_model.specs.Flat.{Inputs, can_step}
+use Rattle.flat_state.specs.Flat.{Inputs, can_step}
 use Rattle.page_model.specs.Pages.{Filling, Zeros, OfImage, is_valid}
 use Rattle.page_model.specs.Placement.{Placement, Transfer, Due, Start, CopyOf, state_of, filling_of, IsThere}
 use Rattle.page_model.specs.Moves.{evict, fill, fill_at, begin, done}
@@ -17,17 +17,17 @@ use Rattle.page_model.specs.Swapper.{is_out}
 use Rattle.page_model.specs.Conditions.{EachPage}
 use Rattle.page_model.specs.Dues.{NotDue}
 use Rattle.page_model.specs.Ownership.{OwnsFrames}
-use Rattle.page_laws.proofs.Steps.{EvictRest, evict_rest}
-use Rattle.page_laws.proofs.DueLaws.{get_due_list}
-use Rattle.page_laws.proofs.KernelStands.{reclaim_due}
-use Rattle.page_laws.proofs.Stays.{Steady, Stays, done_steady, force_stays}
-use Rattle.page_laws.proofs.Units.{unit_is, entry_steps}
+use Rattle.page_laws.proofs.Moves.Steps.{EvictRest, evict_rest}
+use Rattle.page_laws.proofs.Due.Entries.{get_due_list}
+use Rattle.kernel_laws.proofs.Stands.Steps.{reclaim_due}
+use Rattle.page_laws.proofs.Moves.Stays.{Steady, Stays, done_steady, force_stays}
+use Rattle.page_laws.proofs.Moves.Units.{unit_is, entry_steps}
 use Rattle.flat_model.specs.Run.{process_of_entry}
-use Rattle.flat_model.specs.State.{State}
+use Rattle.run_model.specs.State.{State}
 use Rattle.flat_model.specs.Touched.{touched}
-use Rattle.flat_model.specs.Wanted.{running, touched_next, touched_by, AllValid, first_absent, before_absent, wanted_by, wanted, locked_by, locked, Splits, present_by}
-use Rattle.flat_model.specs.After.{place_at, after}
-use Rattle.flat_model.proofs.Wanting.{split_absent, none_absent, before_past, all_before}
+use Rattle.run_model.specs.Wanted.{running, touched_next, touched_by, AllValid, first_absent, before_absent, wanted_by, wanted, locked_by, locked, Splits, present_by}
+use Rattle.run_model.specs.After.{place_at, after}
+use Rattle.run_model.proofs.Wanting.{split_absent, none_absent, before_past, all_before}
 use Rattle.run_laws.specs.Running.{IsRun}
 use Rattle.run_laws.proofs.Paging.{Leaver, entry_out}
 use Rattle.run_laws.proofs.Plain.{serve_flat}

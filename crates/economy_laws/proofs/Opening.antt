@@ -6,24 +6,24 @@ use Rattle.vm_facts.specs.declared.page.PageState.{PageState}
 use Rattle.vm_facts.specs.declared.page.PageState.TheVariants.{Unfilled, Valid, Invalid, Coming, Going, OnSwap}
 use Rattle.vm_facts.specs.declared.entry.Entry.{Entry}
 use Rattle.vm_facts.specs.declared.entry.Entry.TheVariants as entries
-use Rattle.page_model.specs.declared.change.Change.{Change}
-use Rattle.page_model.specs.declared.change.Change.TheVariants.{Keep, Resize, Fork, Lend, Exec, Reap, Sleep, End}
-use Rattle.page_model.specs.Flat.{NamedImage, Inputs, image_numbered, process_of}
+use Rattle.flat_state.specs.declared.change.Change.{Change}
+use Rattle.flat_state.specs.declared.change.Change.TheVariants.{Keep, Resize, Fork, Lend, Exec, Reap, Sleep, End}
+use Rattle.flat_state.specs.Flat.{NamedImage, Inputs, image_numbered, process_of}
 use Rattle.page_model.specs.Pages.{Slot}
 use Rattle.page_model.specs.Placement.{Placement, Due, Start, CopyOf, slots_of}
 use Rattle.page_model.specs.Moves.{touch_all}
 use Rattle.page_model.specs.Place.{copy_due, copies_from, enter_image, give_up_unless, place_change, space_of_process, is_borrower}
-use Rattle.page_model.specs.Journal.{appended}
+use Rattle.flat_state.specs.Journal.{appended}
 use Rattle.page_model.specs.Dues.{IsDue}
-use Rattle.page_laws.specs.Start.{ImagesFit}
-use Rattle.page_laws.proofs.KeptChanges.{drop_all_rest}
-use Rattle.page_laws.proofs.OwnsChanges.{dropped_pages}
-use Rattle.page_laws.proofs.OwnsServe.{state_there}
-use Rattle.page_laws.proofs.DueChanges.{unless_due}
-use Rattle.page_laws.proofs.Units.{unit_is}
+use Rattle.kernel_model.specs.Start.{ImagesFit}
+use Rattle.page_laws.proofs.Bytes.Changes.{drop_all_rest}
+use Rattle.page_laws.proofs.Ownership.Changes.{dropped_pages}
+use Rattle.page_laws.proofs.Ownership.Serve.{state_there}
+use Rattle.page_laws.proofs.Due.Changes.{unless_due}
+use Rattle.page_laws.proofs.Moves.Units.{unit_is}
 use Rattle.flat_model.specs.Run.{step_at}
-use Rattle.flat_model.specs.State.{State}
-use Rattle.flat_model.specs.After.{place_at, pages_written, after}
+use Rattle.run_model.specs.State.{State}
+use Rattle.run_model.specs.After.{place_at, pages_written, after}
 use Rattle.run_model.specs.Next.{next_unit}
 use Rattle.run_model.specs.Kinds.{Kind, Fills, Brings, Copies, Serves, Acts, ComesIn, Interrupts, Moves, PutsOut, Notes, Begins}
 use Rattle.run_model.specs.Lawful.{Follows}

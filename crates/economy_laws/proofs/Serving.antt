@@ -13,15 +13,15 @@ use Rattle.page_model.specs.Serve.{force, force_entry, read_step, read_entry, re
 use Rattle.page_model.specs.Rank.{HandsStand, HasRoom}
 use Rattle.page_model.specs.Conditions.{CanEnter}
 use Rattle.page_model.specs.Ownership.{OwnsFrames, seats}
-use Rattle.page_laws.proofs.PageLaws.{put_state}
-use Rattle.page_laws.proofs.Steps.{EvictRest, evict_rest}
-use Rattle.page_laws.proofs.OwnsRuns.{done_owner}
-use Rattle.page_laws.proofs.OwnsServe.{force_owner, serve_owner}
-use Rattle.page_laws.proofs.Stays.{Steady, Stays, done_steady, force_stays}
-use Rattle.page_laws.proofs.Transfers.{reclaim_count, fill_count}
-use Rattle.page_laws.proofs.ServeEnds.{Landed, land_all_lands, is_coming, read_comes, read_length, in_flight, full_some}
-use Rattle.page_laws.proofs.Wholes.{serve_sizes}
-use Rattle.page_laws.proofs.Units.{unit_is}
+use Rattle.page_laws.proofs.Lists.Pages.{put_state}
+use Rattle.page_laws.proofs.Moves.Steps.{EvictRest, evict_rest}
+use Rattle.page_laws.proofs.Ownership.Runs.{done_owner}
+use Rattle.page_laws.proofs.Ownership.Serve.{force_owner, serve_owner}
+use Rattle.page_laws.proofs.Moves.Stays.{Steady, Stays, done_steady, force_stays}
+use Rattle.page_laws.proofs.Moves.Transfers.{reclaim_count, fill_count}
+use Rattle.page_laws.proofs.Ends.Serving.{Landed, land_all_lands, is_coming, read_comes, read_length, in_flight, full_some}
+use Rattle.page_laws.proofs.Ends.Wholes.{serve_sizes}
+use Rattle.page_laws.proofs.Moves.Units.{unit_is}
 use Rattle.economy_laws.specs.Spans.{is_hands, added, takes, takings, moves, moves_of}
 use Rattle.economy_laws.proofs.Spanning.{adds_one, added_both, takings_both, moves_both}
 use Rattle.economy_laws.proofs.Forcing.{done_rest, done_free, Short, forced_short, forced_moves}
@@ -169,7 +169,7 @@ flying_served b (e ∷ es) p r locked q now o there n h =
 -- A page that has no frame, while one is free.
 
 frameless_not_valid : (s : PageState) → frame_of s ≡ None → is_valid s ≡ true → ⊥
-frameless_not_valid (Valid f) e h = Rattle.page_laws.proofs.Local.none_some f (sym e)
+frameless_not_valid (Valid f) e h = Rattle.page_laws.proofs.Lists.Local.none_some f (sym e)
 frameless_not_valid (Coming f) e h = absurd cc
 frameless_not_valid (Going f) e h = absurd cc
 frameless_not_valid (Invalid f) e h = absurd cc
@@ -210,10 +210,10 @@ fed p locked q now e f fs n fr h = let a = unit_is p q now e h in go (state_of p
         (ap (serve_by p locked q) k ∙ ap (λ (l : List ℕ). feed_by p locked q Unfilled (filling_of p q) l (is_full p)) fr)
     go OnSwap k z i = read (is_full p) refl (i ∙ ap (λ (l : List ℕ). feed_entry_by p q OnSwap (filling_of p q) l (is_full p)) fr)
         (ap (serve_by p locked q) k ∙ ap (λ (l : List ℕ). feed_by p locked q OnSwap (filling_of p q) l (is_full p)) fr)
-    go (Valid g) k z i = Rattle.page_laws.proofs.Local.none_some g (sym z)
-    go (Invalid g) k z i = Rattle.page_laws.proofs.Local.none_some g (sym z)
-    go (Coming g) k z i = Rattle.page_laws.proofs.Local.none_some g (sym z)
-    go (Going g) k z i = Rattle.page_laws.proofs.Local.none_some g (sym z)
+    go (Valid g) k z i = Rattle.page_laws.proofs.Lists.Local.none_some g (sym z)
+    go (Invalid g) k z i = Rattle.page_laws.proofs.Lists.Local.none_some g (sym z)
+    go (Coming g) k z i = Rattle.page_laws.proofs.Lists.Local.none_some g (sym z)
+    go (Going g) k z i = Rattle.page_laws.proofs.Lists.Local.none_some g (sym z)
 
 first_of : (xs : List ℕ) → 0 < length xs → (f : ℕ) × (fs : List ℕ) × (xs ≡ f ∷ fs)
 first_of [] l = absurd (omega arith)
@@ -248,7 +248,7 @@ fed_served b (e ∷ es) p r locked q now o there n l h = let x = first_of p.free
     go (Read i s) more =
         let c = read_length p q in
         let enter : CanEnter p q = record { there = there; frameless = n } in
-        let k = flying_served false es (read_step p q) r locked q now (Rattle.page_laws.proofs.OwnsServe.read_owner p q o enter) (read_there s) (coming_flies (state_of (read_step p q) q) (read_comes p q o enter l)) (subst (λ (y : Placement). Serves es y locked q now r) s h.1) in
+        let k = flying_served false es (read_step p q) r locked q now (Rattle.page_laws.proofs.Ownership.Serve.read_owner p q o enter) (read_there s) (coming_flies (state_of (read_step p q) q) (read_comes p q o enter l)) (subst (λ (y : Placement). Serves es y locked q now r) s h.1) in
         looser b (e ∷ es) r q (1 + (length (read_step p q).transfers + 1)) 1 (length (read_step p q).transfers) 1 0 (length p.transfers + 3) 0 (length p.transfers) 1 0
         (more_served b (read_entry p q) e es r q (length (read_step p q).transfers + 1) 1 (length (read_step p q).transfers) 0 0 i refl refl k) (omega arith) (omega arith) (omega arith) (omega arith)
       where
@@ -280,10 +280,10 @@ forced_unit p locked q now e n fr h = let a = unit_is p q now e h in go (state_o
       i ∙ ap (λ (l : List ℕ). feed_entry_by p q OnSwap (filling_of p q) l (is_full p)) fr,
       ap (serve_by p locked q) k ∙ ap (λ (l : List ℕ). feed_by p locked q OnSwap (filling_of p q) l (is_full p)) fr,
     )
-    go (Valid g) k z i = Rattle.page_laws.proofs.Local.none_some g (sym z)
-    go (Invalid g) k z i = Rattle.page_laws.proofs.Local.none_some g (sym z)
-    go (Coming g) k z i = Rattle.page_laws.proofs.Local.none_some g (sym z)
-    go (Going g) k z i = Rattle.page_laws.proofs.Local.none_some g (sym z)
+    go (Valid g) k z i = Rattle.page_laws.proofs.Lists.Local.none_some g (sym z)
+    go (Invalid g) k z i = Rattle.page_laws.proofs.Lists.Local.none_some g (sym z)
+    go (Coming g) k z i = Rattle.page_laws.proofs.Lists.Local.none_some g (sym z)
+    go (Going g) k z i = Rattle.page_laws.proofs.Lists.Local.none_some g (sym z)
 
 split : (us : List Entry) (p r : Placement) (locked : List Page) (q : Page) (now : Bool) → OwnsFrames p → IsThere p q → frame_of (state_of p q) ≡ None → Serves us p locked q now r → Split us p r locked q now
 split [] p r locked q now o there n h = record { before = []; behind = []; middle = p; whole = refl; forces = refl; owner = o; there = there; frameless = n; then = inl (refl, h) }

@@ -1,24 +1,23 @@
 -- A process that sleeps can't step.
 use Rattle.std.proofs.Common.{◌≡◌, ℕ, Bool, true, false, List, Option, Some, None, if◌then◌else◌, refl, sym, ap, ◌∙◌, subst}
-use Rattle.vm_facts.specs.Flat.{Holding, Holds, Lends, Zombie, Process, FlatState}
+use Rattle.flat_state.specs.Flat.{Holding, Holds, Lends, Zombie, Process, FlatState, NamedImage, Inputs, holds_space, is_ready, ready_if, process_of, can_step}
 use Rattle.vm_facts.specs.declared.regs.Regs.{Regs}
 use Rattle.vm_facts.specs.declared.entry.Entry.{Entry}
 use Rattle.vm_facts.specs.declared.entry.Entry.TheVariants as entries
-use Rattle.page_model.specs.declared.change.Change.TheVariants.{Sleep}
-use Rattle.page_model.specs.Change.{replaced, with_process, changed_by, changed_if, apply_change, apply_writes}
-use Rattle.page_model.specs.Flat.{NamedImage, Inputs, holds_space, is_ready, ready_if, process_of, can_step}
+use Rattle.flat_state.specs.declared.change.Change.TheVariants.{Sleep}
+use Rattle.flat_state.specs.Change.{replaced, with_process, changed_by, changed_if, apply_change, apply_writes}
 use Rattle.page_model.specs.Placement.{Placement}
 use Rattle.page_model.specs.Moves.{touch_all}
 use Rattle.page_model.specs.Place.{place_change, space_of_process, is_borrower}
 use Rattle.page_model.specs.Swapper.{is_out}
-use Rattle.page_laws.proofs.FlatLists.{found_is, replaced_at}
-use Rattle.page_laws.proofs.Units.{unit_is}
+use Rattle.kernel_laws.proofs.Flat.Lists.{found_is, replaced_at}
+use Rattle.page_laws.proofs.Moves.Units.{unit_is}
 use Rattle.flat_laws.proofs.Others.{number_of_found}
 use Rattle.flat_model.specs.Run.{process_of_entry, step_at}
-use Rattle.flat_model.specs.State.{State}
-use Rattle.flat_model.specs.Wanted.{locked}
-use Rattle.flat_model.specs.After.{place_at, pages_written, after}
-use Rattle.flat_model.specs.Act.{act}
+use Rattle.run_model.specs.State.{State}
+use Rattle.run_model.specs.Wanted.{locked}
+use Rattle.run_model.specs.After.{place_at, pages_written, after}
+use Rattle.run_model.specs.Act.{act}
 use Rattle.run_model.specs.Next.{next_unit}
 use Rattle.run_model.specs.Kinds.{Runs, Kind, Fills, Brings, Copies, Serves, Acts, ComesIn, Interrupts, Moves, PutsOut, Notes, Begins}
 use Rattle.run_model.proofs.NextUnits.{kind_of}

@@ -1,7 +1,8 @@
 -- The steps of a process that can step: there is one, and what growth is.
 use Rattle.std.proofs.Common.{◌≡◌, ℕ, ◌==◌, Bool, true, false, List, [], ◌∷◌, Option, Some, None, Result, Ok, Err, ℤ, if◌then◌else◌, refl, sym, ap, ◌∙◌, subst, arith}
 use Rattle.std.proofs.lemmas.Bool.Decides.{nat_tests}
-use Rattle.vm_facts.specs.Flat.{Space, Holds, Process, FlatState}
+use Rattle.flat_state.specs.Space.{Space, address_in, byte_at, may_write_at, answers_of}
+use Rattle.flat_state.specs.Flat.{Holds, Process, FlatState, NamedImage, Inputs, process_of, can_step}
 use Rattle.vm_facts.specs.declared.entry.Entry.{Entry}
 use Rattle.vm_facts.specs.declared.entry.Entry.TheVariants as entries
 use Rattle.user_vax.specs.Effects.{Effect}
@@ -9,10 +10,8 @@ use Rattle.user_vax.specs.Instruction.{instruction}
 use Rattle.user_vax.specs.Program.{Program, Gives, Refuses, Reads, Tests, run, after_read, after_test}
 use Rattle.user_vax.specs.declared.refused.Refused.{Refused}
 use Rattle.user_vax.specs.declared.refused.Refused.TheVariants.{Miss, Below, Signal}
-use Rattle.page_model.specs.declared.spot.Spot.{Spot}
-use Rattle.page_model.specs.declared.spot.Spot.TheVariants as spots
-use Rattle.page_model.specs.Flat.{NamedImage, Inputs, process_of, can_step}
-use Rattle.page_model.specs.Space.{address_in, byte_at, may_write_at, answers_of}
+use Rattle.flat_state.specs.declared.spot.Spot.{Spot}
+use Rattle.flat_state.specs.declared.spot.Spot.TheVariants as spots
 use Rattle.flat_model.specs.declared.calls.Reply.{Reply}
 use Rattle.flat_model.specs.declared.calls.Reply.TheVariants.{Fails, Does, Writes, Waits, Exits}
 use Rattle.flat_model.specs.declared.calls.SystemCall.{SystemCall}
@@ -20,8 +19,8 @@ use Rattle.flat_model.specs.Calls.{call_of}
 use Rattle.flat_model.specs.Instruction.{instruction_in}
 use Rattle.flat_model.specs.Step.{Step, replied_step, reply_behind, called_step, step_behind, step_of, step_holding, step_if, flat_step, grown_step}
 use Rattle.flat_model.specs.Run.{step_at, is_refused, behind_first, due, due_at, first_if}
-use Rattle.flat_model.specs.State.{State}
-use Rattle.flat_model.specs.Act.{must_refuse, must_settle, act_by, act_if, act}
+use Rattle.run_model.specs.State.{State}
+use Rattle.run_model.specs.Act.{must_refuse, must_settle, act_by, act_if, act}
 use Rattle.run_model.specs.Kinds.{Runs}
 use Rattle.run_laws.specs.Running.{IsRun}
 use Rattle.run_laws.specs.Flowing.{Awaits, WaitsBy, Flows}

@@ -5,7 +5,7 @@ use Rattle.vm_facts.specs.declared.page.Page.{Page}
 use Rattle.vm_facts.specs.declared.page.Page.TheVariants.{Data}
 use Rattle.vm_facts.specs.declared.entry.Entry.{Entry}
 use Rattle.vm_facts.specs.declared.entry.Entry.TheVariants as entries
-use Rattle.page_model.specs.Flat.{Inputs, can_step}
+use Rattle.flat_state.specs.Flat.{Inputs, can_step}
 use Rattle.page_model.specs.Pages.{is_valid, numbered}
 use Rattle.page_model.specs.Placement.{Placement, Residence, Due, Start, CopyOf, due_at, state_of, IsThere}
 use Rattle.page_model.specs.Moves.{done}
@@ -13,22 +13,22 @@ use Rattle.page_model.specs.Place.{due_after, filled, moved, place_entry}
 use Rattle.page_model.specs.Serve.{force, serve_step, serve_entry, serve_unit}
 use Rattle.page_model.specs.Swapper.{residence_of, is_out}
 use Rattle.page_model.specs.Dues.{IsDue}
-use Rattle.page_laws.specs.Start.{ImagesFit}
-use Rattle.page_laws.proofs.Locks.{done_spares, force_spares, serve_spares}
-use Rattle.page_laws.proofs.OwnsServe.{state_there}
-use Rattle.page_laws.proofs.Residences.{moved_own}
-use Rattle.page_laws.proofs.Stays.{Steady, Stays, done_steady, force_stays}
-use Rattle.page_laws.proofs.Transfers.{fill_count}
-use Rattle.page_laws.proofs.Units.{unit_is, now_unit}
+use Rattle.kernel_model.specs.Start.{ImagesFit}
+use Rattle.page_laws.proofs.Moves.Locks.{done_spares, force_spares, serve_spares}
+use Rattle.page_laws.proofs.Ownership.Serve.{state_there}
+use Rattle.page_laws.proofs.Swapper.Residences.{moved_own}
+use Rattle.page_laws.proofs.Moves.Stays.{Steady, Stays, done_steady, force_stays}
+use Rattle.page_laws.proofs.Moves.Transfers.{fill_count}
+use Rattle.page_laws.proofs.Moves.Units.{unit_is, now_unit}
 use Rattle.touch_laws.proofs.Distinct.{among_first}
 use Rattle.flat_model.specs.Run.{Point, process_of_entry, may_follow, is_outcome_of, is_call_of, flat_entry, flat_entry_by, flat_entry_if}
-use Rattle.flat_model.specs.State.{State}
+use Rattle.run_model.specs.State.{State}
 use Rattle.flat_model.specs.Touched.{touched}
-use Rattle.flat_model.specs.Wanted.{AllValid, before_absent, first_absent, wanted, locked_by, locked, Splits}
-use Rattle.flat_model.specs.After.{place_at, after}
-use Rattle.flat_model.specs.Act.{act}
-use Rattle.flat_model.proofs.Acting.{next_flat}
-use Rattle.flat_model.proofs.Wanting.{none_absent, before_past, split_first, split_before, all_present}
+use Rattle.run_model.specs.Wanted.{AllValid, before_absent, first_absent, wanted, locked_by, locked, Splits}
+use Rattle.run_model.specs.After.{place_at, after}
+use Rattle.run_model.specs.Act.{act}
+use Rattle.run_model.proofs.Acting.{next_flat}
+use Rattle.run_model.proofs.Wanting.{none_absent, before_past, split_first, split_before, all_present}
 use Rattle.run_model.specs.Next.{fill_by, fill_unit, next_unit}
 use Rattle.run_model.specs.Kinds.{Runs}
 use Rattle.run_model.specs.Lawful.{Follows}

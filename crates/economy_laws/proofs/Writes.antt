@@ -8,23 +8,24 @@ use Rattle.vm_facts.specs.declared.entry.Entry.{Entry}
 use Rattle.vm_facts.specs.declared.entry.Entry.TheVariants as entries
 use Rattle.swap_book.specs.declared.Owner.TheVariants as owners
 use Rattle.swap_book.specs.Holdings.{lengths}
-use Rattle.page_model.specs.Flat.{Inputs, process_of}
-use Rattle.page_model.specs.Pages.{Filling, Zeros, OfImage, same_page, is_among, is_dirty_by, number_of, beside, pages_from}
+use Rattle.flat_state.specs.Flat.{Inputs, process_of}
+use Rattle.page_model.specs.Pages.{Filling, Zeros, OfImage, is_dirty_by}
+use Rattle.flat_state.specs.PageNames.{same_page, is_among, number_of, beside, pages_from}
 use Rattle.page_model.specs.Placement.{Placement, Transfer, state_of, filling_of, is_dirty, slots_of, sharers}
 use Rattle.page_model.specs.Place.{space_of_process}
 use Rattle.page_model.specs.Runs.{run_put, run_put_by, run_up, is_seated, is_near, most_written}
 use Rattle.page_model.specs.Serve.{force_entry, is_full, read_entry_if, bring_entry_by, feed_entry_by, serve_entry_by, serve_entry}
 use Rattle.page_model.specs.Ownership.{OneOwner, OwnsBlocks, text_pieces_while}
-use Rattle.page_model.specs.Kernel.{Sound, lives}
-use Rattle.page_laws.specs.Start.{ImagesFit}
-use Rattle.page_laws.proofs.PageLaws.{same_page_self}
-use Rattle.page_laws.proofs.RunLaws.{and_both, run_each, run_up_in}
-use Rattle.page_laws.proofs.PutOuts.{unit_case}
-use Rattle.page_laws.proofs.Units.{unit_is}
+use Rattle.kernel_model.specs.Sound.{Sound, lives}
+use Rattle.kernel_model.specs.Start.{ImagesFit}
+use Rattle.page_laws.proofs.Lists.Pages.{same_page_self}
+use Rattle.page_laws.proofs.Lists.Runs.{and_both, run_each, run_up_in}
+use Rattle.page_laws.proofs.Swapper.PuttingOut.{unit_case}
+use Rattle.page_laws.proofs.Moves.Units.{unit_is}
 use Rattle.flat_model.specs.Run.{process_of_entry, step_at}
-use Rattle.flat_model.specs.State.{State}
-use Rattle.flat_model.specs.After.{place_at, after}
-use Rattle.flat_model.specs.Wanted.{locked}
+use Rattle.run_model.specs.State.{State}
+use Rattle.run_model.specs.After.{place_at, after}
+use Rattle.run_model.specs.Wanted.{locked}
 use Rattle.run_model.specs.Next.{fill_by, fill_unit, begins_write, move_by, move_unit, next_unit}
 use Rattle.run_model.specs.Kinds.{Kind, Fills, Brings, Copies, Serves, Acts, ComesIn, Interrupts, Moves, PutsOut, Notes, Begins}
 use Rattle.run_model.specs.Lawful.{Follows}

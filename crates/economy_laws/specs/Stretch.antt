@@ -1,16 +1,15 @@
 -- Stretches of the closing phase: from a turn or a counted instruction up to the next of either.
 use Rattle.std.specs.Prelude.{◌≡◌, ℕ, ◌+◌, ◌≤◌, Bool, true, false, cond, List, [], ◌∷◌, ◌++◌, length, Some}
-use Rattle.vm_facts.specs.Flat.{Process}
+use Rattle.flat_state.specs.Flat.{Process, Inputs, is_ready}
 use Rattle.vm_facts.specs.declared.page.Page.{Page}
 use Rattle.vm_facts.specs.declared.entry.Entry.{Entry}
 use Rattle.vm_facts.specs.declared.entry.Entry.TheVariants as entries
-use Rattle.page_model.specs.Flat.{Inputs, is_ready}
 use Rattle.page_model.specs.Swapper.{is_out}
-use Rattle.flat_model.specs.declared.mark.Mark.TheVariants as marks
-use Rattle.flat_model.specs.State.{State}
+use Rattle.run_model.specs.declared.mark.Mark.TheVariants as marks
+use Rattle.run_model.specs.State.{State}
 use Rattle.flat_model.specs.Touched.{touched}
-use Rattle.flat_model.specs.Wanted.{AllValid}
-use Rattle.flat_model.specs.After.{after}
+use Rattle.run_model.specs.Wanted.{AllValid}
+use Rattle.run_model.specs.After.{after}
 use Rattle.run_model.specs.Next.{next_unit}
 use Rattle.run_laws.specs.Running.{IsRun}
 

@@ -6,12 +6,12 @@ use Rattle.vm_facts.specs.declared.entry.Entry.{Entry}
 use Rattle.vm_facts.specs.declared.entry.Entry.TheVariants as entries
 use Rattle.swap_book.specs.declared.Owner.TheVariants as owners
 use Rattle.swap_book.specs.Holdings.{lengths}
-use Rattle.page_model.specs.Flat.{Inputs}
-use Rattle.page_model.specs.Pages.{same_page, is_among}
+use Rattle.flat_state.specs.Flat.{Inputs}
+use Rattle.flat_state.specs.PageNames.{same_page, is_among}
 use Rattle.page_model.specs.Placement.{Placement, Transfer, Part, Errand, Writes, Reads, FromFile}
 use Rattle.flat_model.specs.Run.{step_at}
-use Rattle.flat_model.specs.State.{State}
-use Rattle.flat_model.specs.After.{pages_written, after}
+use Rattle.run_model.specs.State.{State}
+use Rattle.run_model.specs.After.{pages_written, after}
 
 -- Writes.
 

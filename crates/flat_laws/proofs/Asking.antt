@@ -1,7 +1,8 @@
 -- The pieces that a change wants by the placement are those that it wants by the flat state.
 use Rattle.std.proofs.Common.{◌≡◌, ℕ, zero, suc, ◌+◌, ◌*◌, ◌/◌, ◌==◌, Bool, true, false, cond, List, [], ◌∷◌, ◌++◌, length, drop, map, find, append_assoc, Option, Some, None, refl, sym, ap, ap₂, ◌∙◌, subst, arith}
 use Rattle.std.proofs.lemmas.List.{length-map, drop-map}
-use Rattle.vm_facts.specs.Flat.{Space, Holding, Holds, Lends, Zombie, Process, FlatState}
+use Rattle.flat_state.specs.Space.{Space}
+use Rattle.flat_state.specs.Flat.{Holding, Holds, Lends, Zombie, Process, FlatState, NamedImage, Inputs, image_numbered, process_of, can_step, is_ready, ready_if, space_held, spaces_of}
 use Rattle.vm_facts.specs.declared.page.Page.TheVariants.{Text}
 use Rattle.aout_image.specs.Image.{text_pages_of, data_pages_of}
 use Rattle.swap_dmap.specs.Chunks.{pieces, text_pieces}
@@ -9,25 +10,26 @@ use Rattle.swap_book.specs.declared.Owner.{Owner}
 use Rattle.swap_book.specs.declared.Owner.TheVariants as owners
 use Rattle.swap_book.specs.Owners.{u_pieces}
 use Rattle.swap_book.specs.Placing.{Wanted, one, wanted}
-use Rattle.page_model.specs.declared.change.Change.{Change}
-use Rattle.page_model.specs.declared.change.Change.TheVariants.{Keep, Resize, Fork, Lend, Exec, Reap, Sleep, End}
-use Rattle.page_model.specs.Flat.{NamedImage, Inputs, image_numbered, process_of, can_step, is_ready, ready_if}
+use Rattle.flat_state.specs.declared.change.Change.{Change}
+use Rattle.flat_state.specs.declared.change.Change.TheVariants.{Keep, Resize, Fork, Lend, Exec, Reap, Sleep, End}
 use Rattle.page_model.specs.Pages.{SpacePages, numbered, data_in, stack_in}
 use Rattle.page_model.specs.Placement.{space_number, slots_of, sharers, sharers_in}
 use Rattle.page_model.specs.Place.{data_count, stack_count}
-use Rattle.page_model.specs.Kernel.{Life, HoldsSpace, Kernel, Proc, SameTables, Fits, TextFits, space_held, spaces_of, text_of}
-use Rattle.page_model.specs.FlatStep.{space_of_life, life_of_proc}
-use Rattle.page_laws.specs.FlatStands.{IsAbsent, AllDistinct, IsNumbered}
-use Rattle.page_laws.specs.Numbers.{AllDiffer, Numbered}
-use Rattle.page_laws.specs.Start.{ImagesFit}
-use Rattle.page_laws.specs.Asks.{text_asked, image_asked, change_asks, asked}
+use Rattle.kernel_model.specs.Kernel.{Life, HoldsSpace, Kernel, Proc}
+use Rattle.kernel_model.specs.Coupled.{SameTables, Fits, text_of}
+use Rattle.kernel_model.specs.Sound.{TextFits}
+use Rattle.kernel_model.specs.ChangeStep.{space_of_life, life_of_proc}
+use Rattle.flat_state.specs.Numbers.{IsAbsent, AllDistinct, IsNumbered}
+use Rattle.kernel_model.specs.Numbers.{AllDiffer, Numbered}
+use Rattle.kernel_model.specs.Start.{ImagesFit}
+use Rattle.kernel_model.specs.Asks.{text_asked, image_asked, change_asks, asked}
 use Rattle.page_model.specs.Frames.{times}
-use Rattle.page_laws.proofs.Local.{none_some, some_is}
-use Rattle.page_laws.proofs.Numbered.{eq_is, eq_self, hit, miss, absent_none}
-use Rattle.page_laws.proofs.FlatLists.{sid_of, held, held_at, held_own}
-use Rattle.page_laws.proofs.KernelSwaps.{found_self}
-use Rattle.page_laws.proofs.KernelTables.{all_fit}
-use Rattle.page_laws.proofs.ProcTables.{Stepping, stepping}
+use Rattle.page_laws.proofs.Lists.Local.{none_some, some_is}
+use Rattle.kernel_laws.proofs.Flat.Numbered.{eq_is, eq_self, hit, miss, absent_none}
+use Rattle.kernel_laws.proofs.Flat.Lists.{sid_of, held, held_at, held_own}
+use Rattle.kernel_laws.proofs.Machine.Swaps.{found_self}
+use Rattle.kernel_laws.proofs.Machine.Tables.{all_fit}
+use Rattle.kernel_laws.proofs.Machine.Processes.{Stepping, stepping}
 use Rattle.flat_model.specs.Calls.{stack_pages_of}
 use Rattle.flat_model.specs.Step.{flat_step, data_pages_of as data_pages_in}
 use Rattle.flat_model.specs.Asked.{pieces_for, has_image, is_there, is_shared, text_wanted, image_wanted, change_wanted, wanted_in, wanted_if, asks_by, asks}

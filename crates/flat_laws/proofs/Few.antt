@@ -1,8 +1,8 @@
 -- How few pages an instruction touches in a run.
 use Rattle.std.proofs.Common.{◌≡◌, ℕ, ◌≤◌, List, length, Some}
 use Rattle.vm_facts.specs.declared.entry.Entry.{Entry}
-use Rattle.page_model.specs.Flat.{NamedImage, Inputs}
-use Rattle.page_laws.specs.Start.{ImagesFit}
+use Rattle.flat_state.specs.Flat.{NamedImage, Inputs}
+use Rattle.kernel_model.specs.Start.{ImagesFit}
 use Rattle.flat_model.specs.Run.{Point, flat_run}
 use Rattle.flat_model.specs.Touched.{touched}
 use Rattle.touch_laws.specs.Whole.{EachWhole, ImagesWhole}

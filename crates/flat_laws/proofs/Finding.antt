@@ -1,9 +1,10 @@
 -- The process of a number, where the list of processes changes.
 use Rattle.std.proofs.Common.{◌≡◌, ◌≢◌, ℕ, ◌==◌, Bool, true, false, cond, ◌&&◌, List, [], ◌∷◌, ◌++◌, map, filter, find, Some, refl, sym, ap, ◌∙◌, subst, arith, eq-eqb}
 use Rattle.std.proofs.lemmas.Bool.Decides.{nat_tests}
-use Rattle.vm_facts.specs.Flat.{Space, Holding, Holds, Process}
-use Rattle.page_model.specs.Change.{replaced_by, replaced, returned_by, returned, lends_to, is_zombie_child, is_zombie}
-use Rattle.page_laws.specs.FlatStands.{IsAbsent, AllDistinct}
+use Rattle.flat_state.specs.Space.{Space}
+use Rattle.flat_state.specs.Flat.{Holding, Holds, Process}
+use Rattle.flat_state.specs.Change.{replaced_by, replaced, returned_by, returned, lends_to, is_zombie_child, is_zombie}
+use Rattle.flat_state.specs.Numbers.{IsAbsent, AllDistinct}
 
 -- the process of this number in a list holds this space
 pub record FoundHolding (qs : List Process) (pid : ℕ) (s : Space) : Type 0 where

@@ -1,22 +1,20 @@
 -- Each process has a number of its own, and so has each space, below the next ones.
 use Rattle.std.proofs.Common.{◌≡◌, ℕ, ◌+◌, ◌<◌, ◌≤◌, Bool, true, false, List, [], ◌∷◌, ◌++◌, length, map, flat_map, Option, Some, None, Result, Ok, Err, ℤ, refl, sym, ap, ◌∙◌, subst, arith}
 use Rattle.vm_facts.specs.Answers.{ByteWrite}
-use Rattle.vm_facts.specs.Flat.{Space, Holding, Holds, Lends, Zombie, Process, FlatState}
+use Rattle.flat_state.specs.Space.{Space, answers_of, puts}
+use Rattle.flat_state.specs.Flat.{Holding, Holds, Lends, Zombie, Process, FlatState, NamedImage, Inputs, image_numbered, process_of, can_step, start_if, start_processes, start_state, space_held}
 use Rattle.vm_facts.specs.declared.entry.Entry.{Entry}
 use Rattle.vm_facts.specs.declared.entry.Entry.TheVariants.{Refused}
 use Rattle.vm_facts.specs.declared.regs.Regs.{Regs}
 use Rattle.user_vax.specs.Effects.{Effect}
 use Rattle.user_vax.specs.declared.refused.Refused.{Refused as Refusal}
 use Rattle.user_vax.specs.declared.refused.Refused.TheVariants.{Miss, Below, Signal}
-use Rattle.page_model.specs.Flat.{NamedImage, Inputs, image_numbered, process_of, can_step, start_if, start_processes, start_state}
-use Rattle.page_model.specs.Journal.{units_of}
-use Rattle.page_model.specs.Space.{answers_of, puts}
-use Rattle.page_model.specs.Change.{changed_by, changed_if, apply_change, apply_writes, wrote_by, wrote_if}
-use Rattle.page_model.specs.Kernel.{space_held}
-use Rattle.page_laws.specs.FlatStands.{IsAbsent, AllDistinct, AllBelow, AllLower, IsNumbered, MayChange}
-use Rattle.page_laws.proofs.FlatNumbers.{writes_numbered, changes_numbered}
-use Rattle.page_model.specs.declared.change.Change.{Change}
-use Rattle.page_model.specs.declared.change.Change.TheVariants.{Keep, Sleep, End}
+use Rattle.flat_state.specs.Journal.{units_of}
+use Rattle.flat_state.specs.Change.{changed_by, changed_if, apply_change, apply_writes, wrote_by, wrote_if, NamesChild}
+use Rattle.flat_state.specs.Numbers.{IsAbsent, AllDistinct, AllBelow, AllLower, IsNumbered}
+use Rattle.kernel_laws.proofs.Flat.Numbers.{writes_numbered, changes_numbered}
+use Rattle.flat_state.specs.declared.change.Change.{Change}
+use Rattle.flat_state.specs.declared.change.Change.TheVariants.{Keep, Sleep, End}
 use Rattle.flat_model.specs.declared.calls.Reply.{Reply}
 use Rattle.flat_model.specs.declared.calls.Reply.TheVariants as replies
 use Rattle.flat_model.specs.declared.calls.SystemCall.{SystemCall}
@@ -32,7 +30,7 @@ applied : (images : List NamedImage) (F : FlatState) (of : ℕ) (regs : Regs) (c
 unfolding apply_change
 applied images F of regs change = refl
 
-change_kept : (images : List NamedImage) (F : FlatState) (of : ℕ) (regs : Regs) (change : Change) → MayChange F change → IsNumbered F → IsNumbered (apply_change images F of regs change)
+change_kept : (images : List NamedImage) (F : FlatState) (of : ℕ) (regs : Regs) (change : Change) → NamesChild F change → IsNumbered F → IsNumbered (apply_change images F of regs change)
 change_kept images F of regs change fits h = go (process_of F of) refl
   where
     is : (o : Option Process) → process_of F of ≡ o → apply_change images F of regs change ≡ changed_if images F regs change o
@@ -68,7 +66,7 @@ writes_kept F of ws h = go (process_of F of) refl
 
 -- Steps.
 
-after_kept : (images : List NamedImage) (F : FlatState) (p : Process) (ws : List ByteWrite) (regs : Regs) (change : Change) → MayChange (apply_writes F p.pid ws) change → IsNumbered F → IsNumbered (apply_change images (apply_writes F p.pid ws) p.pid regs change)
+after_kept : (images : List NamedImage) (F : FlatState) (p : Process) (ws : List ByteWrite) (regs : Regs) (change : Change) → NamesChild (apply_writes F p.pid ws) change → IsNumbered F → IsNumbered (apply_change images (apply_writes F p.pid ws) p.pid regs change)
 after_kept images F p ws regs change fits h = change_kept images (apply_writes F p.pid ws) p.pid regs change fits (writes_kept F p.pid ws h)
 
 replied_kept : (images : List NamedImage) (F : FlatState) (p : Process) (call : SystemCall) (effect : Effect) (reply : Reply) → ReplyFits (apply_writes F p.pid effect.writes) reply → IsNumbered F → IsNumbered (replied_step images F p call effect reply).after

@@ -2,23 +2,22 @@
 use Rattle.std.proofs.Common.{◌≡◌, ◌≢◌, ℕ, ◌==◌, Bool, true, false, not, List, [], find, Option, Some, None, Result, Ok, Err, ℤ, refl, sym, ap, ◌∙◌, subst, arith}
 use Rattle.std.proofs.lemmas.Bool.Decides.{nat_tests}
 use Rattle.vm_facts.specs.Answers.{ByteWrite}
-use Rattle.vm_facts.specs.Flat.{Space, Holding, Holds, Lends, Zombie, Process, FlatState}
+use Rattle.flat_state.specs.Space.{Space, answers_of, puts}
+use Rattle.flat_state.specs.Flat.{Holding, Holds, Lends, Zombie, Process, FlatState, NamedImage, Inputs, image_numbered, process_of, space_with}
 use Rattle.vm_facts.specs.declared.regs.Regs.{Regs}
 use Rattle.user_vax.specs.Effects.{Effect}
 use Rattle.user_vax.specs.declared.refused.Refused.{Refused}
 use Rattle.user_vax.specs.declared.refused.Refused.TheVariants.{Miss, Below, Signal}
-use Rattle.page_model.specs.Flat.{NamedImage, Inputs, image_numbered, process_of, space_with}
-use Rattle.page_model.specs.Space.{answers_of, puts}
-use Rattle.page_model.specs.Change.{changed, changed_by, changed_if, apply_change, apply_writes, wrote_by, wrote_if, with_process, without_process, given_back, orphaned, left, entered, child_of, resized, without_parent, awake, is_zombie_child}
-use Rattle.page_model.specs.declared.change.Change.{Change}
-use Rattle.page_model.specs.declared.change.Change.TheVariants.{Keep, Resize, Fork, Lend, Exec, Reap, Sleep, End}
+use Rattle.flat_state.specs.Change.{changed, changed_by, changed_if, apply_change, apply_writes, wrote_by, wrote_if, with_process, without_process, given_back, orphaned, left, entered, child_of, resized, without_parent, awake, is_zombie_child, NamesChild}
+use Rattle.flat_state.specs.declared.change.Change.{Change}
+use Rattle.flat_state.specs.declared.change.Change.TheVariants.{Keep, Resize, Fork, Lend, Exec, Reap, Sleep, End}
 use Rattle.flat_model.specs.declared.calls.Reply.{Reply}
 use Rattle.flat_model.specs.declared.calls.Reply.TheVariants as replies
 use Rattle.flat_model.specs.declared.calls.SystemCall.{SystemCall}
 use Rattle.flat_model.specs.Calls.{call_of}
 use Rattle.flat_model.specs.Instruction.{instruction_in}
 use Rattle.flat_model.specs.Step.{step_of, step_behind, called_step, replied_step, step_holding, step_if, flat_step, written_process, reply_behind}
-use Rattle.page_laws.specs.FlatStands.{AllDistinct, pids_of, MayChange}
+use Rattle.flat_state.specs.Numbers.{AllDistinct, pids_of}
 use Rattle.flat_laws.specs.Others.{HoldsStill}
 use Rattle.flat_laws.proofs.Finding.{FoundHolding, found_replaced, found_returned, found_filtered, found_mapped, found_front, pids_replaced, holder_is_none, found_passes}
 use Rattle.flat_laws.proofs.Replies.{ReplyFits, reply_fits}
@@ -38,7 +37,7 @@ without_stays qs of pid s other h =
 -- Changes.
 
 -- a zombie isn't one that holds a space
-zombie_apart : (F : FlatState) (child pid : ℕ) (s : Space) → MayChange F (Reap child) → FoundHolding F.processes pid s → child ≢ pid
+zombie_apart : (F : FlatState) (child pid : ℕ) (s : Space) → NamesChild F (Reap child) → FoundHolding F.processes pid s → child ≢ pid
 zombie_apart F child pid s may found = λ same.
     let one : Some may.0 ≡ Some found.process = sym may.2 ∙ ap (λ (n : ℕ). process_of F n) same ∙ found.here in
     let it : may.0 ≡ found.process = cc in
@@ -60,7 +59,7 @@ entered_stays F p t image (Some named) top pid s other h =
     found_returned p.pid t (with_process F record p { holding = Holds (space_with F.next_sid image named.image top) }).processes pid s
     (found_replaced F.processes (record p { holding = Holds (space_with F.next_sid image named.image top) }) pid s other h)
 
-changed_stays : (images : List NamedImage) (F : FlatState) (p : Process) (t : Space) (change : Change) (pid : ℕ) (s : Space) → MayChange F change → p.pid ≢ pid → FoundHolding F.processes pid s → FoundHolding (changed images F p t change).processes pid s
+changed_stays : (images : List NamedImage) (F : FlatState) (p : Process) (t : Space) (change : Change) (pid : ℕ) (s : Space) → NamesChild F change → p.pid ≢ pid → FoundHolding F.processes pid s → FoundHolding (changed images F p t change).processes pid s
 changed_stays images F p t Keep pid s fits other h = found_replaced F.processes p pid s other h
 changed_stays images F p t (Resize a b) pid s fits other h = found_replaced F.processes (record p { holding = Holds (resized t a b) }) pid s other h
 changed_stays images F p t (Fork child) pid s fits other h =
@@ -78,7 +77,7 @@ changed_stays images F p t (End status) pid s fits other h =
     (orphaned_stays (given_back (with_process F dead) p.pid t) p.pid pid s
     (found_returned p.pid t (with_process F dead).processes pid s (found_replaced F.processes dead pid s other h)))
 
-change_stays : (images : List NamedImage) (F : FlatState) (of : ℕ) (regs : Regs) (change : Change) (pid : ℕ) (s : Space) → MayChange F change → of ≢ pid → FoundHolding F.processes pid s → FoundHolding (apply_change images F of regs change).processes pid s
+change_stays : (images : List NamedImage) (F : FlatState) (of : ℕ) (regs : Regs) (change : Change) (pid : ℕ) (s : Space) → NamesChild F change → of ≢ pid → FoundHolding F.processes pid s → FoundHolding (apply_change images F of regs change).processes pid s
 unfolding apply_change
 change_stays images F of regs change pid s fits other h = go (process_of F of) refl
   where
@@ -122,7 +121,7 @@ pids_written F of ws = go (process_of F of)
 -- Steps.
 
 with_stays : (images : List NamedImage) (F : FlatState) (p : Process) (ws : List ByteWrite) (regs : Regs) (change : Change) (pid : ℕ) (s : Space)
-    → MayChange (apply_writes F p.pid ws) change → p.pid ≢ pid → FoundHolding F.processes pid s → FoundHolding (apply_change images (apply_writes F p.pid ws) p.pid regs change).processes pid s
+    → NamesChild (apply_writes F p.pid ws) change → p.pid ≢ pid → FoundHolding F.processes pid s → FoundHolding (apply_change images (apply_writes F p.pid ws) p.pid regs change).processes pid s
 with_stays images F p ws regs change pid s fits other h =
     change_stays images (apply_writes F p.pid ws) p.pid regs change pid s fits other (writes_stay F p.pid ws pid s other h)
 

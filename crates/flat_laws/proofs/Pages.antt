@@ -1,7 +1,7 @@
 -- Pages in lists of pages.
 use Rattle.std.proofs.Common.{◌≡◌, Bool, true, false, not, cond, ◌||◌, List, [], ◌∷◌, filter, refl, ap, ◌∙◌}
 use Rattle.vm_facts.specs.declared.page.Page.{Page}
-use Rattle.page_model.specs.Pages.{same_page, is_among}
+use Rattle.flat_state.specs.PageNames.{same_page, is_among}
 use Rattle.flat_model.specs.Touched.{distinct}
 use Rattle.touch_laws.proofs.Distinct.{same_self, same_is}
 

@@ -1,27 +1,27 @@
 -- What the replies of calls do to processes that hold spaces.
 use Rattle.std.proofs.Common.{◌&&◌, ◌≡◌, ℕ, ◌==◌, ◌||◌, nat_lt, nat_le, min, length, ◌%◌, ◌*◌, Bool, true, false, List, find, Option, Some, None, refl}
 use Rattle.vm_facts.specs.Answers.{Answers}
-use Rattle.vm_facts.specs.Flat.{Space, Holding, Holds, Lends, Zombie, Process, FlatState}
+use Rattle.flat_state.specs.Space.{Space}
+use Rattle.flat_state.specs.Flat.{Holding, Holds, Lends, Zombie, Process, FlatState, NamedImage}
 use Rattle.vm_facts.specs.declared.memory.ByteRead.{ByteRead}
 use Rattle.vm_facts.specs.declared.memory.ByteRead.TheVariants as bytes
 use Rattle.vm_facts.specs.declared.memory.MayWrite.{MayWrite}
 use Rattle.vm_facts.specs.declared.memory.MayWrite.TheVariants as tests
 use Rattle.vm_facts.specs.declared.regs.Regs.{Regs}
 use Rattle.user_vax.specs.Program.{Program, Gives, Refuses, Reads, Tests, ◌>>=◌, run, after_read, after_test}
-use Rattle.page_model.specs.Flat.{NamedImage}
-use Rattle.page_model.specs.Change.{is_zombie_child, is_zombie}
-use Rattle.page_model.specs.declared.change.Change.TheVariants.{Fork, Lend, Reap}
+use Rattle.flat_state.specs.Change.{is_zombie_child, is_zombie, NamesChild}
+use Rattle.flat_state.specs.declared.change.Change.TheVariants.{Fork, Lend, Reap}
 use Rattle.flat_model.specs.declared.calls.Reply.{Reply}
 use Rattle.flat_model.specs.declared.calls.Reply.TheVariants.{Fails, Does, Writes, Waits, Exits}
 use Rattle.flat_model.specs.declared.calls.SystemCall.{SystemCall}
 use Rattle.flat_model.specs.declared.calls.SystemCall.TheVariants as calls
 use Rattle.flat_model.specs.Calls.{argument, three_arguments, bytes_from, string_from, arguments_at, exit_reply, child_by, written_to, write_reply, break_by, break_reply, pages_up_to, stack_pages_of, data_limit, path_image, starts, execve_of, execve_reply, wait_by, wait_reply, reply_of, or_fault, refused_reply, unless_refused, wants_space, string_limit, write_limit, process_limit}
-use Rattle.page_laws.specs.FlatStands.{AllDistinct, MayChange}
+use Rattle.flat_state.specs.Numbers.{AllDistinct}
 use Rattle.flat_laws.proofs.Finding.{pids, found_by_number, zombie_passes}
 
 -- a reply whose change may be made
 abbrev pub ReplyFits : FlatState → Reply → Type 0
-ReplyFits F (Does regs change) = MayChange F change
+ReplyFits F (Does regs change) = NamesChild F change
 ReplyFits F (Fails error) = Unit {0}
 ReplyFits F (Writes bytes) = Unit {0}
 ReplyFits F Waits = Unit {0}
@@ -92,7 +92,7 @@ second true b h = h
 second false b h = absurd cc
 
 -- wait takes a zombie
-zombie_fits : (F : FlatState) (pid : ℕ) (z : Process) → AllDistinct (pids F.processes) → find (is_zombie_child pid) F.processes ≡ Some z → MayChange F (Reap z.pid)
+zombie_fits : (F : FlatState) (pid : ℕ) (z : Process) → AllDistinct (pids F.processes) → find (is_zombie_child pid) F.processes ≡ Some z → NamesChild F (Reap z.pid)
 zombie_fits F pid z own h =
     let ended = zombie_is z.holding (second (z.parent == pid) (is_zombie z.holding) (zombie_passes pid F.processes z h)) in
     (z, ended.0, found_by_number (is_zombie_child pid) F.processes z own h, ended.1)

@@ -2,7 +2,8 @@
 use Rattle.std.proofs.Common.{◌≡◌, ℕ, ◌/◌, Bool, true, false, List, [], ◌∷◌, ◌++◌, filter_map, Option, Some, None, Result, Ok, Err, ℤ, refl, sym, ap, ◌∙◌, subst}
 use Rattle.std.specs.List.{cons_option}
 use Rattle.vm_facts.specs.Answers.{Answers, ByteWrite}
-use Rattle.vm_facts.specs.Flat.{Space, Holds, Process, FlatState}
+use Rattle.flat_state.specs.Space.{Space, address_in, byte_at, may_write_at, answers_of, put_at, put, puts}
+use Rattle.flat_state.specs.Flat.{Holds, Process, FlatState, NamedImage, Inputs, process_of, is_ready}
 use Rattle.vm_facts.specs.declared.memory.ByteRead.{ByteRead}
 use Rattle.vm_facts.specs.declared.memory.ByteRead.TheVariants as bytes
 use Rattle.vm_facts.specs.declared.memory.MayWrite.{MayWrite}
@@ -15,13 +16,11 @@ use Rattle.user_vax.specs.Instruction.{instruction, MayAll}
 use Rattle.user_vax.specs.declared.refused.Refused.{Refused}
 use Rattle.user_vax.specs.declared.refused.Refused.TheVariants.{Miss, Below, Signal}
 use Rattle.user_vax.proofs.Allowed.{instruction_allowed}
-use Rattle.page_model.specs.declared.spot.Spot.{Spot}
-use Rattle.page_model.specs.declared.spot.Spot.TheVariants as spots
-use Rattle.page_model.specs.Flat.{NamedImage, Inputs, process_of, is_ready}
-use Rattle.page_model.specs.Pages.{is_among}
-use Rattle.page_model.specs.Change.{apply_writes}
-use Rattle.page_model.specs.Space.{address_in, byte_at, may_write_at, answers_of, put_at, put, puts}
-use Rattle.page_model.proofs.SpaceLaws.{spot_after}
+use Rattle.flat_state.specs.declared.spot.Spot.{Spot}
+use Rattle.flat_state.specs.declared.spot.Spot.TheVariants as spots
+use Rattle.flat_state.specs.PageNames.{is_among}
+use Rattle.flat_state.specs.Change.{apply_writes}
+use Rattle.flat_state.proofs.SpaceLaws.{spot_after}
 use Rattle.flat_model.specs.declared.calls.Reply.{Reply}
 use Rattle.flat_model.specs.declared.calls.Reply.TheVariants as replies
 use Rattle.flat_model.specs.declared.calls.SystemCall.{SystemCall}

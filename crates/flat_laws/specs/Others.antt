@@ -1,9 +1,9 @@
 -- What a process holds, behind a step of another one.
 use Rattle.std.specs.Prelude.{◌≡◌, ℕ, ◌==◌, Bool, true, false, Option, Some}
-use Rattle.vm_facts.specs.Flat.{Space, Holds, Process, FlatState}
+use Rattle.flat_state.specs.Space.{Space}
+use Rattle.flat_state.specs.Flat.{Holds, Process, FlatState, process_of}
 use Rattle.vm_facts.specs.declared.entry.Entry.{Entry}
 use Rattle.vm_facts.specs.declared.entry.Entry.TheVariants.{Out, Refused}
-use Rattle.page_model.specs.Flat.{process_of}
 
 -- the process is there, and holds this space, byte for byte
 pub record HoldsStill (F : FlatState) (pid : ℕ) (s : Space) : Type 0 where

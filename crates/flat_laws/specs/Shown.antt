@@ -1,10 +1,9 @@
 -- Bytes of some pages alone, and the call of an instruction.
 use Rattle.std.specs.Prelude.{◌≡◌, true, List, [], ◌∷◌, ℤ, Option, Some, None}
 use Rattle.vm_facts.specs.Answers.{ByteWrite}
-use Rattle.vm_facts.specs.Flat.{Space}
+use Rattle.flat_state.specs.Space.{Space, address_in}
 use Rattle.vm_facts.specs.declared.page.Page.{Page}
-use Rattle.page_model.specs.Pages.{is_among}
-use Rattle.page_model.specs.Space.{address_in}
+use Rattle.flat_state.specs.PageNames.{is_among}
 use Rattle.user_vax.specs.Effects.{Effect}
 use Rattle.flat_model.specs.declared.calls.SystemCall.{SystemCall}
 use Rattle.flat_model.specs.Calls.{call_of}

@@ -15,21 +15,21 @@
 #![tactic(auto)]
 
 ghost use Rattle.std.specs.Prelude.{◌≡◌, ◌≢◌, ℕ, ◌≤◌, Bool, true, false, List, length, Some, Ok};
-ghost use Rattle.vm_facts.specs.Flat.{Space, Holds, Process, FlatState};
+ghost use Rattle.flat_state.specs.Space.{Space, answers_of, puts};
+ghost use Rattle.flat_state.specs.Flat.{Holds, Process, FlatState, NamedImage, Inputs, start_state, process_of, is_ready, can_step};
 ghost use Rattle.vm_facts.specs.declared.entry.Entry.{Entry};
 ghost use Rattle.user_vax.specs.Effects.{Effect};
 ghost use Rattle.user_vax.specs.Instruction.{instruction};
 ghost use Rattle.user_vax.specs.Program.{run};
-ghost use Rattle.page_model.specs.declared.change.Change.{Change};
-ghost use Rattle.page_model.specs.Flat.{NamedImage, Inputs, start_state, process_of, is_ready, can_step};
-ghost use Rattle.page_model.specs.Change.{apply_writes};
-ghost use Rattle.page_model.specs.Rank.{HasRoom};
-ghost use Rattle.page_model.specs.Kernel.{Kernel, SameTables, TextFits};
-ghost use Rattle.page_laws.specs.Asks.{asked};
-ghost use Rattle.page_laws.specs.FlatStands.{AllDistinct, pids_of, IsNumbered};
-ghost use Rattle.page_laws.specs.Numbers.{Numbered};
-ghost use Rattle.page_laws.specs.Start.{ImagesFit};
-ghost use Rattle.page_model.specs.Space.{answers_of, puts};
+ghost use Rattle.flat_state.specs.declared.change.Change.{Change};
+ghost use Rattle.flat_state.specs.Change.{apply_writes};
+ghost use Rattle.kernel_model.specs.Kernel.{Kernel};
+ghost use Rattle.kernel_model.specs.Coupled.{SameTables};
+ghost use Rattle.kernel_model.specs.Sound.{TextFits};
+ghost use Rattle.kernel_model.specs.Asks.{asked};
+ghost use Rattle.flat_state.specs.Numbers.{AllDistinct, pids_of, IsNumbered};
+ghost use Rattle.kernel_model.specs.Numbers.{Numbered};
+ghost use Rattle.kernel_model.specs.Start.{ImagesFit};
 ghost use Rattle.flat_model.specs.Asked.{change_wanted, asks};
 ghost use Rattle.flat_model.specs.declared.calls.SystemCall.{SystemCall};
 ghost use Rattle.flat_model.specs.Calls.{call_of, reply_of};
@@ -37,8 +37,6 @@ ghost use Rattle.flat_model.specs.Instruction.{instruction_in};
 ghost use Rattle.flat_model.specs.Step.{flat_step, written_process};
 ghost use Rattle.flat_model.specs.Run.{Point, is_refused, act, process_of_entry, flat_entry, flat_run};
 ghost use Rattle.flat_model.specs.Touched.{touched};
-ghost use Rattle.flat_model.specs.State.{State};
-ghost use Rattle.flat_model.specs.Wanted.{locked};
 ghost use Rattle.flat_model.specs.Shown.{shown};
 ghost use Rattle.touch_laws.specs.Whole.{EachWhole};
 ghost use Rattle.flat_laws.specs.Shown.{AreOf, IsCallOf};
@@ -83,10 +81,9 @@ pub fn asks_agree()
 {}
 
 /// A process's next instruction, with its call where it is one, touches 28 pages at most, in each state whose spaces
-/// are of whole pages, and so in each run. With 64 frames there is room beside all that is locked.
+/// are of whole pages, and so in each run.
 pub fn touched_are_few()
     ensures few { (A : Inputs) (F : FlatState) (pid : ℕ) → EachWhole F → length (touched A F pid) ≤ 28 }
-    ensures room { (A : Inputs) (s : State) → EachWhole s.point.flat → 64 ≤ length s.place.holds → HasRoom s.place (locked A s) }
     ensures whole { (A : Inputs) (journal : List Entry) (point : Point) → ImagesFit A.images → flat_run A journal ≡ Some point → EachWhole point.flat }
     ensures run { (A : Inputs) (journal : List Entry) (point : Point) (pid : ℕ) → ImagesFit A.images → flat_run A journal ≡ Some point → length (touched A point.flat pid) ≤ 28 }
 {}

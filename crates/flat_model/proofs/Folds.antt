@@ -1,9 +1,9 @@
 -- A run goes on by one entry.
 use Rattle.std.proofs.Common.{◌≡◌, List, [], ◌∷◌, ◌++◌, Option, Some, None, refl, ap, ◌∙◌}
 use Rattle.vm_facts.specs.declared.entry.Entry.{Entry}
-use Rattle.page_model.specs.Flat.{Inputs}
-use Rattle.page_model.specs.Journal.{units_of, units_with}
-use Rattle.page_model.proofs.Joins.{units-append}
+use Rattle.flat_state.specs.Flat.{Inputs}
+use Rattle.flat_state.specs.Journal.{units_of, units_with}
+use Rattle.flat_state.proofs.Joins.{units-append}
 use Rattle.flat_model.specs.Run.{Point, flat_entry, flat_units, flat_run, start_point}
 
 pub units_more : (A : Inputs) (o : Option Point) (us vs : List Entry) → flat_units A o (us ++ vs) ≡ flat_units A (flat_units A o us) vs

@@ -1,10 +1,6 @@
-pub mod Strings
-pub mod Gathering
-pub mod Listing
 pub mod Folds
-pub mod After
-pub mod FlatRuns
-pub mod Wanting
+pub mod Gathering
+pub mod Idle
+pub mod Listing
 pub mod StepEnds
-pub mod Acting
-pub mod Worked
+pub mod Strings

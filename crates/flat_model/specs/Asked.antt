@@ -1,6 +1,7 @@
 -- The pieces of swap space that a process's next instruction asks for, and who holds which pieces.
 use Rattle.std.specs.Prelude.{ℕ, ◌+◌, ◌*◌, ◌==◌, Bool, true, false, ◌||◌, List, [], ◌∷◌, ◌++◌, length, drop, find, Option, Some, None, Result, Ok, Err}
-use Rattle.vm_facts.specs.Flat.{Space, Holding, Holds, Lends, Zombie, Process, FlatState}
+use Rattle.flat_state.specs.Space.{Space}
+use Rattle.flat_state.specs.Flat.{Holding, Holds, Lends, Zombie, Process, FlatState, NamedImage, Inputs, image_numbered, process_of, can_step}
 use Rattle.vm_facts.specs.declared.entry.Entry.{Entry}
 use Rattle.vm_facts.specs.declared.entry.Entry.TheVariants.{Grew, Call, Ended}
 use Rattle.aout_image.specs.Image.{Loaded, text_pages_of, data_pages_of}
@@ -9,11 +10,10 @@ use Rattle.swap_book.specs.declared.Owner.TheVariants as owners
 use Rattle.swap_book.specs.Owners.{pieces_of}
 use Rattle.swap_book.specs.Holdings.{Holdings, kept}
 use Rattle.swap_book.specs.Placing.{Wanted, wanted, place_all}
-use Rattle.page_model.specs.Flat.{NamedImage, Inputs, image_numbered, process_of, can_step}
-use Rattle.page_model.specs.Change.{lends_to}
-use Rattle.page_model.specs.Journal.{units_of}
-use Rattle.page_model.specs.declared.change.Change.{Change}
-use Rattle.page_model.specs.declared.change.Change.TheVariants.{Keep, Resize, Fork, Lend, Exec, Reap, Sleep, End}
+use Rattle.flat_state.specs.Change.{lends_to}
+use Rattle.flat_state.specs.Journal.{units_of}
+use Rattle.flat_state.specs.declared.change.Change.{Change}
+use Rattle.flat_state.specs.declared.change.Change.TheVariants.{Keep, Resize, Fork, Lend, Exec, Reap, Sleep, End}
 use Rattle.flat_model.specs.Calls.{stack_pages_of}
 use Rattle.flat_model.specs.Step.{Step, flat_step, data_pages_of as data_pages_in}
 use Rattle.flat_model.specs.Run.{Point, step_at, flat_entry, start_point}

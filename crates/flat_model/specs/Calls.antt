@@ -1,15 +1,15 @@
 -- The system calls, as computations over what the caller's memory answers.
 use Rattle.std.specs.Prelude.{ℕ, zero, suc, ◌-◌, ◌*◌, ◌/◌, ◌%◌, ◌==◌, ◌||◌, nat_lt, nat_le, Bool, true, false, min, List, [], ◌∷◌, length, find, bytes_eq, ℤ, pos, negsuc, Option, Some, None, Result, Ok, Err, if◌then◌else◌}
-use Rattle.vm_facts.specs.Flat.{Space, Holding, Holds, Lends, Zombie, Process, FlatState}
+use Rattle.flat_state.specs.Space.{Space}
+use Rattle.flat_state.specs.Flat.{Holding, Holds, Lends, Zombie, Process, FlatState, NamedImage, start_regs, start_page}
 use Rattle.vm_facts.specs.declared.regs.Regs.{Regs}
 use Rattle.user_vax.specs.Program.{Program, Gives, Reads, ◌>>=◌}
 use Rattle.user_vax.specs.Operands.{register, with_register, past, number_at}
 use Rattle.user_vax.specs.declared.refused.Refused.{Refused}
 use Rattle.aout_image.specs.Image.{pages_for}
-use Rattle.page_model.specs.Flat.{NamedImage, start_regs, start_page}
-use Rattle.page_model.specs.Change.{with_results, is_zombie_child}
-use Rattle.page_model.specs.declared.change.Change.{Change}
-use Rattle.page_model.specs.declared.change.Change.TheVariants.{Keep, Resize, Fork, Lend, Exec, Reap, Sleep, End}
+use Rattle.flat_state.specs.Change.{with_results, is_zombie_child}
+use Rattle.flat_state.specs.declared.change.Change.{Change}
+use Rattle.flat_state.specs.declared.change.Change.TheVariants.{Keep, Resize, Fork, Lend, Exec, Reap, Sleep, End}
 use Rattle.flat_model.specs.declared.calls.Reply.{Reply}
 use Rattle.flat_model.specs.declared.calls.Reply.TheVariants.{Fails, Does, Writes, Waits, Exits}
 use Rattle.flat_model.specs.declared.calls.SystemCall.{SystemCall}

@@ -1,12 +1,8 @@
-pub mod Instruction
+pub mod Arguments
 pub mod Calls
+pub mod Instruction
 pub mod Step
 pub mod Run
+pub mod Asked
 pub mod Touched
 pub mod Shown
-pub mod Asked
-pub mod Arguments
-pub mod State
-pub mod Wanted
-pub mod After
-pub mod Act

@@ -1,11 +1,10 @@
 -- A run of the flat machine: the fold of its steps over the flat entries of a journal, which is none where an
 -- entry isn't the one that the step of its process gives.
 use Rattle.std.specs.Prelude.{ℕ, ◌==◌, Bool, true, false, ◌&&◌, List, [], ◌∷◌, bytes_eq, Option, Some, None, if◌then◌else◌}
-use Rattle.vm_facts.specs.Flat.{FlatState}
+use Rattle.flat_state.specs.Flat.{FlatState, Inputs, start_state, can_step}
 use Rattle.vm_facts.specs.declared.entry.Entry.{Entry}
 use Rattle.vm_facts.specs.declared.entry.Entry.TheVariants.{Ran, Out, Grew, Call, Refused, Sleeps, Ended}
-use Rattle.page_model.specs.Flat.{Inputs, start_state, can_step}
-use Rattle.page_model.specs.Journal.{units_of}
+use Rattle.flat_state.specs.Journal.{units_of}
 use Rattle.flat_model.specs.Step.{Step, flat_step}
 
 -- a flat state, and the last flat entry

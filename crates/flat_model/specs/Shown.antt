@@ -2,14 +2,13 @@
 -- brought in.
 use Rattle.std.specs.Prelude.{Bool, true, false, List, Option, Some, None}
 use Rattle.vm_facts.specs.Answers.{Answers}
-use Rattle.vm_facts.specs.Flat.{Space}
+use Rattle.flat_state.specs.Space.{Space, address_in, byte_at, may_write_at}
 use Rattle.vm_facts.specs.declared.memory.ByteRead.{ByteRead}
 use Rattle.vm_facts.specs.declared.memory.ByteRead.TheVariants as reads
 use Rattle.vm_facts.specs.declared.memory.MayWrite.{MayWrite}
 use Rattle.vm_facts.specs.declared.memory.MayWrite.TheVariants as tests
 use Rattle.vm_facts.specs.declared.page.Page.{Page}
-use Rattle.page_model.specs.Pages.{is_among}
-use Rattle.page_model.specs.Space.{address_in, byte_at, may_write_at}
+use Rattle.flat_state.specs.PageNames.{is_among}
 use Rattle.flat_model.specs.Touched.{page_read, page_tested}
 
 -- the page is there, or none is asked for

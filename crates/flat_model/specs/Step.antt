@@ -1,7 +1,8 @@
 -- One step of one process of the flat machine.
 use Rattle.std.specs.Prelude.{ℕ, ◌+◌, ◌-◌, ◌/◌, Bool, true, false, List, [], ◌∷◌, ◌++◌, length, Option, Some, None, Result, Ok, Err, ℤ}
 use Rattle.vm_facts.specs.Answers.{ByteWrite}
-use Rattle.vm_facts.specs.Flat.{Space, Holding, Holds, Lends, Zombie, Process, FlatState}
+use Rattle.flat_state.specs.Space.{Space, stack_top, answers_of, puts}
+use Rattle.flat_state.specs.Flat.{Holding, Holds, Lends, Zombie, Process, FlatState, NamedImage, Inputs, process_of, cleared}
 use Rattle.vm_facts.specs.declared.regs.Regs.{Regs}
 use Rattle.vm_facts.specs.declared.entry.Entry.{Entry}
 use Rattle.vm_facts.specs.declared.entry.Entry.TheVariants.{Ran, Out, Grew, Call, Sleeps, Ended}
@@ -10,11 +11,9 @@ use Rattle.user_vax.specs.Effects.{Effect}
 use Rattle.user_vax.specs.Operands.{register}
 use Rattle.user_vax.specs.declared.refused.Refused.{Refused}
 use Rattle.user_vax.specs.declared.refused.Refused.TheVariants.{Miss, Below, Signal}
-use Rattle.page_model.specs.Flat.{NamedImage, Inputs, process_of, cleared}
-use Rattle.page_model.specs.Space.{stack_top, answers_of, puts}
-use Rattle.page_model.specs.Change.{apply_change, apply_writes}
-use Rattle.page_model.specs.declared.change.Change.{Change}
-use Rattle.page_model.specs.declared.change.Change.TheVariants.{Keep, Resize, Sleep, End}
+use Rattle.flat_state.specs.Change.{apply_change, apply_writes}
+use Rattle.flat_state.specs.declared.change.Change.{Change}
+use Rattle.flat_state.specs.declared.change.Change.TheVariants.{Keep, Resize, Sleep, End}
 use Rattle.flat_model.specs.Instruction.{instruction_in}
 use Rattle.flat_model.specs.declared.calls.Reply.{Reply}
 use Rattle.flat_model.specs.declared.calls.Reply.TheVariants.{Fails, Does, Writes, Waits, Exits}

@@ -1,18 +1,17 @@
 -- The pages that the next instruction of a process touches.
 use Rattle.std.specs.Prelude.{ℕ, ◌/◌, Bool, true, false, not, List, [], ◌∷◌, ◌++◌, filter, filter_map, Option, Some, None, Result, Ok, Err, ℤ}
-use Rattle.vm_facts.specs.Flat.{Space, Holding, Holds, Lends, Zombie, Process, FlatState}
+use Rattle.flat_state.specs.Space.{Space, answers_of, puts, address_in}
+use Rattle.flat_state.specs.Flat.{Holding, Holds, Lends, Zombie, Process, FlatState, NamedImage, Inputs, process_of, is_ready}
 use Rattle.vm_facts.specs.declared.page.Page.{Page}
 use Rattle.vm_facts.specs.declared.page.Page.TheVariants as pages
 use Rattle.user_vax.specs.Program.{Access, ReadOf, TestOf, accesses}
 use Rattle.user_vax.specs.Effects.{Effect}
 use Rattle.user_vax.specs.Instruction.{instruction}
 use Rattle.user_vax.specs.declared.refused.Refused.{Refused}
-use Rattle.page_model.specs.declared.spot.Spot.{Spot}
-use Rattle.page_model.specs.declared.spot.Spot.TheVariants.{Text, Data, Stack, Below, Outside}
-use Rattle.page_model.specs.Pages.{same_page}
-use Rattle.page_model.specs.Space.{answers_of, puts, address_in}
-use Rattle.page_model.specs.Change.{apply_writes}
-use Rattle.page_model.specs.Flat.{NamedImage, Inputs, process_of, is_ready}
+use Rattle.flat_state.specs.declared.spot.Spot.{Spot}
+use Rattle.flat_state.specs.declared.spot.Spot.TheVariants.{Text, Data, Stack, Below, Outside}
+use Rattle.flat_state.specs.PageNames.{same_page}
+use Rattle.flat_state.specs.Change.{apply_writes}
 use Rattle.flat_model.specs.Instruction.{instruction_in}
 use Rattle.flat_model.specs.declared.calls.SystemCall.{SystemCall}
 use Rattle.flat_model.specs.Calls.{call_of, reply_of}

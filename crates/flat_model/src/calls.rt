@@ -1,7 +1,7 @@
 ghost use Rattle.std.specs.Prelude.{◌≡◌, ℕ};
 ghost use Rattle.flat_model.specs.Calls.{call_of, number_of};
 
-use page_model::Change;
+use flat_state::Change;
 use vm_facts::{Bytes, Regs};
 
 /// The system calls (the 4.3BSD book has their meaning, this project's profile their numbers).

@@ -1,7 +1,7 @@
 ghost use Rattle.std.specs.Prelude.{◌≡◌, List, [], ◌∷◌, ◌++◌};
 ghost use Rattle.vm_facts.specs.declared.entry.Entry.{Entry};
-ghost use Rattle.page_model.specs.Flat.{Inputs};
-ghost use Rattle.page_model.specs.Journal.{units_with};
+ghost use Rattle.flat_state.specs.Flat.{Inputs};
+ghost use Rattle.flat_state.specs.Journal.{units_with};
 ghost use Rattle.flat_model.specs.Run.{flat_run, flat_units};
 
 /// A run goes on by one entry: where it stands with one more follows from where it stood before, and from that

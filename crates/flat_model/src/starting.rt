@@ -3,10 +3,10 @@
 ghost use Rattle.std.specs.Prelude.{◌≡◌, ℕ, ◌+◌, ◌-◌, ◌*◌, ◌/◌, ◌%◌, ◌^◌, ◌<◌, ◌≤◌, [], ◌∷◌, ◌++◌, length, replicate, IfOk, OnOk};
 ghost use Rattle.aout_image.specs.Image.{word_bytes};
 ghost use Rattle.flat_model.specs.Arguments.{AreArguments};
-ghost use Rattle.page_model.specs.Flat.{strings_of, pointers_from, in_longwords, argument_area, start_page, start_regs};
+ghost use Rattle.flat_state.specs.Flat.{strings_of, pointers_from, in_longwords, argument_area, start_page, start_regs};
 
 use crate::arguments::Arguments;
-use page_model::{PAGE, STACK_TOP};
+use flat_state::{PAGE, STACK_TOP};
 use std::alloc::Global;
 use vm_facts::{Bytes, NoMemory, Regs};
 
@@ -137,7 +137,7 @@ pub fn start_page(alloc: Global, arguments: &Arguments) -> Result<Bytes, NoMemor
 
 /// The registers of an image that starts with these arguments: PC is behind the entry mask, and SP at the
 /// number of arguments.
-#[tactic(auto, unfolding(page_model::specs::Flat::start_regs))]
+#[tactic(auto, unfolding(flat_state::specs::Flat::start_regs))]
 pub fn start_regs(entry: u32, arguments: &Arguments) -> Regs
     requires { entry + 2 < 2 ^ 32 }
     ensures { result ≡ start_regs entry arguments.now }

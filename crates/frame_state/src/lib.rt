@@ -47,7 +47,6 @@ pub struct Filling {
 }
 
 impl Model for Filling {
-    ghost use Rattle.frame_state.specs.Frame.{Frame};
 
     ghost Value = { Frame };
 
@@ -61,7 +60,6 @@ pub struct Resident {
 }
 
 impl Model for Resident {
-    ghost use Rattle.frame_state.specs.Frame.{Frame};
 
     ghost Value = { Frame };
 
@@ -75,7 +73,6 @@ pub struct Cleaning {
 }
 
 impl Model for Cleaning {
-    ghost use Rattle.frame_state.specs.Frame.{Frame};
 
     ghost Value = { Frame };
 

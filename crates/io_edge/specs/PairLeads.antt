@@ -1,6 +1,5 @@
 -- Why the relation of a pair of devices is one of a device.
-use Rattle.std.proofs.Common.{◌≤◌, ℕ, zero, suc, Option}
-use Rattle.std.proofs.Common.{inl, inr, arith, le_refl, le_trans, sym}
+use Rattle.std.proofs.Common.{◌≤◌, ℕ, zero, suc, Option, inl, inr, arith, le_refl, le_trans, sym}
 use Rattle.std.proofs.Math.Nat.{eq-or-lt_of_le}
 use Rattle.io_edge.specs.Count.{Rose}
 use Rattle.io_edge.specs.Striping.{of_device}

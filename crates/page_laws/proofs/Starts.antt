@@ -11,10 +11,10 @@ use Rattle.page_model.specs.Frames.{at_frame, times, count_up}
 use Rattle.page_model.specs.Placement.{Starting, space_number, image_number, slot_of, unfilled, spaces_from, texts_from, start_placement}
 use Rattle.page_model.specs.Rank.{walk, HandsStand}
 use Rattle.page_model.specs.Ownership.{OwnsFrames, seated, seated_of, is_marked_dirty, TextAside}
-use Rattle.page_laws.proofs.FrameLaws.{times_head, times_tail}
-use Rattle.page_laws.proofs.Local.{none_some}
-use Rattle.page_laws.proofs.HandLaws.{walk_up}
-use Rattle.page_laws.proofs.OwnsChanges.{BlankSlot, AllBlank, blank_slot_at, unfilled_blank}
+use Rattle.page_laws.proofs.Lists.Frames.{times_head, times_tail}
+use Rattle.page_laws.proofs.Lists.Local.{none_some}
+use Rattle.page_laws.proofs.Moves.Hands.{walk_up}
+use Rattle.page_laws.proofs.Ownership.Changes.{BlankSlot, AllBlank, blank_slot_at, unfilled_blank}
 
 -- Pages.
 

@@ -1,47 +1,39 @@
-ghost use Rattle.std.specs.Prelude.{◌≡◌, ◌≢◌, ◌⊎◌, ℕ, ◌+◌, ◌*◌, ◌^◌, ◌<◌, ◌≤◌, Bool, true, false, List, [], ◌∷◌, length, map, Some, IsSome, Ok};
-ghost use Rattle.vm_facts.specs.Flat.{Space, Holds, Zombie, Process, FlatState};
+ghost use Rattle.std.specs.Prelude.{◌≡◌, ◌≢◌, ◌⊎◌, ℕ, ◌+◌, ◌*◌, ◌<◌, ◌≤◌, Bool, true, false, List, [], ◌∷◌, length, Some, IsSome};
+ghost use Rattle.flat_state.specs.Flat.{FlatState, NamedImage, process_of};
 ghost use Rattle.vm_facts.specs.declared.page.Page.{Page};
 ghost use Rattle.vm_facts.specs.declared.page.Page.TheVariants.{Data, Stack, Text};
-ghost use Rattle.vm_facts.specs.declared.page.PageState.TheVariants.{Unfilled, Valid};
+ghost use Rattle.vm_facts.specs.declared.page.PageState.TheVariants.{Valid, Unfilled};
 ghost use Rattle.vm_facts.specs.declared.entry.Entry.{Entry};
-ghost use Rattle.vm_facts.specs.declared.regs.Regs.{Regs};
 ghost use Rattle.aout_image.specs.declared.Image.{Image};
 ghost use Rattle.aout_image.specs.Image.{data_pages_of};
 ghost use Rattle.swap_book.specs.Holdings.{Holdings};
-ghost use Rattle.swap_book.specs.Placing.{Wanted, place_all};
 ghost use Rattle.swap_book.specs.Book.{IsBook};
-ghost use Rattle.page_model.specs.declared.change.Change.{Change as AnyChange};
-ghost use Rattle.page_model.specs.Flat.{NamedImage, process_of};
-ghost use Rattle.page_model.specs.Pages.{is_valid, number_of};
-ghost use Rattle.page_model.specs.Placement.{Placement, Transfer, Source, Reads, space_number, slots_of, state_of, mark_of, IsThere, data_filling, Starting, start_placement};
+ghost use Rattle.flat_state.specs.declared.change.Change.{Change as AnyChange};
+ghost use Rattle.page_model.specs.Pages.{is_valid};
+ghost use Rattle.flat_state.specs.PageNames.{number_of};
+ghost use Rattle.page_model.specs.Placement.{Placement, Transfer, Source, Reads, slots_of, state_of, IsThere, data_filling, mark_of, Starting, start_placement};
 ghost use Rattle.page_model.specs.Moves.{touch_all, touch, reclaim, done, get_run, drop_all};
 ghost use Rattle.page_model.specs.Hands.{hand_move};
 ghost use Rattle.page_model.specs.Place.{due_after, moved, place_entry, place_step, place_change, filled, put_step, space_of_process, is_borrower, resize, fork_space, enter_space, remove_space, pages_of_space, leave_text};
 ghost use Rattle.page_model.specs.Serve.{force, most_in_flight, serve_unit, serve_entry, serve_step, read_step, source_for};
-ghost use Rattle.page_model.specs.Swapper.{Runner, In, Out, Nothing, residence_of, is_out, is_settled, swap_choice, put_out_unit};
-ghost use Rattle.page_model.specs.Conditions.{begins, HaveParts, CanBegin, EachPage, AllApart, CanEnter, HasSeat, IsNew, IsSettled, CanPlace, CanChange, EntryShared, MayForget, Spares, IsShared};
+ghost use Rattle.page_model.specs.Swapper.{Runner, In, Out, Nothing, residence_of, is_settled, swap_choice, is_out, put_out_unit};
+ghost use Rattle.page_model.specs.Conditions.{begins, HaveParts, CanBegin, EachPage, AllApart, CanEnter, HasSeat, IsNew, IsSettled, CanPlace, CanChange, EntryShared, MayForget, Spares, ApartFrom};
 ghost use Rattle.page_model.specs.Rank.{far, rank, HandsStand, HasRoom, EndsForcing, EndsServing};
-ghost use Rattle.page_model.specs.Ownership.{OwnsFrames, OwnsBlocks, OneOwner, TextAside, block_of, needs_blocks};
+ghost use Rattle.page_model.specs.Ownership.{OwnsFrames, OneOwner, TextAside, block_of, needs_blocks, OwnsBlocks};
+ghost use Rattle.page_model.specs.PageBytes.{zeros, Bytes, CouplesPages, SamePage, SameBytes, with_frame, ReadsFrom, IsWritable, WritesBoth, Stores, BytesAfter, Copies, FillsBy, NotIn};
+ghost use Rattle.page_model.specs.Stored.{stored, store_at};
+ghost use Rattle.page_model.specs.Swapping.{ComesIn, GoesOut, NoneMoves};
+ghost use Rattle.page_model.specs.PuttingOut.{IsResident, put_rank, EndsPuttingOut};
 ghost use Rattle.page_model.specs.Dues.{DueStand, LeavesDue, NotDue};
-ghost use Rattle.page_model.specs.Coupled.{zeros, Bytes, CouplesPages, SamePage, SameBytes, with_frame, ReadsFrom, IsWritable, WritesBoth, Stores, BytesAfter, Copies, FillsBy, NotIn};
-ghost use Rattle.page_model.specs.Kernel.{stored, store_at, u_page, regs_in, AreRegs, Kernel, SameTables, Sound, lives, plain_step, zero_step, copy_step, done_step, write_step, note_step, in_step};
-ghost use Rattle.page_model.specs.FlatStep.{ran_by, pass_step, flat_step};
-ghost use Rattle.page_laws.specs.Taken.{HasTaken, AsksFor, MayReap, MayChange, ApartFrom};
-ghost use Rattle.page_laws.specs.Asks.{asked, WantsThese, start_asks, is_started};
-ghost use Rattle.page_laws.specs.Numbers.{EachBelow, AllDiffer, Numbered, TakesNext, SettlesFor, ReadyFor};
-ghost use Rattle.page_laws.specs.Swapping.{ComesIn, GoesOut, NoneMoves};
-ghost use Rattle.page_laws.specs.PuttingOut.{IsResident, put_rank, EndsPuttingOut};
 
-/// What a machine begins with is as the other laws ask: no page is filled, dirty or saved; each frame is free; and the
-/// hands stand a quarter of the frames apart. Once the first processes' pieces have found their places one after another,
-/// each frame and each block has one owner.
+/// What a run begins with is as the other laws ask: no page is filled, dirty or saved; each frame is free; and the hands
+/// stand a quarter of the frames apart.
 pub fn start_stands()
     ensures blank { (images : List Image) (first : List Starting) (frames : ℕ) (q : Page) → (state_of (start_placement images first frames) q ≡ Unfilled) × (mark_of (start_placement images first frames) q ≡ false) }
     ensures frames { (images : List Image) (first : List Starting) (frames : ℕ) → OwnsFrames (start_placement images first frames) }
     ensures hands { (images : List Image) (first : List Starting) (frames : ℕ) → 0 < frames → HandsStand (start_placement images first frames) }
     ensures text { (images : List Image) (first : List Starting) (frames : ℕ) → TextAside (start_placement images first frames) }
     ensures owner { (size : ℕ) (lives : ℕ → Bool) (images : List Image) (first : List Starting) (frames : ℕ) (hs : Holdings) → OwnsBlocks size lives (start_placement images first frames) hs → OneOwner size lives (start_placement images first frames) hs }
-    ensures found { (size : ℕ) (images : List Image) (first : List Starting) (frames : ℕ) (hs : Holdings) → place_all size [] (start_asks (start_placement images first frames) [] 1 first) ≡ Ok hs → OneOwner size (is_started 1 first) (start_placement images first frames) hs }
 {}
 
 /// Each frame keeps one owner: through each paging entry, each entry of a process with its change, and each unit
@@ -100,11 +92,6 @@ pub fn others_same()
     ensures write { (p : Placement) (q : Page) (f : ℕ) (b c : Bytes) (bytes : List ℕ) (w : Page) → OwnsFrames p → state_of p q ≡ Valid f → WritesBoth b c q f bytes → w ≢ q → SamePage p (touch p q) b c w }
 {}
 
-/// The registers that go out into a u page come back from it.
-pub fn registers_kept()
-    ensures { (regs : Regs) (data_pages stack_pages : ℕ) → AreRegs regs → data_pages < 2 ^ 32 → stack_pages < 2 ^ 32 → regs_in (u_page regs data_pages stack_pages) ≡ regs }
-{}
-
 /// Forcing a frame ends: `far` falls with each unit, whatever is locked. With nothing in flight it is at most one
 /// more than there are frames, so a frame is free, or its write in flight, after as many moves as there are frames.
 /// What was locked and valid stays valid. What forcing asks of the hands and of the frames is so again behind each unit,
@@ -150,47 +137,19 @@ pub fn few_transfers()
     ensures served { (p : Placement) (locked : List Page) (q : Page) → OwnsFrames p → HaveParts p.transfers → HaveParts (serve_step p locked q).transfers }
 {}
 
-/// Each step of the whole machine keeps it sound: a paging entry that its pages and the transfers allow, a fill with its
-/// bytes, the end of a transfer, a user write, an entry that moves nothing, a process that comes in, an instruction that
-/// ran, a space that passes between two processes that live, and an entry of a process with its change. Right before that
-/// the machine was sound with the holdings as they were, and by now they have the pieces that the change takes: so it is
-/// where these were placed one after another, and they are the further pieces of data and stack for growth and break,
-/// those of the child's data, stack and u page for fork, of its u page for vfork, and of the new space for execve.
-pub fn sound_kept()
-    ensures plain { (size : ℕ) (k : Kernel) (locked : List Page) (e : Entry) → Sound size k → CanPlace k.place e → EntryShared k.place e → length k.place.transfers + begins e ≤ 16 → Sound size (plain_step k locked e) }
-    ensures zero { (size : ℕ) (k : Kernel) (q : Page) → Sound size k → CanEnter k.place q → IsShared k.place q → Sound size (zero_step k q) }
-    ensures copy { (size : ℕ) (k : Kernel) (q : Page) → Sound size k → CanEnter k.place q → IsShared k.place q → Sound size (copy_step k q) }
-    ensures done { (size : ℕ) (k : Kernel) (read : List (List ℕ)) → Sound size k → Sound size (done_step k read) }
-    ensures write { (size : ℕ) (k : Kernel) (q : Page) (f at byte : ℕ) → Sound size k → Sound size (write_step k q f at byte) }
-    ensures note { (size : ℕ) (k : Kernel) (e : Entry) → Sound size k → Sound size (note_step k e) }
-    ensures comes { (size : ℕ) (k : Kernel) (pid : ℕ) (regs : Regs) → Sound size k → Sound size (in_step k pid regs) }
-    ensures ran { (size : ℕ) (k : Kernel) (pid : ℕ) (regs : Regs) (e : Entry) → Sound size k → Sound size (ran_by k pid regs e) }
-    ensures passes { (size : ℕ) (k : Kernel) (from to : ℕ) → lives k.processes from ≡ true → lives k.processes to ≡ true → Sound size k → Sound size (pass_step k from to) }
-    ensures changes { (size : ℕ) (images : List NamedImage) (k : Kernel) (before : Holdings) (pid : ℕ) (regs : Regs) (e : Entry) (change : AnyChange) → Sound size (record k { holdings = before }) → HasTaken size k (flat_step images k pid regs e change) → MayChange images k pid change → Sound size (flat_step images k pid regs e change) }
-    ensures found { (size : ℕ) (images : List NamedImage) (k : Kernel) (before : Holdings) (ws : List Wanted) (pid : ℕ) (regs : Regs) (e : Entry) (change : AnyChange) → Sound size (record k { holdings = before }) → place_all size before ws ≡ Ok k.holdings → AsksFor k (flat_step images k pid regs e change) ws → MayChange images k pid change → Sound size (flat_step images k pid regs e change) }
-    ensures asks { (images : List NamedImage) (k : Kernel) (pid : ℕ) (regs : Regs) (e : Entry) (change : AnyChange) → MayChange images k pid change → WantsThese k pid change → AsksFor k (flat_step images k pid regs e change) (asked images k pid change) }
-    ensures ready { (size : ℕ) (images : List NamedImage) (k : Kernel) (before : Holdings) (pid : ℕ) (regs : Regs) (e : Entry) (change : AnyChange) → Sound size (record k { holdings = before }) → Numbered k → ReadyFor k pid change → place_all size before (asked images k pid change) ≡ Ok k.holdings → Sound size (flat_step images k pid regs e change) }
+/// Whom the swapper chooses: a process comes in only where it is out and awake, nobody else who is so has been out
+/// longer, and enough frames are free; one goes out only where it is in, didn't borrow its space, and is the one to pick;
+/// and nothing is done only where nobody may come in, or go out.
+pub fn swapper_chooses()
+    ensures comes { (p : Placement) (rs : List Runner) (pid : ℕ) → swap_choice p rs ≡ In pid → ComesIn p rs pid }
+    ensures goes { (p : Placement) (rs : List Runner) (pid : ℕ) → swap_choice p rs ≡ Out pid → GoesOut p rs pid }
+    ensures rests { (p : Placement) (rs : List Runner) → swap_choice p rs ≡ Nothing → NoneMoves p rs }
 {}
 
-/// No two spaces and no two processes have one number, and the next numbers are larger than all: at the start, and
-/// through each step, where a child takes the next number. So a process that lives, with its space there, and settled
-/// where that goes or loses pages, may make its change, and wants no other pieces than those that it asks for.
-pub fn numbers_differ()
-    ensures start { (images : List Image) (first : List Starting) (frames : ℕ) → AllDiffer (map space_number (start_placement images first frames).spaces) × EachBelow (1 + length first) (map space_number (start_placement images first frames).spaces) }
-    ensures plain { (k : Kernel) (locked : List Page) (e : Entry) → Numbered k → Numbered (plain_step k locked e) }
-    ensures zero { (k : Kernel) (q : Page) → Numbered k → Numbered (zero_step k q) }
-    ensures copy { (k : Kernel) (q : Page) → Numbered k → Numbered (copy_step k q) }
-    ensures done { (k : Kernel) (read : List (List ℕ)) → Numbered k → Numbered (done_step k read) }
-    ensures write { (k : Kernel) (q : Page) (f at byte : ℕ) → Numbered k → Numbered (write_step k q f at byte) }
-    ensures note { (k : Kernel) (e : Entry) → Numbered k → Numbered (note_step k e) }
-    ensures comes { (k : Kernel) (pid : ℕ) (regs : Regs) → Numbered k → Numbered (in_step k pid regs) }
-    ensures ran { (k : Kernel) (pid : ℕ) (regs : Regs) (e : Entry) → Numbered k → Numbered (ran_by k pid regs e) }
-    ensures passes { (k : Kernel) (from to : ℕ) → Numbered k → Numbered (pass_step k from to) }
-    ensures changes { (images : List NamedImage) (k : Kernel) (pid : ℕ) (regs : Regs) (e : Entry) (change : AnyChange) → TakesNext k change → Numbered k → Numbered (flat_step images k pid regs e change) }
-    ensures allows { (images : List NamedImage) (k : Kernel) (pid : ℕ) (change : AnyChange) → OwnsFrames k.place → Numbered k → ReadyFor k pid change → MayChange images k pid change }
-    ensures wants { (k : Kernel) (pid : ℕ) (change : AnyChange) → Numbered k → ReadyFor k pid change → WantsThese k pid change }
-    ensures ready { (k : Kernel) (flat : FlatState) (pid : ℕ) (q : Process) (s : Space) (change : AnyChange) → SameTables k flat → process_of flat pid ≡ Some q → q.holding ≡ Holds s → TakesNext k change → MayReap k.processes change → SettlesFor k.place s.sid change → ReadyFor k pid change }
-    ensures reaps { (k : Kernel) (flat : FlatState) (child status : ℕ) (z : Process) → SameTables k flat → process_of flat child ≡ Some z → z.holding ≡ Zombie status → lives k.processes child ≡ false }
+/// A process that goes in or out is so since that place in the journal, and all others are as they were.
+pub fn residence_moves()
+    ensures own { (p : Placement) (pid : ℕ) (out : Bool) (at : ℕ) → IsResident p pid → residence_of (moved p pid out at).residents pid ≡ record { pid = pid; out = out; since = at } }
+    ensures others { (p : Placement) (pid : ℕ) (out : Bool) (at n : ℕ) → n ≢ pid → residence_of (moved p pid out at).residents n ≡ residence_of p.residents n }
 {}
 
 /// What is due stays unfilled, with zeros, and the parent's page that it is copied from stays filled: through each
@@ -208,15 +167,6 @@ pub fn due_kept()
     ensures changes { (images : List NamedImage) (p : Placement) (pid sid : ℕ) (borrowed : Bool) (next_sid at : ℕ) (change : AnyChange) → p.due ≡ [] → CanChange p sid borrowed next_sid change → ApartFrom sid borrowed next_sid change → DueStand (place_change images p pid sid borrowed next_sid at change) }
 {}
 
-/// Whom the swapper chooses: a process comes in only where it is out and awake, nobody else who is so has been out
-/// longer, and enough frames are free; one goes out only where it is in, didn't borrow its space, and is the one to pick;
-/// and nothing is done only where nobody may come in, or go out.
-pub fn swapper_chooses()
-    ensures comes { (p : Placement) (rs : List Runner) (pid : ℕ) → swap_choice p rs ≡ In pid → ComesIn p rs pid }
-    ensures goes { (p : Placement) (rs : List Runner) (pid : ℕ) → swap_choice p rs ≡ Out pid → GoesOut p rs pid }
-    ensures rests { (p : Placement) (rs : List Runner) → swap_choice p rs ≡ Nothing → NoneMoves p rs }
-{}
-
 /// Putting a process out ends: each unit may be made, keeps frames owned, no more than 16 transfers in flight, each with
 /// a page, what is due as it was, and the whole machine sound, and `put_rank` falls with it. So the process is out after no more units than that says; its
 /// space is settled then, and no page of it is in a frame off the free list.
@@ -226,13 +176,6 @@ pub fn putting_out_ends()
     ensures few { (locked : List Page) (at : ℕ) (p : Placement) (pid sid : ℕ) → length p.transfers ≤ most_in_flight → length (place_entry locked at p (put_out_unit p pid sid)).transfers ≤ most_in_flight }
     ensures parts { (locked : List Page) (at : ℕ) (p : Placement) (pid sid : ℕ) → OwnsFrames p → HaveParts p.transfers → HaveParts (place_entry locked at p (put_out_unit p pid sid)).transfers }
     ensures due { (locked : List Page) (at : ℕ) (p : Placement) (pid sid : ℕ) → OwnsFrames p → DueStand p → DueStand (place_entry locked at p (put_out_unit p pid sid)) }
-    ensures sound { (size : ℕ) (k : Kernel) (locked : List Page) (pid sid : ℕ) → Sound size k → Sound size (plain_step k locked (put_out_unit k.place pid sid)) }
     ensures falls { (locked : List Page) (at : ℕ) (p : Placement) (pid sid : ℕ) → OwnsFrames p → IsResident p pid → is_out p pid ≡ false → put_rank (place_entry locked at p (put_out_unit p pid sid)) pid sid < put_rank p pid sid }
     ensures whole { (at : ℕ) (p : Placement) (pid sid : ℕ) → OwnsFrames p → length p.transfers ≤ most_in_flight → IsResident p pid → is_out p pid ≡ false → EndsPuttingOut at p pid sid }
-{}
-
-/// A process that goes in or out is so since that place in the journal, and all others are as they were.
-pub fn residence_moves()
-    ensures own { (p : Placement) (pid : ℕ) (out : Bool) (at : ℕ) → IsResident p pid → residence_of (moved p pid out at).residents pid ≡ record { pid = pid; out = out; since = at } }
-    ensures others { (p : Placement) (pid : ℕ) (out : Bool) (at n : ℕ) → n ≢ pid → residence_of (moved p pid out at).residents n ≡ residence_of p.residents n }
 {}

@@ -7,8 +7,6 @@
 //!   transfer or its page; a space that the test calls settled has no page in flight.
 //! - `blocks_kept`: each page that needs its two blocks has them, in its own owner's holding; those of different
 //!   pages don't meet; text that nobody shares isn't saved, and at most in a free frame.
-//! - `due_kept`: what is due stays unfilled, and what it is copied from stays filled, through each paging entry and each
-//!   change of a process.
 //! - `memory_kept`: each page's flat bytes stay where its state says, for every swap image and all files, through
 //!   fills, reads, writes, the hands and user writes.
 //! - `spaces_kept`: the same through growth and break, fork, a new image, and a space and a text that go.
@@ -19,29 +17,18 @@
 //! - `serving_ends`: serving as a whole comes to a valid page; locked pages stay valid.
 //! - `serving_units`: the next unit of serving is its entry, and its step is what the entry does.
 //! - `swapper_chooses`: whom the swapper brings in or puts out, said of all that it could choose.
+//! - `due_kept`: what is due stays unfilled, and what it is copied from stays filled, through each paging entry and each
+//!   change of a process.
 //! - `putting_out_ends`: a process is out after so many units at most.
 //! - `residence_moves`: a process goes in or out alone.
-//! - `sound_kept`: the whole machine stays sound through each step, and through a change of a process where the pieces
-//!   that it takes were found before.
-//! - `numbers_differ`: spaces and processes have numbers of their own, below those to come; so a process that is ready may
-//!   make its change.
-//! - `registers_kept`: the registers that go out into a u page come back from it.
-//! - `coupling_starts`, `coupling_kept`, `coupling_runs`, `coupling_changes`: the whole machine stands for the flat state
-//!   at the start of a run and behind each of its steps.
-//! - `numbers_kept`: in the flat state no process and no space stands twice, and the next numbers are new.
-//! - `lenders_kept`: a space that was lent is with its child, or one further on, and no child has two lenders.
-//! - `coupling_stands`, `coupling_stands_behind`: what the coupling asks beside it is so again behind each step.
+//!
+//! Lemmas, by folder of proofs/: Lists, Ownership, Moves, Bytes, Blocks, Due, Ends and Swapper.
 #![tactic(auto)]
 
-pub mod coupling;
 pub mod laws;
 
-pub use coupling::{
-    coupling_changes, coupling_kept, coupling_runs, coupling_stands, coupling_stands_behind,
-    coupling_starts, lenders_kept, numbers_kept,
-};
 pub use laws::{
-    blocks_kept, due_kept, few_transfers, forcing_ends, memory_kept, numbers_differ, others_same,
-    ownership_kept, putting_out_ends, registers_kept, residence_moves, serving_ends, serving_units,
-    sound_kept, spaces_kept, start_stands, swapper_chooses,
+    blocks_kept, due_kept, few_transfers, forcing_ends, memory_kept, others_same, ownership_kept,
+    putting_out_ends, residence_moves, serving_ends, serving_units, spaces_kept, start_stands,
+    swapper_chooses,
 };

@@ -1,16 +1,17 @@
 -- What the steps of a placement ask of the pages that they move, and what they keep.
-use Rattle.std.specs.Prelude.{◌≡◌, ◌⊎◌, ℕ, Bool, true, false, List, [], ◌∷◌, length, None, ◌<◌}
+use Rattle.std.specs.Prelude.{◌≡◌, ◌⊎◌, ℕ, Bool, true, false, List, [], ◌∷◌, length, None, ◌<◌, ◌≢◌, ◌*◌, ◌++◌}
 use Rattle.vm_facts.specs.declared.page.Page.{Page}
 use Rattle.vm_facts.specs.declared.page.Page.TheVariants.{Data, Stack, Text}
 use Rattle.vm_facts.specs.declared.page.PageState.{PageState}
 use Rattle.vm_facts.specs.declared.page.PageState.TheVariants.{Unfilled, Valid, Invalid, Coming, Going, OnSwap}
 use Rattle.vm_facts.specs.declared.entry.Entry.{Entry}
 use Rattle.vm_facts.specs.declared.entry.Entry.TheVariants as entries
-use Rattle.page_model.specs.Pages.{numbered, number_of, pages_from, frame_of, is_valid, is_among, SpacePages}
-use Rattle.page_model.specs.declared.change.Change.{Change}
-use Rattle.page_model.specs.declared.change.Change.TheVariants.{Resize, Fork, Exec, End}
+use Rattle.page_model.specs.Pages.{numbered, frame_of, is_valid, SpacePages}
+use Rattle.flat_state.specs.PageNames.{number_of, pages_from, is_among}
+use Rattle.flat_state.specs.declared.change.Change.{Change}
+use Rattle.flat_state.specs.declared.change.Change.TheVariants.{Resize, Fork, Exec, End}
 use Rattle.page_model.specs.Place.{data_count, stack_count, remove_space, enter_image}
-use Rattle.page_model.specs.Flat.{NamedImage, image_numbered}
+use Rattle.flat_state.specs.Flat.{NamedImage, image_numbered}
 use Rattle.page_model.specs.Frames.{times}
 use Rattle.page_model.specs.Placement.{Placement, Transfer, space_number, state_of, IsThere, sharers, image_of}
 
@@ -132,3 +133,8 @@ abbrev pub MayForget : List NamedImage → Placement → ℕ → Bool → ℕ �
 MayForget images p sid borrowed next_sid (Exec image top) = borrowed ≡ false → CanForget (enter_image p next_sid image (image_numbered images image)) sid
 MayForget images p sid borrowed next_sid (End status) = borrowed ≡ false → CanForget p sid
 MayForget images p sid borrowed next_sid _ = Unit {0}
+
+-- a space that comes isn't the one that goes
+abbrev pub ApartFrom : ℕ → Bool → ℕ → Change → Type 0
+ApartFrom sid borrowed next_sid (Exec image top) = borrowed ≡ false → next_sid ≢ sid
+ApartFrom sid borrowed next_sid _ = Unit {0}

@@ -4,11 +4,12 @@ use Rattle.vm_facts.specs.declared.page.Page.{Page}
 use Rattle.vm_facts.specs.declared.page.PageState.TheVariants.{Unfilled}
 use Rattle.vm_facts.specs.declared.entry.Entry.{Entry}
 use Rattle.vm_facts.specs.declared.entry.Entry.TheVariants as entries
-use Rattle.page_model.specs.Pages.{Zeros, pages_from}
+use Rattle.page_model.specs.Pages.{Zeros}
+use Rattle.flat_state.specs.PageNames.{pages_from}
 use Rattle.page_model.specs.Placement.{Placement, Due, Start, CopyOf, due_at, state_of, filling_of, IsThere}
 use Rattle.page_model.specs.Place.{due_after}
 use Rattle.page_model.specs.Conditions.{EachPage}
-use Rattle.page_model.specs.Coupled.{IsWritable}
+use Rattle.page_model.specs.PageBytes.{IsWritable}
 
 -- the parent's page has bytes
 abbrev pub HasSource : Placement → Due → Type 0

@@ -3,7 +3,7 @@ use Rattle.std.specs.Prelude.{ℕ, zero, suc, ◌/◌, nat_lt, Bool, true, false
 use Rattle.vm_facts.specs.declared.page.Page.{Page}
 use Rattle.vm_facts.specs.declared.page.PageState.{PageState}
 use Rattle.vm_facts.specs.declared.page.PageState.TheVariants.{Valid, Invalid}
-use Rattle.page_model.specs.Pages.{is_among}
+use Rattle.flat_state.specs.PageNames.{is_among}
 use Rattle.page_model.specs.Frames.{times, next_frame}
 use Rattle.page_model.specs.Placement.{Placement, state_of, mark_of, is_dirty, page_of}
 use Rattle.page_model.specs.Moves.{turn, launch_run, retire}

@@ -10,7 +10,8 @@ use Rattle.swap_book.specs.declared.Owner.TheVariants as owners
 use Rattle.swap_book.specs.Owners.{u_pieces}
 use Rattle.swap_book.specs.Holdings.{Holdings, lengths, block_in}
 use Rattle.swap_book.specs.Book.{IsBook}
-use Rattle.page_model.specs.Pages.{number_of, frame_of}
+use Rattle.flat_state.specs.PageNames.{number_of}
+use Rattle.page_model.specs.Pages.{frame_of}
 use Rattle.page_model.specs.Frames.{times}
 use Rattle.page_model.specs.Placement.{Placement, Moving, slots_of, state_of, mark_of, page_of, sharers, IsFrame, parts_of, flying, moving_state}
 

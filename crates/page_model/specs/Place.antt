@@ -7,11 +7,11 @@ use Rattle.vm_facts.specs.declared.page.PageState.TheVariants.{Unfilled}
 use Rattle.vm_facts.specs.declared.entry.Entry.{Entry}
 use Rattle.vm_facts.specs.declared.entry.Entry.TheVariants as entries
 use Rattle.aout_image.specs.declared.Image.{Image}
-use Rattle.vm_facts.specs.Flat.{Holding, Holds, Lends, Zombie, Process, FlatState}
-use Rattle.page_model.specs.declared.change.Change.{Change}
-use Rattle.page_model.specs.declared.change.Change.TheVariants.{Keep, Resize, Fork, Lend, Exec, Reap, Sleep, End}
-use Rattle.page_model.specs.Flat.{NamedImage, image_numbered, process_of}
-use Rattle.page_model.specs.Pages.{Slot, Zeros, SpacePages, changed, same_page, pages_from, number_of}
+use Rattle.flat_state.specs.Flat.{Holding, Holds, Lends, Zombie, Process, FlatState, NamedImage, image_numbered, process_of}
+use Rattle.flat_state.specs.declared.change.Change.{Change}
+use Rattle.flat_state.specs.declared.change.Change.TheVariants.{Keep, Resize, Fork, Lend, Exec, Reap, Sleep, End}
+use Rattle.page_model.specs.Pages.{Slot, Zeros, SpacePages, changed}
+use Rattle.flat_state.specs.PageNames.{same_page, pages_from, number_of}
 use Rattle.page_model.specs.Placement.{Placement, Residence, Due, Start, CopyOf, due_page, space_number, slots_of, is_dirty, sharers, image_of, unfilled, new_pages}
 use Rattle.page_model.specs.Moves.{fill, get_run, launch_run, reclaim, retire, done, touch_all, drop_all, leave_all}
 use Rattle.page_model.specs.Hands.{hand_moves}

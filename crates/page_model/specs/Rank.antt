@@ -4,7 +4,8 @@ use Rattle.vm_facts.specs.declared.page.Page.{Page}
 use Rattle.vm_facts.specs.declared.page.PageState.{PageState}
 use Rattle.vm_facts.specs.declared.page.PageState.TheVariants.{Unfilled, Valid, Invalid, Coming, Going, OnSwap}
 use Rattle.vm_facts.specs.declared.entry.Entry.{Entry}
-use Rattle.page_model.specs.Pages.{Filling, Zeros, OfImage, is_among, is_valid}
+use Rattle.page_model.specs.Pages.{Filling, Zeros, OfImage, is_valid}
+use Rattle.flat_state.specs.PageNames.{is_among}
 use Rattle.page_model.specs.Frames.{next_frame}
 use Rattle.page_model.specs.Placement.{Placement, Transfer, Part, Errand, Writes, slots_of, state_of, filling_of, page_of}
 use Rattle.page_model.specs.Serve.{Forces, Serves}

@@ -5,7 +5,8 @@ use Rattle.vm_facts.specs.declared.page.Page.TheVariants.{Data, Stack, Text}
 use Rattle.vm_facts.specs.declared.page.PageState.{PageState}
 use Rattle.vm_facts.specs.declared.page.PageState.TheVariants.{Unfilled, Valid, Invalid, OnSwap}
 use Rattle.swap_dmap.specs.Chunks.{spot, text_spot}
-use Rattle.page_model.specs.Pages.{number_of, beside, pages_from, is_among, is_on_swap, is_unfilled}
+use Rattle.flat_state.specs.PageNames.{number_of, beside, pages_from, is_among}
+use Rattle.page_model.specs.Pages.{is_on_swap, is_unfilled}
 use Rattle.page_model.specs.Frames.{times}
 use Rattle.page_model.specs.Placement.{Placement, state_of, is_dirty, slots_of}
 

@@ -1,15 +1,21 @@
-//! The definitions of a process's space and of paging, over lists, with no instruction in sight.
+//! The definitions of paging, over lists, with no process and no instruction in sight.
 //!
 //! Paging is the 4.3BSD book's, as this project's profile states it: pages with their states, frames, the free list,
 //! transfers in flight, a clock with two hands, klustered reads and writes, a text cache and a swapper. Each step is a
-//! plain function over a placement (`specs/Placement`, `Moves`, `Hands`, `Serve`, `Place`), and what its policy
-//! decides is written as one too (`Runs`, `Serve`, `Swapper`). `Kernel` and `FlatStep` put a placement together with
-//! holdings, processes and bytes, `Ownership` says who owns each frame and block, and `Coupled` where the bytes of
-//! each page are. The laws on all these are the clauses of `page_laws`.
+//! plain function over a placement, and what its policy decides is written as one too.
+//!
+//! Definitions, by file of specs/:
+//! - Pages, Frames, Placement: pages with their states and marks, frames, and `Placement`, all of them together.
+//! - Moves: what a fill, a reclaim, the beginning and the end of a transfer, and a page that goes do to a placement.
+//! - Runs: `run_in`, `run_out` and `run_put`, the pages that one transfer takes.
+//! - Hands: `hand_move`, a move of the two hands.
+//! - Serve: `force`, `serve_unit`, how a frame is forced and a page served.
+//! - Place: `place_entry` and `place_step`, what each entry of a journal does to a placement.
+//! - Swapper, Swapping: `swap_choice` and `put_out_unit`; and what is so of whom the swapper chooses.
+//! - Conditions, Dues: what an entry, a change and a fill that is due ask.
+//! - Ownership: `OneOwner`, who owns each frame and block.
+//! - PageBytes, Stored: where the bytes of each page are, and the swap image.
+//! - Rank, PuttingOut: how far forcing, serving and putting out are from their end.
+//!
+//! The laws on all these are the clauses of `page_laws`.
 #![tactic(auto)]
-
-pub mod change;
-pub mod spot;
-
-pub use change::Change;
-pub use spot::{PAGE, STACK_REACH, STACK_TOP, Spot, locate};

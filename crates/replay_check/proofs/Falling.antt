@@ -1,7 +1,7 @@
 -- Where an access falls that is refused below the stack.
 use Rattle.std.proofs.Common.{◌≡◌, ℕ, ◌+◌, ◌-◌, leb, ltb, Bool, true, false, ◌&&◌, length, Some, None, Ok, Option, ℤ, Err, Result, refl, subst, arith}
 use Rattle.std.proofs.lemmas.Bool.Decides.{nat_tests}
-use Rattle.vm_facts.specs.Flat.{Space}
+use Rattle.flat_state.specs.Space.{Space, spot_by, spot_at, stack_top, stack_reach, address_in, byte_at, may_write_at, answers_of}
 use Rattle.vm_facts.specs.declared.regs.Regs.{Regs}
 use Rattle.vm_facts.specs.declared.memory.ByteRead.{ByteRead}
 use Rattle.vm_facts.specs.declared.memory.ByteRead.TheVariants as reads
@@ -11,14 +11,13 @@ use Rattle.user_vax.specs.declared.refused.Refused.TheVariants.{Below as Fell}
 use Rattle.user_vax.specs.Program.{Program, run, Access, ReadOf, TestOf}
 use Rattle.user_vax.specs.Laws.{read_refusal, test_refusal, refusal}
 use Rattle.user_vax.proofs.Order.{keeps_order}
-use Rattle.page_model.specs.declared.spot.Spot.{Spot}
-use Rattle.page_model.specs.declared.spot.Spot.TheVariants.{Text, Data, Stack, Below, Outside}
+use Rattle.flat_state.specs.declared.spot.Spot.{Spot}
+use Rattle.flat_state.specs.declared.spot.Spot.TheVariants.{Text, Data, Stack, Below, Outside}
 use Rattle.user_vax.specs.Effects.{Effect}
 use Rattle.user_vax.specs.declared.refused.Refused.{Refused}
 use Rattle.user_vax.specs.declared.refused.Refused.TheVariants as refusals
 use Rattle.user_vax.specs.Instruction.{instruction, answer_of, answer_of_call}
 use Rattle.replay_check.specs.Machine.{IsNear, IsNearStep}
-use Rattle.page_model.specs.Space.{spot_by, spot_at, stack_top, stack_reach, address_in, byte_at, may_write_at, answers_of}
 
 below_read : (s : Space) (p : Spot) → byte_at s p ≡ reads.Below → p ≡ Below
 below_read s (Text i) e = absurd cc

@@ -3,12 +3,11 @@ use Rattle.std.proofs.Common.{◌≡◌, ℕ, zero, suc, ◌+◌, ◌-◌, ◌<�
 use Rattle.std.specs.Prelude.{IsSome, find, nat_le}
 use Rattle.std.specs.List.{range_with_len}
 use Rattle.std.proofs.lemmas.List.{take_all}
-use Rattle.vm_facts.specs.Flat.{FlatState}
+use Rattle.flat_state.specs.Flat.{FlatState, Inputs, can_step, start_state}
 use Rattle.vm_facts.specs.declared.page.Page.{Page}
 use Rattle.vm_facts.specs.declared.entry.Entry.{Entry}
 use Rattle.vm_facts.specs.declared.entry.Entry.TheVariants as entries
-use Rattle.page_model.specs.Flat.{Inputs, can_step, start_state}
-use Rattle.page_model.specs.Journal.{units_of, units_with, repeated, instructions_of}
+use Rattle.flat_state.specs.Journal.{units_of, units_with, repeated, instructions_of}
 use Rattle.flat_model.specs.Step.{flat_step}
 use Rattle.flat_model.specs.Run.{Point, is_refused, step_at, behind_first, due, due_at, first_if, act, behind, point_after, same_entry, same_as, may_follow, where_so, flat_entry_of, flat_entry_if, flat_entry, flat_units, flat_run, start_point}
 use Rattle.flat_model.specs.Touched.{touched}

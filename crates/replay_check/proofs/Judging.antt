@@ -2,11 +2,10 @@
 use Rattle.std.proofs.Common.{◌≡◌, ℕ, ◌==◌, Bool, true, false, List, [], ◌∷◌, Option, Some, None, refl, sym, ap, ◌∙◌, subst, eq-eqb, arith}
 use Rattle.std.specs.Prelude.{if◌then◌else◌}
 use Rattle.std.proofs.lemmas.Bool.Decides.{nat_tests}
-use Rattle.vm_facts.specs.Flat.{FlatState}
+use Rattle.flat_state.specs.Flat.{FlatState, Inputs, can_step}
 use Rattle.vm_facts.specs.declared.regs.Regs.{Regs}
 use Rattle.vm_facts.specs.declared.entry.Entry.{Entry}
 use Rattle.vm_facts.specs.declared.entry.Entry.TheVariants as entries
-use Rattle.page_model.specs.Flat.{Inputs, can_step}
 use Rattle.flat_model.specs.declared.calls.SystemCall.{SystemCall}
 use Rattle.flat_model.specs.Step.{Step, flat_step, call_entry}
 use Rattle.flat_model.specs.Run.{Point, flat_entry, flat_entry_by, flat_entry_of, flat_entry_if, where_so, same_as, same_entry, act, first_if, due, due_at, is_refused, step_at, point_after, behind, may_follow, is_outcome_of, is_call_of, process_of_entry}

@@ -1,8 +1,7 @@
 -- Growth, sleep and pieces without a place, as the judge judges them.
 use Rattle.std.proofs.Common.{◌≡◌, ℕ, ◌==◌, Bool, true, false, ◌&&◌, Option, Some, refl, sym, ap, ◌∙◌, subst}
-use Rattle.vm_facts.specs.Flat.{FlatState}
+use Rattle.flat_state.specs.Flat.{FlatState, Inputs, can_step}
 use Rattle.vm_facts.specs.declared.entry.Entry.TheVariants as entries
-use Rattle.page_model.specs.Flat.{Inputs, can_step}
 use Rattle.flat_model.specs.Step.{flat_step}
 use Rattle.flat_model.specs.Run.{Point, flat_entry, where_so}
 use Rattle.replay_check.specs.declared.deed.Did.{Did}

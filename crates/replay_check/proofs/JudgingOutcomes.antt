@@ -1,10 +1,9 @@
 -- Ends and replies, as the judge judges them.
 use Rattle.std.proofs.Common.{◌≡◌, ℕ, ◌==◌, Bool, false, ◌&&◌, Some, None, refl, sym, ap}
-use Rattle.vm_facts.specs.Flat.{FlatState}
+use Rattle.flat_state.specs.Flat.{FlatState, Inputs, can_step}
 use Rattle.vm_facts.specs.declared.regs.Regs.{Regs}
 use Rattle.vm_facts.specs.declared.entry.Entry.TheVariants as entries
 use Rattle.user_vax.specs.Operands.{register}
-use Rattle.page_model.specs.Flat.{Inputs, can_step}
 use Rattle.flat_model.specs.declared.calls.SystemCall.{SystemCall}
 use Rattle.flat_model.specs.Calls.{number_of}
 use Rattle.flat_model.specs.Step.{flat_step, call_entry}

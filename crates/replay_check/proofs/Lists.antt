@@ -5,10 +5,10 @@ use Rattle.std.specs.List.{position_or_len}
 use Rattle.std.proofs.lemmas.Bool.{cases_lt}
 use Rattle.std.proofs.lemmas.List.Sums.{fails_before_first}
 use Rattle.std.proofs.lemmas.List.Quantifiers.{position-Some}
-use Rattle.vm_facts.specs.Flat.{Space, Holds, Process, FlatState}
+use Rattle.flat_state.specs.Space.{Space}
+use Rattle.flat_state.specs.Flat.{Holds, Process, FlatState, process_of, is_ready, ready_if, can_step, holds_space}
 use Rattle.std.proofs.lemmas.Bool.Decides.{nat_tests}
-use Rattle.page_model.specs.Flat.{process_of, is_ready, ready_if, can_step, holds_space}
-use Rattle.page_model.specs.Change.{replaced, replaced_by, with_process, returned, returned_by, given_back, lends_to}
+use Rattle.flat_state.specs.Change.{replaced, replaced_by, with_process, returned, returned_by, given_back, lends_to}
 use Rattle.replay_check.specs.Machine.{no_process, process_at, IsPlace}
 
 -- an element of a list whose front was changed

@@ -8,7 +8,7 @@ use Rattle.aout_image.specs.declared.Image.{Image}
 use Rattle.aout_image.specs.declared.Judged.{Judged}
 use Rattle.aout_image.specs.declared.Judged.TheVariants.{Is, NotImage}
 use Rattle.aout_image.specs.Image.{Loaded, image_of, judgement, loaded, loaded_if, judged_of}
-use Rattle.page_model.specs.Flat.{NamedImage, image_numbered}
+use Rattle.flat_state.specs.Flat.{NamedImage, image_numbered}
 use Rattle.flat_model.specs.Calls.{image_named, numbered_by}
 use Rattle.replay_check.specs.Images.{FlatFile, IsImageFile, AreImageFiles, AreNumbers, named_as, images_of}
 

@@ -4,7 +4,8 @@ use Rattle.std.specs.Prelude.{◌/◌, ◌%◌, ◌*◌, ℤ, nat_le, slice_inde
 use Rattle.std.specs.List.{cons_option}
 use Rattle.std.proofs.lemmas.Bool.Decides.{nat_tests}
 use Rattle.vm_facts.specs.Answers.{Answers, ByteWrite, read_by, put as put_in}
-use Rattle.vm_facts.specs.Flat.{Space, Holding, Holds, Process, FlatState}
+use Rattle.flat_state.specs.Space.{Space, address_in, byte_at, may_write_at, answers_of, put_at, put, puts}
+use Rattle.flat_state.specs.Flat.{Holding, Holds, Process, FlatState, NamedImage, Inputs, process_of, ready_if, can_step}
 use Rattle.vm_facts.specs.declared.page.Page.{Page}
 use Rattle.vm_facts.specs.declared.page.Page.TheVariants as pages
 use Rattle.vm_facts.specs.declared.memory.ByteRead.TheVariants as reads
@@ -14,12 +15,11 @@ use Rattle.vm_facts.specs.declared.regs.Regs.{Regs}
 use Rattle.user_vax.specs.Program.{Program, Gives, Refuses, Reads, Tests, ◌>>=◌, run, after_read, after_test, Access, ReadOf, TestOf, accesses, rest_of_read, rest_of_test}
 use Rattle.user_vax.specs.declared.refused.Refused.{Refused}
 use Rattle.user_vax.specs.declared.refused.Refused.TheVariants.{Miss, Below as Falls, Signal}
-use Rattle.page_model.specs.declared.spot.Spot.{Spot}
-use Rattle.page_model.specs.declared.spot.Spot.TheVariants.{Text, Data, Stack, Below, Outside}
-use Rattle.page_model.specs.Space.{address_in, byte_at, may_write_at, answers_of, put_at, put, puts}
-use Rattle.page_model.specs.Pages.{same_page, is_among}
-use Rattle.page_model.specs.Writes.{MayPut, Wrote}
-use Rattle.page_model.proofs.SpaceLaws.{spot_after, put_answers, wrote_puts}
+use Rattle.flat_state.specs.declared.spot.Spot.{Spot}
+use Rattle.flat_state.specs.declared.spot.Spot.TheVariants.{Text, Data, Stack, Below, Outside}
+use Rattle.flat_state.specs.PageNames.{same_page, is_among}
+use Rattle.flat_state.specs.Writes.{MayPut, Wrote}
+use Rattle.flat_state.proofs.SpaceLaws.{spot_after, put_answers, wrote_puts}
 use Rattle.flat_model.specs.Touched.{page_read, page_tested, page_of_access, distinct, call_accesses, accesses_behind, accesses_after, step_accesses, touched_in, touched_by, touched_if, touched}
 use Rattle.user_vax.specs.Effects.{Effect}
 use Rattle.user_vax.specs.Instruction.{instruction, answer_of, answer_of_call, registers_after, writes_of}
@@ -30,8 +30,7 @@ use Rattle.flat_model.specs.Instruction.{instruction_in}
 use Rattle.flat_model.specs.Calls.{call_of, reply_of, argument, exit_reply, break_reply, break_by, pages_up_to, stack_pages_of, data_limit}
 use Rattle.flat_model.specs.declared.calls.Reply.TheVariants.{Exits}
 use Rattle.std.proofs.lemmas.List.Elements.{filter_map-append}
-use Rattle.page_model.specs.Flat.{NamedImage, Inputs, process_of, ready_if, can_step}
-use Rattle.page_model.specs.Change.{apply_writes}
+use Rattle.flat_state.specs.Change.{apply_writes}
 use Rattle.flat_model.specs.declared.calls.SystemCall.{SystemCall}
 use Rattle.flat_model.specs.Step.{written_process}
 use Rattle.replay_check.specs.Machine.{process_at, IsPlace}

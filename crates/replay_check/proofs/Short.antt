@@ -6,7 +6,7 @@ use Rattle.user_vax.specs.Program.{Program, Gives, Reads, run, ◌>>=◌}
 use Rattle.user_vax.specs.declared.refused.Refused.{Refused}
 use Rattle.user_vax.specs.Operands.{past}
 use Rattle.user_vax.proofs.Runs.{ok_of_bind}
-use Rattle.page_model.specs.Flat.{NamedImage}
+use Rattle.flat_state.specs.Flat.{NamedImage}
 use Rattle.flat_model.specs.declared.calls.Reply.{Reply}
 use Rattle.flat_model.specs.declared.calls.Reply.TheVariants.{Fails, Does, Writes, Waits, Exits}
 use Rattle.flat_model.specs.Calls.{argument, three_arguments, bytes_from, written_to, write_reply, exit_reply, write_limit}

@@ -1,27 +1,24 @@
 -- A step, from what its instruction came to.
 use Rattle.std.proofs.Common.{◌≡◌, ℕ, zero, suc, ◌+◌, ◌≤◌, ◌<◌, min, Bool, true, false, List, [], ◌∷◌, length, Option, Some, None, Result, Ok, Err, ℤ, refl, sym, ap, ◌∙◌, subst, arith}
-use Rattle.vm_facts.specs.Answers.{Answers}
-use Rattle.vm_facts.specs.Flat.{Space, Holding, Holds, Process, FlatState}
+use Rattle.vm_facts.specs.Answers.{Answers, ByteWrite}
+use Rattle.flat_state.specs.Space.{Space, answers_of, puts, byte_at, may_write_at, address_in}
+use Rattle.flat_state.specs.Flat.{Holding, Holds, Process, FlatState, NamedImage, Inputs, process_of}
 use Rattle.vm_facts.specs.declared.regs.Regs.{Regs}
-use Rattle.user_vax.specs.Program.{Program, run}
+use Rattle.user_vax.specs.Program.{Program, run, Access, ReadOf, TestOf}
 use Rattle.user_vax.specs.Effects.{Effect}
-use Rattle.user_vax.specs.Instruction.{answer_of, answer_of_call, registers_after, writes_of}
+use Rattle.user_vax.specs.Instruction.{answer_of, answer_of_call, registers_after, writes_of, instruction}
 use Rattle.user_vax.specs.declared.refused.Refused.{Refused}
 use Rattle.user_vax.specs.declared.refused.Refused.TheVariants as refusals
 use Rattle.user_vax.specs.declared.stepping.Stepped.{Stepped}
 use Rattle.user_vax.specs.declared.stepping.Stepped.TheVariants as steps
 use Rattle.user_vax.proofs.Runs.{ok_of_bind}
-use Rattle.user_vax.specs.Program.{Access, ReadOf, TestOf}
 use Rattle.user_vax.specs.Laws.{read_refusal, test_refusal, refusal}
 use Rattle.user_vax.proofs.Order.{keeps_order}
-use Rattle.user_vax.specs.Instruction.{instruction}
 use Rattle.flat_model.specs.Instruction.{instruction_in}
-use Rattle.page_model.specs.declared.spot.Spot.{Spot}
-use Rattle.page_model.specs.declared.spot.Spot.TheVariants.{Text, Data, Stack, Below, Outside}
-use Rattle.page_model.specs.Space.{answers_of, puts, byte_at, may_write_at, address_in}
-use Rattle.page_model.specs.Flat.{NamedImage, Inputs, process_of}
-use Rattle.page_model.specs.Change.{apply_writes, apply_change, wrote_by, wrote_if, with_process}
-use Rattle.page_model.specs.declared.change.Change.TheVariants.{Keep, Resize, Sleep, End}
+use Rattle.flat_state.specs.declared.spot.Spot.{Spot}
+use Rattle.flat_state.specs.declared.spot.Spot.TheVariants.{Text, Data, Stack, Below, Outside}
+use Rattle.flat_state.specs.Change.{apply_writes, apply_change, wrote_by, wrote_if, with_process}
+use Rattle.flat_state.specs.declared.change.Change.TheVariants.{Keep, Resize, Sleep, End}
 use Rattle.flat_model.specs.declared.calls.Reply.{Reply}
 use Rattle.flat_model.specs.declared.calls.Reply.TheVariants.{Fails, Does, Writes, Waits, Exits}
 use Rattle.flat_model.specs.declared.calls.SystemCall.{SystemCall}
@@ -33,7 +30,6 @@ use Rattle.replay_check.specs.declared.deed.Deed.{Deed}
 use Rattle.replay_check.specs.Machine.{step_by, space_in, space_at, process_at, IsPlace, IsBehind}
 use Rattle.replay_check.proofs.Lists.{process_found}
 use Rattle.replay_check.proofs.Changing.{held, at_kept}
-use Rattle.vm_facts.specs.Answers.{ByteWrite}
 
 pub reply_same : (images : List NamedImage) (call : SystemCall) (G H : FlatState) (p q : Process) (s t : Space) (regs more : Regs) → G ≡ H → p ≡ q → s ≡ t → regs ≡ more
     → or_fault (run (answers_of s) (reply_of images G p s call regs)) ≡ or_fault (run (answers_of t) (reply_of images H q t call more))

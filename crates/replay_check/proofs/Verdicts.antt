@@ -4,11 +4,10 @@ use Rattle.std.specs.Prelude.{find}
 use Rattle.std.specs.List.{range_with_len}
 use Rattle.std.proofs.lemmas.List.{take_more}
 use Rattle.std.proofs.lemmas.Bool.{cases_lt, le-leb, lt-leb}
-use Rattle.vm_facts.specs.Flat.{FlatState}
+use Rattle.flat_state.specs.Flat.{FlatState, Inputs, start_state}
 use Rattle.vm_facts.specs.declared.entry.Entry.{Entry}
-use Rattle.page_model.specs.Flat.{Inputs, start_state}
-use Rattle.page_model.specs.Journal.{units_with, counted, instructions_of}
-use Rattle.page_model.proofs.Joins.{count-append}
+use Rattle.flat_state.specs.Journal.{units_with, counted, instructions_of}
+use Rattle.flat_state.proofs.Joins.{count-append}
 use Rattle.flat_model.specs.Run.{Point, flat_run, flat_units, start_point}
 use Rattle.flat_model.proofs.Folds.{run_more}
 use Rattle.replay_check.specs.declared.replaying.Last.{Last}

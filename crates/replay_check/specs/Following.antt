@@ -1,9 +1,8 @@
 -- How a run is followed, whose pages are listed.
 use Rattle.std.specs.Prelude.{◌≡◌, ℕ, ◌==◌, Bool, false, List, ◌++◌, Option, Some, None, IsSome}
-use Rattle.vm_facts.specs.Flat.{FlatState}
+use Rattle.flat_state.specs.Flat.{FlatState, Inputs}
 use Rattle.vm_facts.specs.declared.page.Page.{Page}
 use Rattle.vm_facts.specs.declared.entry.Entry.{Entry}
-use Rattle.page_model.specs.Flat.{Inputs}
 use Rattle.flat_model.specs.Run.{Point, is_refused, flat_units}
 use Rattle.replay_check.specs.Verdicts.{references_from}
 

@@ -1,10 +1,9 @@
 -- How the judge follows a run of the flat machine.
 use Rattle.std.specs.Prelude.{◌≡◌, ℕ, ◌≤◌, ◌==◌, Bool, true, false, List, [], ◌∷◌, Option, Some, None, if◌then◌else◌}
-use Rattle.vm_facts.specs.Flat.{FlatState}
+use Rattle.flat_state.specs.Flat.{FlatState, Inputs, can_step}
 use Rattle.vm_facts.specs.declared.entry.Entry.{Entry}
 use Rattle.vm_facts.specs.declared.entry.Entry.TheVariants as entries
-use Rattle.page_model.specs.Flat.{Inputs, can_step}
-use Rattle.page_model.specs.Journal.{instructions_of}
+use Rattle.flat_state.specs.Journal.{instructions_of}
 use Rattle.flat_model.specs.Step.{Step, flat_step, call_entry}
 use Rattle.flat_model.specs.Run.{Point, same_as, first_if, flat_run}
 use Rattle.replay_check.specs.declared.deed.Did.{Did}

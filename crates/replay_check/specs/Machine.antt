@@ -1,20 +1,19 @@
 -- What the code of the flat machine keeps and answers.
 use Rattle.std.specs.Prelude.{◌≡◌, ℕ, ◌-◌, ◌<◌, ◌≤◌, ◌==◌, false, List, [], ◌∷◌, ◌++◌, length, position, slice_index_or, IsTrue, Some, Result, Err, Bool}
 use Rattle.vm_facts.specs.Answers.{ByteWrite}
-use Rattle.vm_facts.specs.Flat.{Space, Holding, Holds, Lends, Zombie, Process, FlatState}
+use Rattle.flat_state.specs.Space.{Space, stack_top, stack_reach}
+use Rattle.flat_state.specs.Flat.{Holding, Holds, Lends, Zombie, Process, FlatState, NamedImage, cleared, holds_space}
 use Rattle.vm_facts.specs.declared.entry.Entry.{Entry}
 use Rattle.vm_facts.specs.declared.entry.Entry.TheVariants.{Ran, Grew, Sleeps, Ended}
 use Rattle.user_vax.specs.declared.stepping.Stepped.{Stepped}
 use Rattle.user_vax.specs.declared.stepping.Stepped.TheVariants as steps
-use Rattle.page_model.specs.Space.{stack_top, stack_reach}
-use Rattle.page_model.specs.Flat.{NamedImage, cleared, holds_space}
 use Rattle.flat_model.specs.Step.{call_entry, out_entries, Step, step_with, written_process}
 use Rattle.vm_facts.specs.declared.regs.Regs.{Regs}
 use Rattle.user_vax.specs.Effects.{Effect}
 use Rattle.user_vax.specs.Instruction.{answer_of, registers_after, writes_of}
 use Rattle.user_vax.specs.declared.refused.Refused.{Refused}
 use Rattle.user_vax.specs.declared.refused.Refused.TheVariants as refusals
-use Rattle.page_model.specs.Change.{apply_writes}
+use Rattle.flat_state.specs.Change.{apply_writes}
 use Rattle.replay_check.specs.declared.process.Held.{Held}
 use Rattle.replay_check.specs.declared.process.Held.TheVariants as helds
 use Rattle.replay_check.specs.declared.deed.Did.{Did}

@@ -2,14 +2,14 @@
 use Rattle.std.specs.Prelude.{◌≡◌, ℕ, Bool, true, false, List, [], ◌∷◌, ◌++◌, filter_map, Result, Ok, Err}
 use Rattle.std.proofs.Common.{refl, sym, ap, ◌∙◌}
 use Rattle.vm_facts.specs.Answers.{Answers, ByteWrite, written}
-use Rattle.vm_facts.specs.Flat.{Space}
+use Rattle.flat_state.specs.Space.{Space}
 use Rattle.vm_facts.specs.declared.page.Page.{Page}
 use Rattle.user_vax.specs.Program.{Access, ReadOf, TestOf}
 use Rattle.user_vax.specs.declared.refused.Refused.{Refused}
 use Rattle.user_vax.specs.ArrayMemory.{written-append}
-use Rattle.page_model.specs.Pages.{is_among}
-use Rattle.page_model.specs.Writes.{Wrote}
-use Rattle.page_model.proofs.SpaceLaws.{wrote_more}
+use Rattle.flat_state.specs.PageNames.{is_among}
+use Rattle.flat_state.specs.Writes.{Wrote}
+use Rattle.flat_state.proofs.SpaceLaws.{wrote_more}
 use Rattle.flat_model.specs.Touched.{page_of_access}
 use Rattle.flat_model.specs.Shown.{shown}
 

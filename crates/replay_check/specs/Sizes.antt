@@ -1,6 +1,6 @@
 -- How large a space may be.
 use Rattle.std.specs.Prelude.{◌≡◌, ◌*◌, ◌%◌, ◌≤◌, length}
-use Rattle.vm_facts.specs.Flat.{Space}
+use Rattle.flat_state.specs.Space.{Space}
 
 -- segments within their limits, the stack of whole pages
 pub record IsSized (s : Space) : Type 0 where

@@ -4,8 +4,8 @@ use Rattle.std.specs.List.{range_with_len}
 use Rattle.vm_facts.specs.declared.page.Page.{Page}
 use Rattle.vm_facts.specs.declared.entry.Entry.{Entry}
 use Rattle.vm_facts.specs.declared.entry.Entry.TheVariants.{Ran, Call, Ended}
-use Rattle.page_model.specs.Flat.{Inputs}
-use Rattle.page_model.specs.Journal.{units_of, instructions_of}
+use Rattle.flat_state.specs.Flat.{Inputs}
+use Rattle.flat_state.specs.Journal.{units_of, instructions_of}
 use Rattle.flat_model.specs.Run.{Point, flat_entry, flat_run, start_point}
 use Rattle.flat_model.specs.Touched.{touched}
 use Rattle.replay_check.specs.declared.replaying.Verdict.{Verdict}

@@ -2,11 +2,10 @@
 
 ghost use Rattle.std.specs.Prelude.{◌≡◌, ℕ, ◌+◌, ◌^◌, ◌<◌, ◌≤◌, ◌==◌, nat_lt, find, length, Option, Some, None, Bool, true, false, IfOk, IsSome, List, option_copied};
 ghost use Rattle.user_vax.specs.Program.{run};
-ghost use Rattle.page_model.specs.Flat.{NamedImage, image_numbered};
-ghost use Rattle.page_model.specs.Change.{is_zombie_child};
-ghost use Rattle.page_model.specs.Space.{answers_of};
+ghost use Rattle.flat_state.specs.Flat.{NamedImage, image_numbered, Process as Record, FlatState};
+ghost use Rattle.flat_state.specs.Change.{is_zombie_child};
+ghost use Rattle.flat_state.specs.Space.{answers_of, Space};
 ghost use Rattle.flat_model.specs.Calls.{process_limit, replied, replied_both, child_by, break_reply, arguments_at, starts, path_image, string_from, string_limit, execve_of, execve_reply, wait_by, or_fault, wants_space, refused_reply, reply_of};
-ghost use Rattle.vm_facts.specs.Flat.{Space, Process as Record, FlatState};
 ghost use Rattle.replay_check.specs.Present.{refusal_of};
 ghost use Rattle.replay_check.specs.Images.{IsPathImage, with_number, CanChange, CanReply, CanAnswer};
 
@@ -18,7 +17,7 @@ use flat_model::{
     SystemCall, argument, arguments_at, exit_reply, start_page, start_regs, string_from,
     three_arguments, write_reply,
 };
-use page_model::Change;
+use flat_state::Change;
 use std::alloc::Global;
 use vm_facts::{Memory, NoMemory, Regs};
 

@@ -1,5 +1,5 @@
 use flat_model::SystemCall;
-use page_model::Change;
+use flat_state::Change;
 use vm_facts::{Bytes, Regs};
 
 /// What a step of a process did, as its entries say.

@@ -1,8 +1,7 @@
 ghost use Rattle.std.specs.Prelude.{◌≡◌, ℕ, ◌+◌, ◌-◌, ◌*◌, ◌/◌, ◌^◌, ◌<◌, ◌≤◌, ◌==◌, ◌++◌, ◌∷◌, [], List, Bool, true, false, not, length, map, filter, find, position, slice_set, slice_get, slice_index_or, Option, Some, None, IsSome, IfOk, IfSome, OnOk, IsTrue, All, Result, is_some};
-ghost use Rattle.vm_facts.specs.Flat.{Space, Holds, Lends, Zombie, Process as Record, FlatState};
-ghost use Rattle.page_model.specs.Space.{answers_of, stack_top};
-ghost use Rattle.page_model.specs.Flat.{NamedImage, Inputs, can_step, image_numbered, process_of, holds_space, space_with, start_if, start_state};
-ghost use Rattle.page_model.specs.Change.{changed, resized, apply_change, forked, lent, entered, ended, given_back, returned, orphaned, woken, left, apply_writes, with_process, without_process, child_of, lends_to, is_zombie_child, without_parent, awake};
+ghost use Rattle.flat_state.specs.Space.{Space, answers_of, stack_top};
+ghost use Rattle.flat_state.specs.Flat.{Holds, Lends, Zombie, Process as Record, FlatState, NamedImage, Inputs, can_step, image_numbered, process_of, holds_space, space_with, start_if, start_state};
+ghost use Rattle.flat_state.specs.Change.{changed, resized, apply_change, forked, lent, entered, ended, given_back, returned, orphaned, woken, left, apply_writes, with_process, without_process, child_of, lends_to, is_zombie_child, without_parent, awake};
 ghost use Rattle.flat_model.specs.Step.{pages_down_to, data_pages_of, step_of, replied_step, flat_step};
 ghost use Rattle.user_vax.specs.Effects.{Effect};
 ghost use Rattle.user_vax.specs.declared.refused.Refused.{Refused};
@@ -19,7 +18,7 @@ use crate::process::{Held, Process, with_results};
 use crate::program::{Program, program_at};
 use crate::space::FlatSpace;
 use flat_model::{Arguments, Reply, SystemCall, WRITE_LIMIT, start_page, start_regs};
-use page_model::{Change, PAGE, STACK_TOP};
+use flat_state::{Change, PAGE, STACK_TOP};
 use std::alloc::Global;
 use std::marker::Model;
 use user_vax::Stepped;
@@ -35,7 +34,7 @@ pub struct Machine {
 }
 
 impl Model for Machine {
-    ghost use Rattle.vm_facts.specs.Flat.{FlatState};
+    ghost use Rattle.flat_state.specs.Flat.{FlatState};
 
     ghost Value = { FlatState };
 
@@ -518,7 +517,7 @@ impl Machine {
     }
 
     /// The next step of the process of this number, as `step` makes it, and the pages that its instruction touches.
-    #[tactic(auto, using(crate::proofs::Paging::touched_at, flat_model::proofs::Wanting::idle_touches))]
+    #[tactic(auto, using(crate::proofs::Paging::touched_at, flat_model::proofs::Idle::idle_touches))]
     pub fn step_touching(
         &mut self,
         alloc: Global,

@@ -2,13 +2,13 @@
 
 ghost use Rattle.std.specs.Prelude.{◌≡◌, ◌^◌, ◌<◌, ◌++◌, ◌∷◌, [], length, Some, Result, IfOk, OnOk};
 ghost use Rattle.vm_facts.specs.declared.page.Page.{Page as PageName};
-ghost use Rattle.vm_facts.specs.Flat.{Space, Process as Record, FlatState};
+ghost use Rattle.flat_state.specs.Space.{Space, answers_of, puts};
+ghost use Rattle.flat_state.specs.Flat.{Process as Record, FlatState};
 ghost use Rattle.user_vax.specs.Effects.{Effect};
 ghost use Rattle.user_vax.specs.declared.refused.Refused.{Refused as Outcome};
 ghost use Rattle.user_vax.specs.Program.{accesses};
 ghost use Rattle.user_vax.specs.Instruction.{instruction, answer_of, registers_after, writes_of};
-ghost use Rattle.page_model.specs.Pages.{same_page, is_among};
-ghost use Rattle.page_model.specs.Space.{answers_of, puts};
+ghost use Rattle.flat_state.specs.PageNames.{same_page, is_among};
 ghost use Rattle.flat_model.specs.Instruction.{instruction_in};
 ghost use Rattle.flat_model.specs.Calls.{reply_of};
 ghost use Rattle.flat_model.specs.Touched.{page_of_access, accesses_after, step_accesses};

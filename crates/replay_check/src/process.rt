@@ -1,11 +1,10 @@
 ghost use Rattle.std.specs.Prelude.{◌≡◌, ℕ, Bool, true, false, ◌==◌, ◌≤◌, ◌<◌, ◌^◌, length, IsTrue, IfOk, OnOk};
-ghost use Rattle.vm_facts.specs.Flat.{Holding, Holds, Lends, Zombie, Process as Record, FlatState};
+ghost use Rattle.flat_state.specs.Flat.{Holding, Holds, Lends, Zombie, Process as Record, FlatState, is_ready, holds_space};
 ghost use Rattle.flat_model.specs.Touched.{touched_in};
 ghost use Rattle.user_vax.specs.Program.{run};
 ghost use Rattle.user_vax.specs.Instruction.{answer_of, registers_after, writes_of};
-ghost use Rattle.page_model.specs.Space.{puts};
-ghost use Rattle.page_model.specs.Flat.{is_ready, holds_space};
-ghost use Rattle.page_model.specs.Change.{resized, with_results, is_zombie, is_zombie_child, lends_to, without_parent, awake};
+ghost use Rattle.flat_state.specs.Space.{puts};
+ghost use Rattle.flat_state.specs.Change.{resized, with_results, is_zombie, is_zombie_child, lends_to, without_parent, awake};
 ghost use Rattle.flat_model.specs.Calls.{status_of};
 ghost use Rattle.flat_model.specs.Instruction.{instruction_in};
 ghost use Rattle.replay_check.specs.Machine.{space_in, holding_of, IsNearStep};
@@ -40,7 +39,7 @@ pub struct Process {
 }
 
 impl Model for Process {
-    ghost use Rattle.vm_facts.specs.Flat.{Process as Record};
+    ghost use Rattle.flat_state.specs.Flat.{Process as Record};
     ghost use Rattle.replay_check.specs.Machine.{holding_of};
 
     ghost Value = { Record };
@@ -220,7 +219,7 @@ impl Process {
 
     /// Runs its next instruction over its space: what it came to, and the registers that it left. The process
     /// keeps those that it had.
-    #[tactic(auto, using(page_model::proofs::SpaceLaws::wrote_puts, crate::proofs::Falling::near_step))]
+    #[tactic(auto, using(flat_state::proofs::SpaceLaws::wrote_puts, crate::proofs::Falling::near_step))]
     pub fn run(&mut self) -> (Stepped, Regs)
         requires { IsTrue (holds_space self.old.holding) }
         ensures answer { result.0 ≡ answer_of (instruction_in (space_in self.old.holding) self.old.regs) }

@@ -1,6 +1,6 @@
 ghost use Rattle.std.specs.Prelude.{◌≡◌, ℕ, ◌+◌, ◌-◌, ◌*◌, ◌^◌, ◌<◌, ◌≤◌, ◌++◌, ◌∷◌, [], List, length, take, drop, slice_get, string_bytes, bytes_eq, min, All, IfOk, OnOk, Ok, true, false, IsTrue, is_ok, IsSome, Some};
 ghost use Rattle.aout_image.specs.Image.{Loaded, IsSound, image_of, loaded, in_pages, text_offset, text_given, data_given, text_pages_of, data_pages_of, file_length_of};
-ghost use Rattle.page_model.specs.Flat.{NamedImage, image_numbered};
+ghost use Rattle.flat_state.specs.Flat.{NamedImage, image_numbered};
 ghost use Rattle.replay_check.specs.Images.{FlatFile, IsImageFile, AreNumbers, images_of, IsFit, IsNumbered};
 
 use aout_image::{Image, Judged, Kind, read_image};
@@ -18,7 +18,7 @@ pub struct Flat {
 
 impl Model for Flat {
     ghost use Rattle.std.specs.Prelude.{string_bytes};
-    ghost use Rattle.replay_check.specs.Images.{FlatFile};
+    ghost use Rattle.replay_check.specs.Images.{FlatFile, IsFit};
 
     ghost Value = { FlatFile };
 
@@ -35,8 +35,7 @@ pub struct Program {
 }
 
 impl Model for Program {
-    ghost use Rattle.page_model.specs.Flat.{NamedImage};
-    ghost use Rattle.replay_check.specs.Images.{IsFit};
+    ghost use Rattle.flat_state.specs.Flat.{NamedImage};
 
     ghost Value = { NamedImage };
 

@@ -1,15 +1,14 @@
 ghost use Rattle.std.specs.Prelude.{◌≡◌, ℕ, ◌+◌, ◌*◌, ◌/◌, ◌%◌, ◌^◌, ◌<◌, ◌≤◌, length, refl, IfOk, OnOk, OnErr};
-ghost use Rattle.vm_facts.specs.Flat.{Space};
-ghost use Rattle.page_model.specs.Space.{address_in, answers_of};
-ghost use Rattle.page_model.specs.Change.{resized, resized_bytes};
-ghost use Rattle.page_model.specs.Writes.{IsWithin, Wrote};
-ghost use Rattle.page_model.proofs.SpaceLaws.{wrote_more, wrote_answers};
+ghost use Rattle.flat_state.specs.Space.{Space, address_in, answers_of};
+ghost use Rattle.flat_state.specs.Change.{resized, resized_bytes};
+ghost use Rattle.flat_state.specs.Writes.{IsWithin, Wrote};
+ghost use Rattle.flat_state.proofs.SpaceLaws.{wrote_more, wrote_answers};
 ghost use Rattle.flat_model.specs.Calls.{pages_up_to, stack_pages_of};
 ghost use Rattle.flat_model.specs.Step.{data_pages_of};
 ghost use Rattle.flat_model.specs.Touched.{page_read, page_tested};
 ghost use Rattle.replay_check.specs.Sizes.{IsSized};
 
-use page_model::{PAGE, Spot, locate};
+use flat_state::{PAGE, Spot, locate};
 use std::alloc::Global;
 use std::marker::Model;
 use vm_facts::{ByteRead, MayWrite, Memory, NoMemory, Page};
@@ -25,7 +24,7 @@ pub struct FlatSpace {
 }
 
 impl Model for FlatSpace {
-    ghost use Rattle.vm_facts.specs.Flat.{Space};
+    ghost use Rattle.flat_state.specs.Space.{Space};
     ghost use Rattle.replay_check.specs.Sizes.{IsSized};
 
     ghost Value = { Space };

@@ -1,8 +1,8 @@
 ghost use Rattle.std.specs.Prelude.{◌≡◌, ℕ, ◌^◌, ◌<◌, ◌++◌, List, length, None, IfOk, OnOk};
 ghost use Rattle.vm_facts.specs.declared.page.Page.{Page as PageName};
 ghost use Rattle.vm_facts.specs.declared.entry.Entry.{Entry as Unit};
-ghost use Rattle.page_model.specs.Flat.{Inputs, can_step};
-ghost use Rattle.page_model.specs.Journal.{units_of, units_with, repeated};
+ghost use Rattle.flat_state.specs.Flat.{Inputs, can_step};
+ghost use Rattle.flat_state.specs.Journal.{units_of, units_with, repeated};
 ghost use Rattle.flat_model.specs.Step.{flat_step};
 ghost use Rattle.flat_model.specs.Touched.{touched};
 ghost use Rattle.replay_check.specs.Images.{AreImageFiles, AreNumbers, images_of};

@@ -1,26 +1,27 @@
 -- What a process does leaves what stands.
 use Rattle.std.proofs.Common.{◌≡◌, ℕ, Bool, true, false, not, ◌&&◌, if◌then◌else◌, List, [], ◌∷◌, Option, Some, None, Result, Ok, Err, refl, sym, ap, ◌∙◌, subst}
-use Rattle.vm_facts.specs.Flat.{Space, Holding, Holds, Lends, Zombie, Process, FlatState}
+use Rattle.flat_state.specs.Space.{Space}
+use Rattle.flat_state.specs.Flat.{Holding, Holds, Lends, Zombie, Process, FlatState, Inputs, process_of, can_step, ready_if, holds_space}
 use Rattle.vm_facts.specs.declared.entry.Entry.{Entry}
 use Rattle.vm_facts.specs.declared.entry.Entry.TheVariants as entries
 use Rattle.swap_book.specs.Holdings.{Holdings}
 use Rattle.swap_book.specs.Placing.{Wanted, place_all, fits}
-use Rattle.page_model.specs.declared.change.Change.{Change}
-use Rattle.page_model.specs.declared.change.Change.TheVariants.{Keep, Sleep}
-use Rattle.page_model.specs.Flat.{Inputs, process_of, can_step, ready_if, holds_space}
-use Rattle.page_model.specs.Change.{apply_change, apply_writes}
+use Rattle.flat_state.specs.declared.change.Change.{Change}
+use Rattle.flat_state.specs.declared.change.Change.TheVariants.{Keep, Sleep}
+use Rattle.flat_state.specs.Change.{apply_change, apply_writes}
 use Rattle.page_model.specs.Placement.{Placement}
 use Rattle.page_model.specs.Place.{is_borrower}
 use Rattle.page_model.specs.Swapper.{is_settled}
-use Rattle.page_laws.specs.Start.{ImagesFit}
-use Rattle.page_laws.specs.FlatStands.{IsNumbered, LendsStand}
-use Rattle.page_laws.proofs.KernelSwaps.{found_at}
+use Rattle.kernel_model.specs.Start.{ImagesFit}
+use Rattle.flat_state.specs.Numbers.{IsNumbered}
+use Rattle.flat_state.specs.Lenders.{LendsStand}
+use Rattle.kernel_laws.proofs.Machine.Swaps.{found_at}
 use Rattle.flat_model.specs.Step.{Step, flat_step}
 use Rattle.flat_model.specs.Run.{Point, is_refused, step_at, behind_first, due_at, first_if, act as next_of_step, behind, point_after, process_of_entry}
 use Rattle.flat_model.specs.Asked.{given_up, change_wanted, wanted_in, wanted_if, asks_by, asks, or_before, held_in, held_if, held_step, held_entry}
-use Rattle.flat_model.specs.State.{State}
-use Rattle.flat_model.specs.After.{pages_written, place_behind, after}
-use Rattle.flat_model.specs.Act.{loses_pages, settled_in, settled_if, settled, loses_in, loses_if, step_loses, must_refuse, must_settle}
+use Rattle.run_model.specs.State.{State}
+use Rattle.run_model.specs.After.{pages_written, place_behind, after}
+use Rattle.run_model.specs.Act.{loses_pages, settled_in, settled_if, settled, loses_in, loses_if, step_loses, must_refuse, must_settle}
 use Rattle.flat_model.proofs.StepEnds.{Shape, Empty, One, Two, step_shape}
 use Rattle.flat_laws.specs.Others.{is_writing}
 use Rattle.run_model.specs.Kinds.{Runs}
@@ -318,7 +319,7 @@ stepped_placed A s u images execs numbers lenders h st = record {
       holds = x.holds;
       resident = runs.resident;
       clear = runs.clear;
-      may = subst (λ (n : ℕ). Rattle.page_laws.specs.FlatStands.MayChange (apply_writes s.point.flat n step.writes) step.change) number form.may;
+      may = subst (λ (n : ℕ). Rattle.flat_state.specs.Change.NamesChild (apply_writes s.point.flat n step.writes) step.change) number form.may;
       execs = execs s.point.flat pid (is_refused s.point.last pid);
       pieces = found.1;
       settles = settled_when A s pid x.process x.space x.here x.holds h.unsettling;

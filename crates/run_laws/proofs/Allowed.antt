@@ -6,7 +6,8 @@ use Rattle.vm_facts.specs.declared.page.PageState.{PageState}
 use Rattle.vm_facts.specs.declared.page.PageState.TheVariants.{Unfilled, Valid, Invalid, Coming, Going, OnSwap}
 use Rattle.vm_facts.specs.declared.entry.Entry.{Entry}
 use Rattle.vm_facts.specs.declared.entry.Entry.TheVariants as entries
-use Rattle.page_model.specs.Pages.{Filling, Zeros, OfImage, frame_of, same_page, is_valid, is_among}
+use Rattle.page_model.specs.Pages.{Filling, Zeros, OfImage, frame_of, is_valid}
+use Rattle.flat_state.specs.PageNames.{same_page, is_among}
 use Rattle.page_model.specs.Frames.{times}
 use Rattle.page_model.specs.Placement.{Placement, Transfer, Due, Start, CopyOf, due_page, due_at, state_of, filling_of, IsThere, page_of, is_dirty}
 use Rattle.page_model.specs.Moves.{done}
@@ -16,17 +17,17 @@ use Rattle.page_model.specs.Hands.{expire, sweep_of, sweep_to, sweep_by, hand_mo
 use Rattle.page_model.specs.Serve.{force_entry, is_full, read_entry, read_entry_if, bring_entry_by, feed_entry_by, serve_entry_by, serve_entry}
 use Rattle.page_model.specs.Swapper.{put_out_unit}
 use Rattle.page_model.specs.Conditions.{CanEnter, IsShared}
-use Rattle.page_model.specs.Coupled.{IsWritable}
+use Rattle.page_model.specs.PageBytes.{IsWritable}
 use Rattle.page_model.specs.Dues.{DueStand, IsDue, NotDue}
 use Rattle.page_model.specs.Ownership.{OwnsFrames, seats}
-use Rattle.page_laws.proofs.PageLaws.{same_page_self}
-use Rattle.page_laws.proofs.Stays.{expire_transfers}
-use Rattle.page_laws.proofs.OwnsServe.{run_in_enters}
-use Rattle.page_laws.proofs.DueLaws.{run_in_due}
-use Rattle.page_laws.proofs.PartsKept.{run_some}
-use Rattle.page_laws.proofs.PutOuts.{unit_case, unit_can, not_full, run_some as put_some}
-use Rattle.page_laws.proofs.ServeEnds.{in_flight, full_some}
-use Rattle.page_laws.proofs.Transfers.{entry_count, done_count, retire_count}
+use Rattle.page_laws.proofs.Lists.Pages.{same_page_self}
+use Rattle.page_laws.proofs.Moves.Stays.{expire_transfers}
+use Rattle.page_laws.proofs.Ownership.Serve.{run_in_enters}
+use Rattle.page_laws.proofs.Due.Entries.{run_in_due}
+use Rattle.page_laws.proofs.Moves.Parts.{run_some}
+use Rattle.page_laws.proofs.Swapper.PuttingOut.{unit_case, unit_can, not_full, run_some as put_some}
+use Rattle.page_laws.proofs.Ends.Serving.{in_flight, full_some}
+use Rattle.page_laws.proofs.Moves.Transfers.{entry_count, done_count, retire_count}
 use Rattle.run_model.specs.Next.{fill_by, fill_unit, writes_to, writes_of, begins_write, move_by, move_unit}
 use Rattle.run_laws.specs.Standing.{IsAllowed, EachOnce}
 

@@ -1,40 +1,43 @@
 -- Execve and the end of a borrower leave what stands.
 use Rattle.std.proofs.Common.{◌≡◌, ◌⊎◌, ℕ, Bool, true, false, List, [], length, map, Option, Some, Ok, refl, sym, ap, ◌∙◌, subst}
-use Rattle.vm_facts.specs.Flat.{Space, Holds, Process, FlatState}
+use Rattle.flat_state.specs.Space.{Space}
+use Rattle.flat_state.specs.Flat.{Holds, Process, FlatState, NamedImage, Inputs, image_numbered, process_of}
 use Rattle.vm_facts.specs.declared.regs.Regs.{Regs}
 use Rattle.vm_facts.specs.declared.entry.Entry.{Entry}
 use Rattle.swap_book.specs.Holdings.{Holdings}
 use Rattle.swap_book.specs.Placing.{place_all}
-use Rattle.page_model.specs.declared.change.Change.{Change}
-use Rattle.page_model.specs.declared.change.Change.TheVariants.{Exec, End}
-use Rattle.page_model.specs.Flat.{NamedImage, Inputs, image_numbered, process_of}
-use Rattle.page_model.specs.Change.{apply_change}
-use Rattle.page_model.specs.Journal.{append}
+use Rattle.flat_state.specs.declared.change.Change.{Change}
+use Rattle.flat_state.specs.declared.change.Change.TheVariants.{Exec, End}
+use Rattle.flat_state.specs.Change.{apply_change}
+use Rattle.flat_state.specs.Journal.{append}
 use Rattle.page_model.specs.Pages.{numbered}
 use Rattle.page_model.specs.Placement.{Placement, space_number}
 use Rattle.page_model.specs.Place.{is_borrower, place_change}
 use Rattle.page_model.specs.Dues.{DueStand}
-use Rattle.page_model.specs.Conditions.{HaveParts, CanChange}
+use Rattle.page_model.specs.Conditions.{HaveParts, CanChange, ApartFrom}
 use Rattle.page_model.specs.Swapper.{is_out}
-use Rattle.page_model.specs.Kernel.{Kernel, Proc, New, Fits, SameTables, Sound, lives, lives_in, has_life}
-use Rattle.page_model.specs.FlatStep.{flat_step, pass_step, holdings_after, life_of_proc}
-use Rattle.page_laws.specs.Asks.{asked}
-use Rattle.page_laws.specs.Taken.{ApartFrom}
-use Rattle.page_laws.specs.Numbers.{Numbered, TakesNext, ReadyBy, ReadyFor}
-use Rattle.page_laws.specs.Start.{ImageFits, ImagesFit}
-use Rattle.page_laws.specs.FlatStands.{IsNumbered, LendsStand, IsLender, Stands}
-use Rattle.page_laws.proofs.Sounds.{pass_sound}
-use Rattle.page_laws.proofs.Numbers.{flat_numbered, pass_numbered}
-use Rattle.page_laws.proofs.Allowed.{ready_sound}
-use Rattle.page_laws.proofs.SoundChanges.{Unhanded, change_unhanded}
-use Rattle.page_laws.proofs.ServeStands.{SameHands}
-use Rattle.page_laws.proofs.DueChanges.{change_due}
-use Rattle.page_laws.proofs.KernelForks.{fit_image, next_new}
-use Rattle.page_laws.proofs.FlatLenders.{lender_found}
-use Rattle.page_laws.proofs.KernelReturns.{passes, Borrowing, borrowing, back_kernel, back_proc}
-use Rattle.page_laws.proofs.KernelStandsChanges.{exec_back_stands, end_back_stands}
-use Rattle.page_laws.proofs.ProcTables.{Stepping, by_life, step_is}
-use Rattle.page_laws.proofs.TablesThrough.{exec_back_tables, end_back_tables}
+use Rattle.kernel_model.specs.Kernel.{Kernel, Proc, New}
+use Rattle.kernel_model.specs.Coupled.{Fits, SameTables}
+use Rattle.kernel_model.specs.Sound.{Sound, lives, lives_in, has_life}
+use Rattle.kernel_model.specs.ChangeStep.{change_step, pass_step, holdings_after, life_of_proc}
+use Rattle.kernel_model.specs.Asks.{asked}
+use Rattle.kernel_model.specs.Numbers.{Numbered, TakesNext, ReadyBy, ReadyFor}
+use Rattle.kernel_model.specs.Start.{ImageFits, ImagesFit}
+use Rattle.flat_state.specs.Numbers.{IsNumbered}
+use Rattle.flat_state.specs.Lenders.{LendsStand, IsLender}
+use Rattle.kernel_model.specs.Stands.{Stands}
+use Rattle.kernel_laws.proofs.Sound.Steps.{pass_sound, pass_lives}
+use Rattle.kernel_laws.proofs.Sound.NumbersApart.{flat_numbered, pass_numbered}
+use Rattle.kernel_laws.proofs.Sound.Allowed.{ready_sound, wants_these}
+use Rattle.kernel_laws.proofs.Sound.Changes.{Unhanded, change_unhanded}
+use Rattle.page_laws.proofs.Ends.Hands.{SameHands}
+use Rattle.page_laws.proofs.Due.Changes.{change_due}
+use Rattle.kernel_laws.proofs.Machine.Forks.{fit_image, next_new}
+use Rattle.kernel_laws.proofs.Flat.Lenders.{lender_found}
+use Rattle.kernel_laws.proofs.Machine.Returns.{passes, Borrowing, borrowing, back_kernel, back_proc}
+use Rattle.kernel_laws.proofs.Stands.Changes.{exec_back_stands, end_back_stands}
+use Rattle.kernel_laws.proofs.Machine.Processes.{Stepping, by_life, step_is}
+use Rattle.kernel_laws.proofs.Machine.Through.{exec_back_tables, end_back_tables}
 use Rattle.flat_laws.proofs.Asking.{own_space, change_same}
 use Rattle.flat_model.specs.Asked.{given_up}
 use Rattle.run_laws.specs.Standing.{machine_of, EachOnce, Placed, ExecFits}
@@ -42,8 +45,6 @@ use Rattle.run_laws.proofs.Bridge.{from_machine}
 use Rattle.run_laws.proofs.Changes.{given_same, change_once}
 use Rattle.run_laws.proofs.OwnChanges.{Changing, Changed, with_found}
 use Rattle.run_laws.proofs.Living.{LivedOr, flat_back, back_from}
-use Rattle.page_laws.proofs.Allowed.{wants_these}
-use Rattle.page_laws.proofs.Sounds.{pass_lives}
 
 -- a change by which a borrower gives its space back
 abbrev pub GivesBack : Change → Type 0
@@ -56,7 +57,7 @@ pub record Told (A : Inputs) (l : Kernel) (after : FlatState) : Type 0 where
   pub stands : Stands A.images l after
 
 pub back_told : (A : Inputs) (k : Kernel) (flat : FlatState) (pid : ℕ) (regs : Regs) (e : Entry) (q m : Process) (s : Space) (change : Change) → GivesBack change → ImagesFit A.images → IsNumbered flat → process_of flat pid ≡ Some q → q.holding ≡ Holds s → IsLender flat pid s.sid m
-    → is_out k.place pid ≡ false → k.place.due ≡ [] → ExecFits A.images change → SameTables k flat → Stands A.images k flat → Told A (flat_step A.images (pass_step k pid m.pid) pid regs e change) (apply_change A.images flat pid regs change)
+    → is_out k.place pid ≡ false → k.place.due ≡ [] → ExecFits A.images change → SameTables k flat → Stands A.images k flat → Told A (change_step A.images (pass_step k pid m.pid) pid regs e change) (apply_change A.images flat pid regs change)
 back_told A k flat pid regs e q m s (Exec number top) gb fit nums f h is out due (named, im, whole) t st =
     let i : ImageFits named = fit number named im in
     record { tables = exec_back_tables k A.images flat pid regs e number top named q m s nums f h is im i.«data» whole t; stands = exec_back_stands A.images k flat pid regs e number top named q m s t due f h is out im st }
@@ -74,12 +75,12 @@ lands_any A k pid sid e (Exec image top) l gb x = record { place = x.place; hold
 lands_any A k pid sid e (End status) l gb x = record { place = x.place; holdings = x.holdings; journal = x.journal }
 lands_any A k pid sid e _ l gb x = absurd gb
 
-pub back_lands : (A : Inputs) (k : Kernel) (flat : FlatState) (pid : ℕ) (regs : Regs) (e : Entry) (q m : Process) (s : Space) (change : Change) (a : Borrowing k flat pid q m s) → GivesBack change → Lands A k pid s.sid e change (flat_step A.images (pass_step k pid m.pid) pid regs e change)
+pub back_lands : (A : Inputs) (k : Kernel) (flat : FlatState) (pid : ℕ) (regs : Regs) (e : Entry) (q m : Process) (s : Space) (change : Change) (a : Borrowing k flat pid q m s) → GivesBack change → Lands A k pid s.sid e change (change_step A.images (pass_step k pid m.pid) pid regs e change)
 back_lands A k flat pid regs e q m s change a gb =
     let g : Stepping k flat pid q s = a.step in
     let k1 : Kernel = record k { processes = map (passes s.sid pid m.pid) k.processes } in
-    lands_any A k pid s.sid e change (flat_step A.images (pass_step k pid m.pid) pid regs e change) gb
-    (subst (λ (x : Kernel). Lands A k pid 0 e change (flat_step A.images x pid regs e change)) (sym (back_kernel k flat pid q m s a))
+    lands_any A k pid s.sid e change (change_step A.images (pass_step k pid m.pid) pid regs e change) gb
+    (subst (λ (x : Kernel). Lands A k pid 0 e change (change_step A.images x pid regs e change)) (sym (back_kernel k flat pid q m s a))
     (subst (Lands A k pid 0 e change) (sym (step_is A.images k1 pid regs e change (record g.proc { life = New }) New (back_proc k flat pid q m s a) refl))
     (subst (λ (n : ℕ). Lands A k n 0 e change (by_life A.images k1 (record g.proc { regs = regs; life = New }) New e change)) g.pid_is (record { place = refl; holdings = refl; journal = refl }))))
 
@@ -106,7 +107,7 @@ back_ready k flat pid q m s change a gb =
     by _ gb = absurd gb
 
 pub asks_same : (images : List NamedImage) (k l : Kernel) (pid : ℕ) (change : Change) → GivesBack change → l.place ≡ k.place → l.next_sid ≡ k.next_sid → asked images l pid change ≡ asked images k pid change
-asks_same images k l pid (Exec image top) gb p n = ap (λ (x : Placement). Rattle.page_laws.specs.Asks.image_asked x l.next_sid image (image_numbered images image)) p ∙ ap (λ (m : ℕ). Rattle.page_laws.specs.Asks.image_asked k.place m image (image_numbered images image)) n
+asks_same images k l pid (Exec image top) gb p n = ap (λ (x : Placement). Rattle.kernel_model.specs.Asks.image_asked x l.next_sid image (image_numbered images image)) p ∙ ap (λ (m : ℕ). Rattle.kernel_model.specs.Asks.image_asked k.place m image (image_numbered images image)) n
 asks_same images k l pid (End status) gb p n = refl
 asks_same images k l pid _ gb p n = absurd gb
 
@@ -119,7 +120,7 @@ back_change A flat p hs found pid regs j e q s change c lend w gb st = record {
       (subst (λ (x : Placement). Placed A after x (holdings_after found p l.place pid s.sid true change)) lands.place
       (subst (Placed A after l.place) lands.holdings
       (from_machine A after l sound numbered_now told.tables told.stands dues once parts frames)));
-  back = back_from k l flat after pid change refl told.tables (λ n x. subst (λ (y : Bool). Rattle.page_laws.proofs.Askings.IsChild change n ⊎ ((y ≡ true) × Rattle.run_laws.proofs.Living.Lasting change pid n)) (pass_lives k pid m.pid own_lives lender_lives n) (flat_back A.images k1 pid regs e change n (wants_these k1 pid change n1 ready) x));
+  back = back_from k l flat after pid change refl told.tables (λ n x. subst (λ (y : Bool). Rattle.kernel_laws.proofs.Pieces.Wanted.IsChild change n ⊎ ((y ≡ true) × Rattle.run_laws.proofs.Living.Lasting change pid n)) (pass_lives k pid m.pid own_lives lender_lives n) (flat_back A.images k1 pid regs e change n (wants_these k1 pid change n1 ready) x));
 }
   where
     at : ℕ
@@ -189,7 +190,7 @@ back_change A flat p hs found pid regs j e q s change c lend w gb st = record {
     pieces = ap (place_all A.swap_blocks hs) (asks_same A.images k k1 pid change gb refl refl ∙ change_same A.images k flat pid q s change c.images sb.texts n c.numbers t c.found_process c.holds) ∙ c.pieces
 
     l : Kernel
-    l = flat_step A.images k1 pid regs e change
+    l = change_step A.images k1 pid regs e change
 
     sound : Sound A.swap_blocks l
     sound = ready_sound A.swap_blocks A.images k1 hs pid regs e change sound1 n1 ready pieces

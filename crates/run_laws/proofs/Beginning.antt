@@ -1,7 +1,7 @@
 -- What stands of a run stands at its start.
 use Rattle.std.proofs.Common.{◌≡◌, ℕ, suc, ◌+◌, ◌*◌, ◌<◌, ◌==◌, ◌||◌, ◌&&◌, Bool, true, false, cond, List, [], ◌∷◌, ◌++◌, length, map, replicate, Option, Some, None, Result, Ok, Err, refl, sym, ap, ◌∙◌, subst, arith}
 use Rattle.std.proofs.lemmas.List.{length-replicate}
-use Rattle.vm_facts.specs.Flat.{Process}
+use Rattle.flat_state.specs.Flat.{Process, NamedImage, Inputs, image_numbered, start_process, start_if, start_processes, start_state}
 use Rattle.vm_facts.specs.declared.page.Page.TheVariants as pages
 use Rattle.aout_image.specs.declared.Image.{Image}
 use Rattle.aout_image.specs.Image.{data_pages_of, text_pages_of}
@@ -11,29 +11,31 @@ use Rattle.swap_book.specs.Owners.{u_pieces}
 use Rattle.swap_book.specs.Holdings.{Holdings}
 use Rattle.swap_book.specs.Placing.{Wanted, wanted, and_then, place_all}
 use Rattle.swap_book.proofs.GrowthLaws.{place_all-append}
-use Rattle.page_model.specs.Flat.{NamedImage, Inputs, image_numbered, start_process, start_if, start_processes, start_state}
 use Rattle.page_model.specs.Pages.{numbered}
 use Rattle.page_model.specs.Frames.{times}
 use Rattle.page_model.specs.Placement.{Placement, Starting, Due, Start, due_page, due_at, due_from, slots_of, start_placement}
 use Rattle.page_model.specs.Rank.{HandsStand}
 use Rattle.page_model.specs.Dues.{NotDue}
 use Rattle.page_model.specs.Ownership.{OneOwner}
-use Rattle.page_model.specs.Kernel.{Kernel, Proc, lives, lives_in, Sound, SameTables, Coupled}
-use Rattle.page_laws.specs.Asks.{text_asked, start_asks, is_started}
-use Rattle.page_laws.specs.Numbers.{EachBelow, AllDiffer, Numbered}
-use Rattle.page_laws.specs.Start.{kept_of, start_kernel, AreStarting, ImageFits, ImagesFit}
-use Rattle.page_laws.specs.FlatStands.{IsAbsent, AllDistinct, AllBelow, IsNumbered, Stands}
-use Rattle.page_laws.proofs.Numbered.{not_eq}
-use Rattle.page_laws.proofs.Sounds.{alive_owner}
-use Rattle.page_laws.proofs.StartAsks.{start_found}
-use Rattle.page_laws.proofs.Allowed.{start_numbers}
-use Rattle.page_laws.proofs.DueLaws.{start_due}
-use Rattle.page_laws.proofs.KernelStarts.{start_coupled_all}
-use Rattle.page_laws.proofs.KernelStartStands.{start_lent, start_beside}
+use Rattle.kernel_model.specs.Kernel.{Kernel, Proc}
+use Rattle.kernel_model.specs.Sound.{lives, lives_in, Sound}
+use Rattle.kernel_model.specs.Coupled.{SameTables, Coupled}
+use Rattle.kernel_model.specs.Asks.{text_asked, start_asks, is_started}
+use Rattle.kernel_model.specs.Numbers.{EachBelow, AllDiffer, Numbered}
+use Rattle.kernel_model.specs.Start.{kept_of, start_kernel, AreStarting, ImageFits, ImagesFit}
+use Rattle.flat_state.specs.Numbers.{IsAbsent, AllDistinct, AllBelow, IsNumbered}
+use Rattle.kernel_model.specs.Stands.{Stands}
+use Rattle.kernel_laws.proofs.Flat.Numbered.{not_eq}
+use Rattle.kernel_laws.proofs.Sound.Steps.{alive_owner}
+use Rattle.kernel_laws.proofs.Pieces.Starts.{start_found}
+use Rattle.kernel_laws.proofs.Sound.Allowed.{start_numbers}
+use Rattle.page_laws.proofs.Due.Entries.{start_due}
+use Rattle.kernel_laws.proofs.Machine.Starts.{start_coupled_all}
+use Rattle.kernel_laws.proofs.Stands.Starts.{start_lent, start_beside}
 use Rattle.flat_laws.proofs.Numbers.{start_numbered}
 use Rattle.flat_laws.proofs.Asking.{text_same}
 use Rattle.flat_model.specs.Asked.{pieces_for, text_wanted, image_wanted, contains, first_then, first_wanted, first_held, start_held}
-use Rattle.flat_model.specs.State.{starting_as, starting, start}
+use Rattle.run_model.specs.State.{starting_as, starting, start}
 use Rattle.touch_laws.proofs.Sized.{start_sized}
 use Rattle.flat_laws.proofs.Few.{images_whole}
 use Rattle.run_laws.specs.Standing.{EachOnce}
@@ -189,7 +191,7 @@ run_start A hs images there some found = record {
     sizes : (n : ℕ) (named : NamedImage) → image_numbered A.images n ≡ Some named → 2 * length (slots_of p (pages.Text n 0)) ≡ 2 * text_pages_of named.image.facts
     sizes n named e =
         let i : ImageFits named = images n named e in
-        let t : length named.image.text ≡ 1024 * length (slots_of p (pages.Text n 0)) = sym (ap (λ (o : Option NamedImage). length (Rattle.page_model.specs.Kernel.text_of o)) e) ∙ beside.texts n in
+        let t : length named.image.text ≡ 1024 * length (slots_of p (pages.Text n 0)) = sym (ap (λ (o : Option NamedImage). length (Rattle.kernel_model.specs.Coupled.text_of o)) e) ∙ beside.texts n in
         let r = i.text in omega (arith, t, r)
 
     owner : OneOwner A.swap_blocks (is_started 1 first) p hs

@@ -2,36 +2,40 @@
 use Rattle.std.proofs.Common.{◌≡◌, ℕ, ◌/◌, Bool, true, false, ◌||◌, nat_lt, List, [], ◌∷◌, length, Option, Some, None, Result, Ok, refl, sym, ap, ap₂, ◌∙◌, subst}
 use Rattle.std.specs.Prelude.{filter_map}
 use Rattle.vm_facts.specs.Answers.{ByteWrite}
-use Rattle.vm_facts.specs.Flat.{Space, Holding, Holds, Process, FlatState}
+use Rattle.flat_state.specs.Space.{Space, address_in, puts}
+use Rattle.flat_state.specs.Flat.{Holding, Holds, Process, FlatState, Inputs, process_of, can_step, is_ready, ready_if}
 use Rattle.vm_facts.specs.declared.page.Page.{Page}
 use Rattle.vm_facts.specs.declared.entry.Entry.{Entry}
 use Rattle.vm_facts.specs.declared.entry.Entry.TheVariants as entries
 use Rattle.swap_book.specs.Holdings.{Holdings}
 use Rattle.swap_book.specs.Placing.{place_all}
-use Rattle.page_model.specs.declared.change.Change.{Change}
-use Rattle.page_model.specs.declared.change.Change.TheVariants.{Keep, Resize, Fork, Lend, Exec, Reap, Sleep, End}
-use Rattle.page_model.specs.Space.{address_in, puts}
-use Rattle.page_model.specs.Flat.{Inputs, process_of, can_step, is_ready, ready_if}
-use Rattle.page_model.specs.Change.{apply_writes, apply_change}
-use Rattle.page_model.specs.Journal.{append}
-use Rattle.page_model.specs.Pages.{numbered, is_valid, same_page, is_among}
+use Rattle.flat_state.specs.declared.change.Change.{Change}
+use Rattle.flat_state.specs.declared.change.Change.TheVariants.{Keep, Resize, Fork, Lend, Exec, Reap, Sleep, End}
+use Rattle.flat_state.specs.Change.{apply_writes, apply_change, NamesChild}
+use Rattle.flat_state.specs.Journal.{append}
+use Rattle.page_model.specs.Pages.{numbered, is_valid}
+use Rattle.flat_state.specs.PageNames.{same_page, is_among}
 use Rattle.page_model.specs.Placement.{Placement, space_number, state_of}
 use Rattle.page_model.specs.Moves.{touch_all}
 use Rattle.page_model.specs.Place.{is_borrower, place_change, space_of_holding, space_of_process}
 use Rattle.page_model.specs.Swapper.{is_out, is_settled}
-use Rattle.page_model.specs.Kernel.{Kernel, Fits, SameTables, Sound, Coupled}
-use Rattle.page_model.specs.FlatStep.{ran_by}
-use Rattle.page_laws.specs.Numbers.{Numbered}
-use Rattle.page_laws.specs.Start.{ImagesFit}
-use Rattle.page_laws.specs.FlatStands.{IsNumbered, LendsStand, Stands, MayChange}
-use Rattle.page_laws.proofs.PageLaws.{same_page_is}
-use Rattle.page_laws.proofs.KernelSwaps.{found_at, found_self, ran_coupled}
-use Rattle.page_laws.proofs.KernelStandsChanges.{ran_stands}
-use Rattle.page_laws.proofs.KernelTakes.{takes_coupled}
-use Rattle.page_laws.proofs.Sounds.{ran_sound}
-use Rattle.page_laws.proofs.Numbers.{ran_numbered}
-use Rattle.page_laws.proofs.FlatNumbers.{writes_numbered}
-use Rattle.page_laws.proofs.FlatLenders.{writes_lent}
+use Rattle.kernel_model.specs.Kernel.{Kernel}
+use Rattle.kernel_model.specs.Coupled.{Fits, SameTables, Coupled}
+use Rattle.kernel_model.specs.Sound.{Sound}
+use Rattle.kernel_model.specs.ChangeStep.{ran_by}
+use Rattle.kernel_model.specs.Numbers.{Numbered}
+use Rattle.kernel_model.specs.Start.{ImagesFit}
+use Rattle.flat_state.specs.Numbers.{IsNumbered}
+use Rattle.flat_state.specs.Lenders.{LendsStand}
+use Rattle.kernel_model.specs.Stands.{Stands}
+use Rattle.page_laws.proofs.Lists.Pages.{same_page_is}
+use Rattle.kernel_laws.proofs.Machine.Swaps.{found_at, found_self, ran_coupled}
+use Rattle.kernel_laws.proofs.Stands.Changes.{ran_stands}
+use Rattle.kernel_laws.proofs.Machine.Takes.{takes_coupled}
+use Rattle.kernel_laws.proofs.Sound.Steps.{ran_sound}
+use Rattle.kernel_laws.proofs.Sound.NumbersApart.{ran_numbered}
+use Rattle.kernel_laws.proofs.Flat.Numbers.{writes_numbered}
+use Rattle.kernel_laws.proofs.Flat.Lenders.{writes_lent}
 use Rattle.flat_laws.specs.Shown.{IsOneOf, AreOf}
 use Rattle.flat_laws.proofs.Shown.{writes_shown}
 use Rattle.flat_laws.proofs.Asking.{own_space, change_same}
@@ -39,10 +43,10 @@ use Rattle.flat_model.specs.Touched.{touched, page_tested}
 use Rattle.flat_model.specs.Step.{Step}
 use Rattle.flat_model.specs.Run.{is_refused, step_at, process_of_entry}
 use Rattle.flat_model.specs.Asked.{given_up, change_wanted, wanted_in, wanted_if, with_pieces, or_before, held_entry}
-use Rattle.flat_model.specs.State.{State}
-use Rattle.flat_model.specs.Wanted.{AllValid}
-use Rattle.flat_model.specs.After.{written_by, written_in, pages_written, place_at, after}
-use Rattle.flat_model.specs.Act.{loses_pages}
+use Rattle.run_model.specs.State.{State}
+use Rattle.run_model.specs.Wanted.{AllValid}
+use Rattle.run_model.specs.After.{written_by, written_in, pages_written, place_at, after}
+use Rattle.run_model.specs.Act.{loses_pages}
 use Rattle.run_model.specs.Kinds.{Runs}
 use Rattle.run_laws.specs.Machine.{write_bytes, write_held, write_by, written_step, taken_step, takes_step, change_step, process_step, ran_step, OutRegs, Keeps, StandsAt}
 use Rattle.run_laws.proofs.Writing.{SameSpace, space_tables}
@@ -152,8 +156,8 @@ step_reaches A s k image u images execs numbers lenders at h valid = record {
     flat_is : (after A s u).point.flat ≡ apply_change A.images flat1 pid step.regs step.change
     flat_is = stepped_flat A s u h ∙ form_after
 
-    may : MayChange flat1 step.change
-    may = subst (λ (n : ℕ). MayChange (apply_writes flat n step.writes) step.change) number form.may
+    may : NamesChild flat1 step.change
+    may = subst (λ (n : ℕ). NamesChild (apply_writes flat n step.writes) step.change) number form.may
 
     found : (found : Holdings) × (place_all A.swap_blocks s.holdings (change_wanted A.images flat x.space step.change) ≡ Ok found)
     found = found_pieces A s pid x.process x.space can x.here x.holds h.unrefused form.wants
@@ -168,8 +172,8 @@ step_reaches A s k image u images execs numbers lenders at h valid = record {
     st0 : Stands A.images k flat
     st0 = kp.stands
 
-    outs : Rattle.page_laws.specs.FlatStands.OutHold s.place flat
-    outs = subst (λ (p : Placement). Rattle.page_laws.specs.FlatStands.OutHold p flat) at.place st0.out
+    outs : Rattle.kernel_model.specs.Stands.OutHold s.place flat
+    outs = subst (λ (p : Placement). Rattle.kernel_model.specs.Stands.OutHold p flat) at.place st0.out
 
     pages : List Page
     pages = filter_map (λ (w : ByteWrite). page_tested x.space (address_in x.space w.address)) step.writes
@@ -241,7 +245,7 @@ step_reaches A s k image u images execs numbers lenders at h valid = record {
     st1 = mid1.stands
 
     borrows : is_borrower flat1.processes pid ≡ is_borrower flat.processes pid
-    borrows = borrows_same flat1.processes flat.processes pid (sym t1.processes ∙ ap (λ (ps : List Rattle.page_model.specs.Kernel.Proc). Rattle.std.specs.Prelude.map Rattle.page_model.specs.Kernel.outline_kept ps) rest.processes ∙ t0.processes)
+    borrows = borrows_same flat1.processes flat.processes pid (sym t1.processes ∙ ap (λ (ps : List Rattle.kernel_model.specs.Kernel.Proc). Rattle.std.specs.Prelude.map Rattle.kernel_model.specs.Coupled.outline_kept ps) rest.processes ∙ t0.processes)
 
     next : k1.next_sid ≡ flat.next_sid
     next = rest.next_sid ∙ t0.next_sid

@@ -1,21 +1,22 @@
 -- What stands of a machine stands of a state with the same tables.
 use Rattle.std.proofs.Common.{◌≡◌, ℕ, Bool, false, List, [], ◌∷◌, length, map, Option, Some, None, refl, sym, ap, ◌∙◌, subst}
-use Rattle.vm_facts.specs.Flat.{Process, FlatState}
-use Rattle.page_model.specs.Flat.{Inputs}
+use Rattle.flat_state.specs.Flat.{Process, FlatState, Inputs}
 use Rattle.page_model.specs.Pages.{numbered}
 use Rattle.page_model.specs.Placement.{Placement}
 use Rattle.page_model.specs.Conditions.{HaveParts}
 use Rattle.page_model.specs.Dues.{DueStand}
 use Rattle.page_model.specs.Ownership.{OneOwner}
-use Rattle.page_model.specs.Kernel.{Kernel, Proc, Outline, outline_of, outline_kept, has_life, lives_in, lives, SameTables, Sound}
-use Rattle.page_laws.specs.Start.{kept_of}
-use Rattle.page_laws.specs.Numbers.{EachBelow, AllDiffer, Numbered}
-use Rattle.page_laws.specs.FlatStands.{Stands}
-use Rattle.page_laws.proofs.Sounds.{alive_owner}
-use Rattle.page_laws.proofs.Numbered.{image_by, numbered_image}
-use Rattle.page_laws.proofs.KernelTables.{kept_pid, tables_of}
-use Rattle.page_laws.proofs.FlatLists.{pid_of}
-use Rattle.page_laws.proofs.ProcTables.{pids_same}
+use Rattle.kernel_model.specs.Kernel.{Kernel, Proc}
+use Rattle.kernel_model.specs.Coupled.{Outline, outline_of, outline_kept, SameTables}
+use Rattle.kernel_model.specs.Sound.{has_life, lives_in, lives, Sound}
+use Rattle.kernel_model.specs.Start.{kept_of}
+use Rattle.kernel_model.specs.Numbers.{EachBelow, AllDiffer, Numbered}
+use Rattle.kernel_model.specs.Stands.{Stands}
+use Rattle.kernel_laws.proofs.Sound.Steps.{alive_owner}
+use Rattle.kernel_laws.proofs.Flat.Numbered.{image_by, numbered_image}
+use Rattle.kernel_laws.proofs.Machine.Tables.{kept_pid, tables_of}
+use Rattle.kernel_laws.proofs.Flat.Lists.{pid_of}
+use Rattle.kernel_laws.proofs.Machine.Processes.{pids_same}
 use Rattle.run_laws.specs.Standing.{machine_of, EachOnce, Placed}
 use Rattle.run_laws.proofs.Paging.{bare_sound}
 

@@ -1,6 +1,7 @@
 -- A change of a process leaves what stands.
 use Rattle.std.proofs.Common.{◌≡◌, ℕ, zero, suc, ◌+◌, ◌*◌, ◌<◌, ◌≤◌, ◌==◌, ◌||◌, ◌&&◌, Bool, true, false, cond, List, [], ◌∷◌, ◌++◌, length, map, find, Option, Some, None, refl, sym, ap, ap₂, ◌∙◌, subst, arith}
-use Rattle.vm_facts.specs.Flat.{Space, Holding, Holds, Lends, Zombie, Process, FlatState}
+use Rattle.flat_state.specs.Space.{Space}
+use Rattle.flat_state.specs.Flat.{Holding, Holds, Lends, Zombie, Process, FlatState, NamedImage, image_numbered}
 use Rattle.vm_facts.specs.declared.page.Page.{Page}
 use Rattle.vm_facts.specs.declared.page.Page.TheVariants as pages
 use Rattle.vm_facts.specs.declared.page.PageState.{PageState}
@@ -12,15 +13,15 @@ use Rattle.swap_book.specs.declared.Held.{Held}
 use Rattle.swap_book.specs.Owners.{same_owner}
 use Rattle.swap_book.specs.Holdings.{Holdings, kept}
 use Rattle.swap_book.specs.Placing.{Wanted, place_all}
-use Rattle.page_model.specs.declared.change.Change.{Change}
-use Rattle.page_model.specs.declared.change.Change.TheVariants.{Keep, Resize, Fork, Lend, Exec, Reap, Sleep, End}
-use Rattle.page_model.specs.Flat.{NamedImage, image_numbered}
-use Rattle.page_model.specs.Change.{lends_to}
-use Rattle.page_model.specs.Pages.{Slot, same_page}
+use Rattle.flat_state.specs.declared.change.Change.{Change}
+use Rattle.flat_state.specs.declared.change.Change.TheVariants.{Keep, Resize, Fork, Lend, Exec, Reap, Sleep, End}
+use Rattle.flat_state.specs.Change.{lends_to}
+use Rattle.page_model.specs.Pages.{Slot}
+use Rattle.flat_state.specs.PageNames.{same_page}
 use Rattle.page_model.specs.Placement.{Placement, Due, CopyOf, due_page, due_at, image_of, sharers, slots_of}
 use Rattle.page_model.specs.Place.{is_borrower, place_change, copy_due, copies_from, give_up_unless}
 use Rattle.page_model.specs.Dues.{NotDue}
-use Rattle.page_model.specs.FlatStep.{holdings_after, given_back_unless, text_given_back}
+use Rattle.kernel_model.specs.ChangeStep.{holdings_after, given_back_unless, text_given_back}
 use Rattle.flat_model.specs.Asked.{is_there, is_shared, without, without_text, without_own, given_up}
 use Rattle.run_laws.specs.Standing.{EachOnce}
 
@@ -113,7 +114,7 @@ absent_copies child parent r v (x ∷ xs) h = go x.state (absent_copies child pa
     go OnSwap ih = skip ih
 
 later_apart : (v w : ℕ) → v < w → (w == v) ≡ false
-later_apart v w l = Rattle.page_laws.proofs.Numbered.not_eq w v (λ e. absurd (omega arith))
+later_apart v w l = Rattle.kernel_laws.proofs.Flat.Numbered.not_eq w v (λ e. absurd (omega arith))
 
 and_false : (b : Bool) → (b && false) ≡ false
 and_false true = refl
@@ -163,7 +164,7 @@ none_once p e = subst EachOnce (sym e) tt
 
 pub change_once : (images : List NamedImage) (p : Placement) (pid sid : ℕ) (borrowed : Bool) (next at : ℕ) (change : Change) → p.due ≡ [] → EachOnce (place_change images p pid sid borrowed next at change).due
 change_once images p pid sid borrowed next at Keep e = none_once p e
-change_once images p pid sid borrowed next at (Resize d s) e = none_once (place_change images p pid sid borrowed next at (Resize d s)) ((Rattle.page_laws.proofs.KeptChanges.drop_all_rest (Rattle.page_laws.proofs.OwnsChanges.dropped_pages p sid d s) p).1 ∙ e)
+change_once images p pid sid borrowed next at (Resize d s) e = none_once (place_change images p pid sid borrowed next at (Resize d s)) ((Rattle.page_laws.proofs.Bytes.Changes.drop_all_rest (Rattle.page_laws.proofs.Ownership.Changes.dropped_pages p sid d s) p).1 ∙ e)
 change_once images p pid sid borrowed next at (Fork child) e =
     append_once (copies_from (pages.Data next) (pages.Data sid) 0 (slots_of p (pages.Data sid 0))) (copies_from (pages.Stack next) (pages.Stack sid) 0 (slots_of p (pages.Stack sid 0)))
     (copies_once (pages.Data next) (pages.Data sid) 0 (slots_of p (pages.Data sid 0)) (λ u w l. ap (λ (b : Bool). (next == next) && b) (later_apart u w l) ∙ and_false (next == next)))
@@ -173,8 +174,8 @@ change_once images p pid sid borrowed next at (Lend child) e = none_once p e
 change_once images p pid sid borrowed next at (Exec image top) e = go (image_numbered images image)
   where
     go : (o : Option NamedImage) → EachOnce (give_up_unless borrowed (Rattle.page_model.specs.Place.enter_image p next image o) sid).due
-    go None = subst EachOnce (sym (Rattle.page_laws.proofs.KernelGone.gone_unless borrowed p sid).due) (none_once p e)
-    go (Some named) = subst EachOnce (sym (Rattle.page_laws.proofs.KernelGone.gone_unless borrowed (Rattle.page_model.specs.Place.enter_space p next image named.image.facts) sid).due) (refl, tt)
+    go None = subst EachOnce (sym (Rattle.kernel_laws.proofs.Machine.Gone.gone_unless borrowed p sid).due) (none_once p e)
+    go (Some named) = subst EachOnce (sym (Rattle.kernel_laws.proofs.Machine.Gone.gone_unless borrowed (Rattle.page_model.specs.Place.enter_space p next image named.image.facts) sid).due) (refl, tt)
 change_once images p pid sid borrowed next at (Reap child) e = none_once p e
 change_once images p pid sid borrowed next at Sleep e = none_once p e
-change_once images p pid sid borrowed next at (End status) e = subst EachOnce (sym (Rattle.page_laws.proofs.KernelGone.gone_unless borrowed p sid).due) (none_once p e)
+change_once images p pid sid borrowed next at (End status) e = subst EachOnce (sym (Rattle.kernel_laws.proofs.Machine.Gone.gone_unless borrowed p sid).due) (none_once p e)

@@ -1,16 +1,16 @@
 -- Whom the swapper puts out, or brings in, holds a space, and is in, or out.
 use Rattle.std.proofs.Common.{◌≡◌, inl, inr, ℕ, ◌==◌, Bool, true, false, cond, List, [], ◌∷◌, map, filter_map, find, Option, Some, None, refl, sym, ap, ◌∙◌, subst}
 use Rattle.std.specs.List.{cons_option}
-use Rattle.vm_facts.specs.Flat.{Holding, Holds, Lends, Zombie, Process, FlatState}
-use Rattle.page_model.specs.Flat.{process_of, holds_space}
+use Rattle.flat_state.specs.Flat.{Holding, Holds, Lends, Zombie, Process, FlatState, process_of, holds_space}
 use Rattle.page_model.specs.Placement.{Placement}
 use Rattle.page_model.specs.Place.{is_borrower}
 use Rattle.page_model.specs.Swapper.{is_out, Runner, In, Out, swap_choice}
-use Rattle.page_laws.specs.FlatStands.{IsAbsent, AllDistinct, IsNumbered, holds_some}
-use Rattle.page_laws.specs.Swapping.{OneOf, ComesIn, MayGo, GoesOut}
-use Rattle.page_laws.proofs.Choices.{chosen_in, chosen_out}
-use Rattle.page_laws.proofs.Numbered.{eq_self, not_eq}
-use Rattle.flat_model.specs.State.{runner_by, runners}
+use Rattle.flat_state.specs.Numbers.{IsAbsent, AllDistinct, IsNumbered}
+use Rattle.kernel_model.specs.Stands.{holds_some}
+use Rattle.page_model.specs.Swapping.{OneOf, ComesIn, MayGo, GoesOut}
+use Rattle.page_laws.proofs.Swapper.Choices.{chosen_in, chosen_out}
+use Rattle.kernel_laws.proofs.Flat.Numbered.{eq_self, not_eq}
+use Rattle.run_model.specs.State.{runner_by, runners}
 
 some_runner : (x y : Runner) → Some x ≡ Some y → x ≡ y
 some_runner x y e = cc
@@ -39,7 +39,7 @@ held_in F (q ∷ ps) r d o = go (runner_by F q q.holding) refl (held_in F ps r d
     behind e = pick (q.pid == r.pid) refl
       where
         pick : (b : Bool) → (q.pid == r.pid) ≡ b → holds_some (cond b (Some q) (find (λ x. x.pid == r.pid) ps)) ≡ true
-        pick true k = absurd (absent ps q.pid d.0 (ap (λ (n : ℕ). holds_some (find (λ x. x.pid == n) ps)) (Rattle.page_laws.proofs.Numbered.eq_is q.pid r.pid k) ∙ e))
+        pick true k = absurd (absent ps q.pid d.0 (ap (λ (n : ℕ). holds_some (find (λ x. x.pid == n) ps)) (Rattle.kernel_laws.proofs.Flat.Numbered.eq_is q.pid r.pid k) ∙ e))
         pick false k = e
 
     here : (q.pid ≡ r.pid) × (holds_space q.holding ≡ true) → holds_some (cond (q.pid == r.pid) (Some q) (find (λ x. x.pid == r.pid) ps)) ≡ true

@@ -5,27 +5,26 @@ use Rattle.vm_facts.specs.declared.page.PageState.{PageState}
 use Rattle.vm_facts.specs.declared.page.PageState.TheVariants.{Unfilled, Valid, Invalid, Coming, Going, OnSwap}
 use Rattle.vm_facts.specs.declared.entry.Entry.{Entry}
 use Rattle.vm_facts.specs.declared.entry.Entry.TheVariants as entries
-use Rattle.page_model.specs.Flat.{Inputs, process_of}
+use Rattle.flat_state.specs.Flat.{Inputs, process_of}
 use Rattle.page_model.specs.Pages.{Filling, frame_of, is_valid}
 use Rattle.page_model.specs.Placement.{Placement, Transfer, Due, Start, CopyOf, IsThere, due_at, state_of, filling_of}
 use Rattle.page_model.specs.Runs.{run_put}
-use Rattle.page_model.specs.Place.{space_of_process}
+use Rattle.page_model.specs.Place.{space_of_process, pages_of_space}
 use Rattle.page_model.specs.Serve.{force_entry, is_full, feed_unit_by, serve_unit_by, serve_unit, serve_entry}
 use Rattle.page_model.specs.Swapper.{put_out_unit}
-use Rattle.page_model.specs.Place.{pages_of_space}
 use Rattle.page_model.specs.Conditions.{CanEnter, CanPlace, HasSeat}
 use Rattle.page_model.specs.Dues.{DueStand, IsDue, NotDue}
-use Rattle.page_model.specs.Kernel.{Kernel}
-use Rattle.page_laws.specs.FlatStands.{IsNumbered}
-use Rattle.page_laws.proofs.KernelCoupled.{note_coupled}
-use Rattle.page_laws.proofs.KernelStands.{note_stands}
-use Rattle.page_laws.proofs.OwnsRuns.{seated_seat}
-use Rattle.page_laws.proofs.PutOuts.{unit_case, seated_first, run_seats}
-use Rattle.page_laws.proofs.Units.{unit_is}
+use Rattle.kernel_model.specs.Kernel.{Kernel}
+use Rattle.flat_state.specs.Numbers.{IsNumbered}
+use Rattle.kernel_laws.proofs.Machine.Moves.{note_coupled}
+use Rattle.kernel_laws.proofs.Stands.Steps.{note_stands}
+use Rattle.page_laws.proofs.Ownership.Runs.{seated_seat}
+use Rattle.page_laws.proofs.Swapper.PuttingOut.{unit_case, seated_first, run_seats}
+use Rattle.page_laws.proofs.Moves.Units.{unit_is}
 use Rattle.flat_model.specs.Run.{process_of_entry}
-use Rattle.flat_model.specs.State.{State}
-use Rattle.flat_model.specs.Wanted.{touched_next, touched_by, locked, Splits}
-use Rattle.flat_model.proofs.Wanting.{wanted_splits}
+use Rattle.run_model.specs.State.{State}
+use Rattle.run_model.specs.Wanted.{touched_next, touched_by, locked, Splits}
+use Rattle.run_model.proofs.Wanting.{wanted_splits}
 use Rattle.run_model.specs.Next.{fill_by, fill_unit, begins_write, move_by, owners_entry}
 use Rattle.run_model.specs.Kinds.{Kind, Fills, Brings, Copies, Serves, Acts, ComesIn, Interrupts, Moves, PutsOut, Notes, Begins}
 use Rattle.run_laws.specs.Standing.{TextsHeld}
@@ -103,7 +102,7 @@ kind_goes A s k image read u x st nums texts (Fills q due e i) n y = subst (Coup
         goes_start A.swap_blocks k A.images image s.point.flat (locked A s) read q q x.machine (record { there = d.there; frameless = ap frame_of d.unfilled }) d.writable some d.unfilled h
 kind_goes A s k image read u x st nums texts (Brings q parent due e i) n y =
     let d : IsDue s.place q (CopyOf q parent) = st.dues q (CopyOf q parent) (ap (λ (l : List Due). due_at l q) e ∙ first_due (CopyOf q parent) due) in
-    served A s k image read u parent true x (Rattle.page_laws.proofs.OwnsServe.state_there s.place parent (d.source).1) (not_due s.place parent st.dues (d.source).1) i
+    served A s k image read u parent true x (Rattle.page_laws.proofs.Ownership.Serve.state_there s.place parent (d.source).1) (not_due s.place parent st.dues (d.source).1) i
 kind_goes A s k image read u x st nums texts (Copies q parent due e none i) n y = subst (Couples A s k image read) (sym i) (filled A s k image read (entries.Copy q) x make)
   where
     make : 0 < length k.place.free → Couples A s k image read (entries.Copy q)

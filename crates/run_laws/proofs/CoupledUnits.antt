@@ -1,26 +1,28 @@
 -- What paging entries do to a machine with bytes; and a unit of serving keeps it coupled, whatever unit it is.
 use Rattle.std.proofs.Common.{◌≡◌, ℕ, ◌*◌, ◌<◌, ◌≤◌, Bool, true, false, List, [], ◌∷◌, length, Some, None, refl, sym, ap, subst, arith}
-use Rattle.vm_facts.specs.Flat.{FlatState}
+use Rattle.flat_state.specs.Flat.{FlatState, NamedImage}
 use Rattle.vm_facts.specs.declared.page.Page.{Page}
 use Rattle.vm_facts.specs.declared.page.Page.TheVariants.{Data, Stack, Text}
 use Rattle.vm_facts.specs.declared.page.PageState.{PageState}
 use Rattle.vm_facts.specs.declared.page.PageState.TheVariants.{Unfilled, Valid, Invalid, Coming, Going, OnSwap}
 use Rattle.vm_facts.specs.declared.entry.Entry.{Entry}
 use Rattle.vm_facts.specs.declared.entry.Entry.TheVariants as entries
-use Rattle.page_model.specs.Flat.{NamedImage}
-use Rattle.page_model.specs.Pages.{number_of, pages_from, Filling, Zeros, OfImage, frame_of, is_valid}
+use Rattle.flat_state.specs.PageNames.{number_of, pages_from}
+use Rattle.page_model.specs.Pages.{Filling, Zeros, OfImage, frame_of, is_valid}
 use Rattle.page_model.specs.Placement.{Placement, Transfer, Start, CopyOf, IsThere, due_at, state_of, filling_of}
 use Rattle.page_model.specs.Runs.{run_in}
 use Rattle.page_model.specs.Serve.{force_entry, is_full, source_for, read_entry_if, bring_entry_by, feed_entry_by, serve_entry_by, serve_entry}
 use Rattle.page_model.specs.Conditions.{CanEnter, EachPage, HasSeat}
-use Rattle.page_model.specs.Coupled.{IsWritable, ReadsFrom}
+use Rattle.page_model.specs.PageBytes.{IsWritable, ReadsFrom}
 use Rattle.page_model.specs.Dues.{NotDue}
-use Rattle.page_model.specs.Kernel.{Kernel, Sound, AreRead, Coupled, plain_step, beside_kernel, image_after, zero_step, copy_step, get_step, reclaim_step, hand_step, push_step, done_step, note_step}
-use Rattle.page_laws.specs.FlatStands.{Stands}
-use Rattle.page_laws.proofs.Sounds.{first_length, landed_length}
-use Rattle.page_laws.proofs.KernelStands.{get_stands, reclaim_stands, hand_stands, push_stands, done_stands, zero_stands, copy_stands}
-use Rattle.page_laws.proofs.KernelDone.{done_coupled_step}
-use Rattle.page_laws.proofs.KernelCoupled.{push_coupled_step, start_coupled, copy_coupled, read_coupled_step, reclaim_coupled_step, hand_coupled_step, zero_coupled}
+use Rattle.kernel_model.specs.Kernel.{Kernel, plain_step, image_after, zero_step, copy_step, get_step, reclaim_step, hand_step, push_step, done_step, note_step}
+use Rattle.kernel_model.specs.Sound.{Sound}
+use Rattle.kernel_model.specs.Coupled.{AreRead, Coupled, beside_kernel}
+use Rattle.kernel_model.specs.Stands.{Stands}
+use Rattle.kernel_laws.proofs.Sound.Steps.{first_length, landed_length}
+use Rattle.kernel_laws.proofs.Stands.Steps.{get_stands, reclaim_stands, hand_stands, push_stands, done_stands, zero_stands, copy_stands}
+use Rattle.kernel_laws.proofs.Machine.Done.{done_coupled_step}
+use Rattle.kernel_laws.proofs.Machine.Moves.{push_coupled_step, start_coupled, copy_coupled, read_coupled_step, reclaim_coupled_step, hand_coupled_step, zero_coupled}
 
 -- the machine behind a paging entry, and the swap image
 abbrev pub page_step : Kernel → List Page → List (List ℕ) → Entry → Kernel
@@ -78,7 +80,7 @@ pub goes_start : (size : ℕ) (k : Kernel) (images : List NamedImage) (image : L
 goes_start size k images image flat locked read q r x c w some e d = record {
   coupled = start_coupled size k images image flat q r x.sound c w some e d x.coupled;
   stands = zero_stands images k flat q x.stands;
-  tokens = first_length k.place.free k.frames (Rattle.page_model.specs.Kernel.start_bytes k.starts q);
+  tokens = first_length k.place.free k.frames (Rattle.kernel_model.specs.Kernel.start_bytes k.starts q);
 }
 
 pub goes_copy : (size : ℕ) (k : Kernel) (images : List NamedImage) (image : List ℕ) (flat : FlatState) (locked : List Page) (read : List (List ℕ)) (q r parent : Page) (f : ℕ) → Machine size k images image flat read → CanEnter k.place q → IsWritable q → 0 < length k.place.free
@@ -86,7 +88,7 @@ pub goes_copy : (size : ℕ) (k : Kernel) (images : List NamedImage) (image : Li
 goes_copy size k images image flat locked read q r parent f x c w some e d v = record {
   coupled = copy_coupled size k images image flat q r parent f x.sound c w some e d v x.coupled;
   stands = copy_stands images k flat q r parent d x.stands;
-  tokens = first_length k.place.free k.frames (Rattle.page_model.specs.Kernel.copied_bytes k (due_at k.place.due q));
+  tokens = first_length k.place.free k.frames (Rattle.kernel_model.specs.Kernel.copied_bytes k (due_at k.place.due q));
 }
 
 -- a page that is filled with zeros is one of data or stack
@@ -127,7 +129,7 @@ serve_goes size k images image flat locked read q y there due nv = state (state_
     zero some e x = let t = y.stands in record {
       coupled = zero_coupled size k images image flat q so t.starts (enters (ap frame_of e)) (zeros_writable k.place q x) some e due x y.coupled;
       stands = zero_stands images k flat q y.stands;
-      tokens = first_length k.place.free k.frames (Rattle.page_model.specs.Kernel.start_bytes k.starts q);
+      tokens = first_length k.place.free k.frames (Rattle.kernel_model.specs.Kernel.start_bytes k.starts q);
     }
 
     bring : (s : PageState) (x : Filling) → state_of k.place q ≡ s → filling_of k.place q ≡ x → frame_of s ≡ None → (f : ℕ) (fs : List ℕ) → k.place.free ≡ f ∷ fs → P (bring_entry_by k.place q s x (is_full k.place))

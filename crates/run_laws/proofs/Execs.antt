@@ -1,10 +1,10 @@
 -- The execve of a step finds an image, and its stack page is a page.
-use Rattle.std.proofs.Common.{◌≡◌, ℕ, zero, suc, ◌+◌, ◌-◌, ◌*◌, ◌<◌, ◌≤◌, ◌==◌, ◌||◌, nat_lt, nat_le, min, ◌%◌, Bool, true, false, List, [], ◌∷◌, ◌++◌, length, find, bytes_eq, replicate, Option, Some, None, Result, Ok, Err, ℤ, refl, sym, ap, ◌∙◌, arith}
+use Rattle.std.proofs.Common.{◌≡◌, ℕ, zero, suc, ◌+◌, ◌-◌, ◌*◌, ◌<◌, ◌≤◌, ◌==◌, ◌||◌, nat_lt, nat_le, min, ◌%◌, Bool, true, false, List, [], ◌∷◌, ◌++◌, length, find, bytes_eq, replicate, Option, Some, None, Result, Ok, Err, ℤ, refl, sym, ap, ◌∙◌, arith, length-append}
 use Rattle.std.specs.Prelude.{slice_get}
-use Rattle.std.proofs.Common.{length-append}
 use Rattle.std.proofs.lemmas.List.{length-replicate}
 use Rattle.vm_facts.specs.Answers.{Answers}
-use Rattle.vm_facts.specs.Flat.{Space, Holding, Holds, Lends, Zombie, Process, FlatState}
+use Rattle.flat_state.specs.Space.{Space, answers_of, puts}
+use Rattle.flat_state.specs.Flat.{Holding, Holds, Lends, Zombie, Process, FlatState, NamedImage, Inputs, image_numbered, process_of, strings_of, argument_area, start_page}
 use Rattle.vm_facts.specs.declared.memory.ByteRead.{ByteRead}
 use Rattle.vm_facts.specs.declared.memory.ByteRead.TheVariants as bytes
 use Rattle.vm_facts.specs.declared.memory.MayWrite.{MayWrite}
@@ -15,10 +15,8 @@ use Rattle.user_vax.specs.Program.{Program, Gives, Refuses, Reads, Tests, ◌>>=
 use Rattle.user_vax.specs.Operands.{number_at}
 use Rattle.user_vax.specs.declared.refused.Refused.{Refused}
 use Rattle.user_vax.specs.declared.refused.Refused.TheVariants.{Miss, Below, Signal}
-use Rattle.page_model.specs.Space.{answers_of, puts}
-use Rattle.page_model.specs.Flat.{NamedImage, Inputs, image_numbered, process_of, strings_of, argument_area, start_page}
-use Rattle.page_model.specs.Change.{apply_writes, is_zombie_child}
-use Rattle.page_model.specs.declared.change.Change.TheVariants.{Fork, Lend}
+use Rattle.flat_state.specs.Change.{apply_writes, is_zombie_child}
+use Rattle.flat_state.specs.declared.change.Change.TheVariants.{Fork, Lend}
 use Rattle.flat_model.proofs.Strings.{area_count}
 use Rattle.flat_model.specs.Instruction.{instruction_in}
 use Rattle.flat_model.specs.declared.calls.Reply.{Reply}

@@ -6,10 +6,10 @@ use Rattle.aout_image.specs.declared.Image.{Image}
 use Rattle.aout_image.specs.Image.{IsSound, Loaded, loaded, image_of, in_pages, text_pages_of, data_pages_of, text_given, data_given, text_offset, has_text_segment, pages_for, file_length_of, page_at}
 use Rattle.aout_image.proofs.Images.{IsFileOf, image_of-is, page_at-in_pages}
 use Rattle.swap_book.specs.Holdings.{Holdings}
-use Rattle.page_model.specs.Flat.{NamedImage, Inputs, argument_area}
-use Rattle.page_model.specs.Coupled.{zeros}
-use Rattle.page_model.specs.Kernel.{DataFits}
-use Rattle.page_laws.specs.Start.{ImageFits, ImagesFit}
+use Rattle.flat_state.specs.Flat.{NamedImage, Inputs, argument_area}
+use Rattle.page_model.specs.PageBytes.{zeros}
+use Rattle.kernel_model.specs.Sound.{DataFits}
+use Rattle.kernel_model.specs.Start.{ImageFits, ImagesFit}
 use Rattle.flat_model.specs.Asked.{start_held}
 use Rattle.run_laws.specs.Running.{FirstThere}
 use Rattle.run_laws.specs.Sized.{InputsSized}

@@ -1,7 +1,8 @@
 -- Where there is no next unit the run is finished; a process that runs has one; and no more than the limit is counted.
 use Rattle.std.proofs.Common.{◌≡◌, ◌⊎◌, inl, inr, ℕ, ◌<◌, ◌≤◌, ◌==◌, ◌&&◌, Bool, true, false, cond, nat_lt, List, [], ◌∷◌, length, find, Option, Some, None, Result, Ok, Err, ℤ, refl, sym, ap, ◌∙◌, subst, arith}
 use Rattle.std.proofs.lemmas.Bool.Decides.{nat_tests}
-use Rattle.vm_facts.specs.Flat.{Space, Holding, Process, FlatState}
+use Rattle.flat_state.specs.Space.{Space, address_in, answers_of}
+use Rattle.flat_state.specs.Flat.{Holding, Process, FlatState, NamedImage, Inputs, process_of, can_step, is_ready, ready_if}
 use Rattle.vm_facts.specs.declared.entry.Entry.{Entry}
 use Rattle.vm_facts.specs.declared.entry.Entry.TheVariants as entries
 use Rattle.user_vax.specs.Effects.{Effect}
@@ -9,11 +10,9 @@ use Rattle.user_vax.specs.Program.{Program, Gives, Refuses, Reads, Tests, run}
 use Rattle.user_vax.specs.Instruction.{instruction}
 use Rattle.user_vax.specs.declared.refused.Refused.{Refused}
 use Rattle.user_vax.specs.declared.refused.Refused.TheVariants.{Miss, Below, Signal}
-use Rattle.page_model.specs.declared.spot.Spot.{Spot}
-use Rattle.page_model.specs.declared.spot.Spot.TheVariants as spots
-use Rattle.page_model.specs.Space.{address_in, answers_of}
-use Rattle.page_model.specs.Flat.{NamedImage, Inputs, process_of, can_step, is_ready, ready_if}
-use Rattle.page_model.specs.Journal.{counted, IsUnit}
+use Rattle.flat_state.specs.declared.spot.Spot.{Spot}
+use Rattle.flat_state.specs.declared.spot.Spot.TheVariants as spots
+use Rattle.flat_state.specs.Journal.{counted, IsUnit}
 use Rattle.page_model.specs.Placement.{Due, Start, CopyOf}
 use Rattle.flat_model.specs.Instruction.{instruction_in}
 use Rattle.flat_model.specs.declared.calls.Reply.{Reply}
@@ -22,11 +21,11 @@ use Rattle.flat_model.specs.declared.calls.SystemCall.{SystemCall}
 use Rattle.flat_model.specs.Calls.{call_of}
 use Rattle.flat_model.specs.Step.{replied_step, reply_behind, called_step, step_behind, step_of, step_holding, step_if, flat_step}
 use Rattle.flat_model.specs.Run.{is_refused, step_at, behind_first, due_at, first_if, process_of_entry}
-use Rattle.flat_model.specs.State.{State, start}
-use Rattle.flat_model.specs.Wanted.{wanted}
-use Rattle.flat_model.specs.After.{after}
-use Rattle.flat_model.specs.Act.{act}
-use Rattle.flat_model.proofs.After.{after_count}
+use Rattle.run_model.specs.State.{State, start}
+use Rattle.run_model.specs.Wanted.{wanted}
+use Rattle.run_model.specs.After.{after}
+use Rattle.run_model.specs.Act.{act}
+use Rattle.run_model.proofs.After.{after_count}
 use Rattle.run_model.specs.Next.{when, or_else, due_unit, under, pid_if, next_ready, last_turned, turn_of, line_or_turn, next_mark, next_unit}
 use Rattle.run_model.specs.Kinds.{Runs}
 use Rattle.run_model.specs.Lawful.{Follows, Reaches, IsFinished}
@@ -113,7 +112,7 @@ never_misses s (Gives x) a w e = cc
 never_misses s (Refuses signal) a w e = cc
 never_misses s (Reads b next) a w e = go (address_in s b) (λ byte. never_misses s (next byte) a w) e
   where
-    go : (spot : Spot) → ((byte : ℕ) → run (answers_of s) (next byte) ≡ Err (Miss a w) → ⊥) → Rattle.user_vax.specs.Program.after_read (Rattle.page_model.specs.Space.byte_at s spot) b (λ byte. run (answers_of s) (next byte)) ≡ Err (Miss a w) → ⊥
+    go : (spot : Spot) → ((byte : ℕ) → run (answers_of s) (next byte) ≡ Err (Miss a w) → ⊥) → Rattle.user_vax.specs.Program.after_read (Rattle.flat_state.specs.Space.byte_at s spot) b (λ byte. run (answers_of s) (next byte)) ≡ Err (Miss a w) → ⊥
     go (spots.Text i) ih e = ih (Rattle.std.specs.Prelude.slice_index s.text_bytes i) e
     go (spots.Data i) ih e = ih (Rattle.std.specs.Prelude.slice_index s.data_bytes i) e
     go (spots.Stack i) ih e = ih (Rattle.std.specs.Prelude.slice_index s.stack_bytes i) e
@@ -121,7 +120,7 @@ never_misses s (Reads b next) a w e = go (address_in s b) (λ byte. never_misses
     go spots.Outside ih e = cc
 never_misses s (Tests b next) a w e = go (address_in s b) (never_misses s next a w) e
   where
-    go : (spot : Spot) → (run (answers_of s) next ≡ Err (Miss a w) → ⊥) → Rattle.user_vax.specs.Program.after_test (Rattle.page_model.specs.Space.may_write_at spot) b (run (answers_of s) next) ≡ Err (Miss a w) → ⊥
+    go : (spot : Spot) → (run (answers_of s) next ≡ Err (Miss a w) → ⊥) → Rattle.user_vax.specs.Program.after_test (Rattle.flat_state.specs.Space.may_write_at spot) b (run (answers_of s) next) ≡ Err (Miss a w) → ⊥
     go (spots.Text i) ih e = cc
     go (spots.Data i) ih e = ih e
     go (spots.Stack i) ih e = ih e

@@ -3,36 +3,34 @@ use Rattle.std.proofs.Common.{◌≡◌, ◌⊎◌, inl, inr, ℕ, ◌+◌, ◌=
 use Rattle.vm_facts.specs.declared.page.Page.{Page}
 use Rattle.vm_facts.specs.declared.entry.Entry.{Entry}
 use Rattle.vm_facts.specs.declared.entry.Entry.TheVariants as entries
-use Rattle.page_model.specs.Flat.{Inputs, can_step}
-use Rattle.page_model.specs.Pages.{is_valid, is_among}
-use Rattle.page_model.specs.Placement.{Placement, Due, state_of}
+use Rattle.flat_state.specs.Flat.{Inputs, can_step}
+use Rattle.page_model.specs.Pages.{is_valid}
+use Rattle.flat_state.specs.PageNames.{is_among, same_page}
+use Rattle.page_model.specs.Placement.{Placement, Due, state_of, Residence}
 use Rattle.page_model.specs.Moves.{done}
 use Rattle.page_model.specs.Conditions.{Spares}
 use Rattle.page_model.specs.Serve.{serve_unit}
-use Rattle.page_model.specs.Swapper.{is_out}
+use Rattle.page_model.specs.Swapper.{is_out, residence_of}
 use Rattle.page_model.specs.Ownership.{OwnsFrames}
-use Rattle.page_model.specs.Placement.{Residence, Placement, Due, state_of}
-use Rattle.page_model.specs.Pages.{same_page, is_valid, is_among}
-use Rattle.page_model.specs.Swapper.{residence_of, is_out}
-use Rattle.page_model.specs.Journal.{append}
-use Rattle.page_laws.proofs.Locks.{done_spares}
-use Rattle.page_laws.proofs.PageLaws.{same_page_is}
-use Rattle.page_laws.proofs.Stays.{Steady, done_steady}
-use Rattle.page_laws.proofs.KernelShapes.{done_shaped}
+use Rattle.flat_state.specs.Journal.{append}
+use Rattle.page_laws.proofs.Moves.Locks.{done_spares}
+use Rattle.page_laws.proofs.Lists.Pages.{same_page_is}
+use Rattle.page_laws.proofs.Moves.Stays.{Steady, done_steady}
+use Rattle.kernel_laws.proofs.Machine.Shapes.{done_shaped}
 use Rattle.flat_laws.specs.Others.{is_writing}
 use Rattle.touch_laws.proofs.Distinct.{among_first, among_later}
 use Rattle.flat_model.proofs.StepEnds.{IsStepEnd, Shape, Empty, One, Two, step_shape}
-use Rattle.flat_model.proofs.FlatRuns.{after_point}
-use Rattle.flat_model.proofs.Wanting.{wanted_none, all_unwanted}
-use Rattle.flat_model.specs.declared.mark.Mark.{Mark}
-use Rattle.flat_model.specs.declared.mark.Mark.TheVariants as marks
+use Rattle.run_model.proofs.FlatRuns.{after_point}
+use Rattle.run_model.proofs.Wanting.{wanted_none, all_unwanted}
+use Rattle.run_model.specs.declared.mark.Mark.{Mark}
+use Rattle.run_model.specs.declared.mark.Mark.TheVariants as marks
 use Rattle.flat_model.specs.Step.{flat_step}
 use Rattle.flat_model.specs.Run.{Point, is_refused, step_at, behind_first, due_at, first_if, act as next_of_step, process_of_entry, flat_entry}
-use Rattle.flat_model.specs.State.{State}
-use Rattle.flat_model.specs.Wanted.{running, touched_next, AllValid, wanted, locked}
-use Rattle.flat_model.specs.After.{after, completed}
-use Rattle.flat_model.specs.Act.{must_refuse, must_settle, act_by, act_if, act, awaits, IsNext, LastSays}
-use Rattle.flat_model.proofs.Acting.{next_says}
+use Rattle.run_model.specs.State.{State}
+use Rattle.run_model.specs.Wanted.{running, touched_next, AllValid, wanted, locked}
+use Rattle.run_model.specs.After.{after, completed}
+use Rattle.run_model.specs.Act.{must_refuse, must_settle, act_by, act_if, act, awaits, IsNext, LastSays}
+use Rattle.run_model.proofs.Acting.{next_says}
 use Rattle.run_model.specs.Next.{when, or_else, goes_on, turn_instructions, work, work_by, turn_by, turn_unit, under, next_mark, next_unit}
 use Rattle.run_model.specs.Kinds.{GoesOn, Runs, Kind, Fills, Brings, Copies, Serves, Acts, ComesIn, Interrupts, Moves, PutsOut, Notes, Begins}
 use Rattle.run_model.proofs.NextUnits.{both_true, kind_of}
@@ -140,7 +138,7 @@ awaited_by A s u pid now r o w = go o w
 -- No unit but one of a process that acts is a flat entry.
 
 serve_plain : (p : Placement) (q : Page) (now : Bool) (u : Entry) → serve_unit p q now ≡ Some u → process_of_entry u ≡ None
-serve_plain p q now u h = ap process_of_entry (Rattle.page_laws.proofs.Units.unit_is p q now u h).1 ∙ Rattle.run_laws.proofs.Plain.serve_flat p q
+serve_plain p q now u h = ap process_of_entry (Rattle.page_laws.proofs.Moves.Units.unit_is p q now u h).1 ∙ Rattle.run_laws.proofs.Plain.serve_flat p q
 
 pub next_or : (A : Inputs) (s : State) (u : Entry) → WaitsBy A s s.point.last → Kind A s u → (process_of_entry u ≡ None) ⊎ IsNext A s u
 next_or A s u w (Fills q due e i) = inl (ap process_of_entry i ∙ Rattle.run_laws.proofs.Plain.zero_flat s.place q)
@@ -151,7 +149,7 @@ next_or A s u w (Acts pid now r e i) = inr (record { pid = pid; next = i; awaite
 next_or A s u w (ComesIn pid e c i) = inl (ap process_of_entry i)
 next_or A s u w (Interrupts e m i) = inl (ap process_of_entry i)
 next_or A s u w (Moves count e m l k i) = inl (ap process_of_entry i ∙ Rattle.run_laws.proofs.Plain.move_flat s.place (locked A s))
-next_or A s u w (PutsOut pid e m i) = inl (ap process_of_entry i ∙ Rattle.run_laws.proofs.Plain.put_flat s.place pid (Rattle.page_model.specs.Place.space_of_process (Rattle.page_model.specs.Flat.process_of s.point.flat pid)))
+next_or A s u w (PutsOut pid e m i) = inl (ap process_of_entry i ∙ Rattle.run_laws.proofs.Plain.put_flat s.place pid (Rattle.page_model.specs.Place.space_of_process (Rattle.flat_state.specs.Flat.process_of s.point.flat pid)))
 next_or A s u w (Notes e m i) = inl (ap process_of_entry i)
 next_or A s u w (Begins e n i) = inl (Rattle.run_laws.proofs.Plain.mark_flat A s u i)
 
@@ -274,7 +272,7 @@ done_awaits A s pid o a =
         resident = ap (λ (rs : List Residence). (residence_of rs pid).out) (done_shaped s.place).residents ∙ r.resident;
       };
       unwanted = all_unwanted A (after A s entries.Done) (st.due ∙ r.clear)
-          (subst (AllValid (done s.place)) (sym (ap (Rattle.flat_model.specs.Wanted.touched_by A s.point.flat) n))
+          (subst (AllValid (done s.place)) (sym (ap (Rattle.run_model.specs.Wanted.touched_by A s.point.flat) n))
           (spared s.place (done s.place) (touched_next A s) v (done_spares s.place (touched_next A s) o) (touched_next A s) (λ q e. e)));
       left = a.left;
     }
@@ -582,6 +580,6 @@ flows_on A s u o f h = go (kind_of A s u h)
     go (ComesIn pid e c i) = plain (ap process_of_entry i)
     go (Interrupts e m i) = plain (ap process_of_entry i)
     go (Moves count e m l k i) = plain (ap process_of_entry i ∙ Rattle.run_laws.proofs.Plain.move_flat s.place (locked A s))
-    go (PutsOut pid e m i) = plain (ap process_of_entry i ∙ Rattle.run_laws.proofs.Plain.put_flat s.place pid (Rattle.page_model.specs.Place.space_of_process (Rattle.page_model.specs.Flat.process_of s.point.flat pid)))
+    go (PutsOut pid e m i) = plain (ap process_of_entry i ∙ Rattle.run_laws.proofs.Plain.put_flat s.place pid (Rattle.page_model.specs.Place.space_of_process (Rattle.flat_state.specs.Flat.process_of s.point.flat pid)))
     go (Notes e m i) = plain (ap process_of_entry i)
     go (Begins e m i) = plain (Rattle.run_laws.proofs.Plain.mark_flat A s u i)

@@ -1,18 +1,17 @@
 -- What each step of a process comes to: bytes that it writes, and a change.
 use Rattle.std.proofs.Common.{◌≡◌, ℕ, Bool, true, false, List, [], ◌∷◌, Option, Some, None, Result, Ok, Err, ℤ, refl, sym, subst}
-use Rattle.vm_facts.specs.Flat.{Space, Holding, Holds, Process, FlatState}
+use Rattle.flat_state.specs.Space.{Space, answers_of, puts}
+use Rattle.flat_state.specs.Flat.{Holding, Holds, Process, FlatState, NamedImage, Inputs, process_of}
 use Rattle.vm_facts.specs.declared.regs.Regs.{Regs}
 use Rattle.vm_facts.specs.declared.entry.Entry.{Entry}
 use Rattle.vm_facts.specs.declared.entry.Entry.TheVariants as entries
 use Rattle.user_vax.specs.Effects.{Effect}
 use Rattle.user_vax.specs.declared.refused.Refused.{Refused}
 use Rattle.user_vax.specs.declared.refused.Refused.TheVariants.{Miss, Below, Signal}
-use Rattle.page_model.specs.Space.{answers_of, puts}
-use Rattle.page_model.specs.Flat.{NamedImage, Inputs, process_of}
-use Rattle.page_model.specs.Change.{apply_change, apply_writes}
-use Rattle.page_model.specs.declared.change.Change.{Change}
-use Rattle.page_model.specs.declared.change.Change.TheVariants.{Keep, Resize, Fork, Lend, Exec, Reap, Sleep, End}
-use Rattle.page_laws.specs.FlatStands.{AllDistinct, MayChange, IsNumbered}
+use Rattle.flat_state.specs.Change.{apply_change, apply_writes, NamesChild}
+use Rattle.flat_state.specs.declared.change.Change.{Change}
+use Rattle.flat_state.specs.declared.change.Change.TheVariants.{Keep, Resize, Fork, Lend, Exec, Reap, Sleep, End}
+use Rattle.flat_state.specs.Numbers.{AllDistinct, IsNumbered}
 use Rattle.flat_laws.proofs.Replies.{ReplyFits, reply_fits}
 use Rattle.flat_laws.proofs.Others.{pids_written}
 use Rattle.flat_model.specs.Instruction.{instruction_in}
@@ -32,7 +31,7 @@ Suits _ change = Unit {0}
 -- the step of a process that holds this space: it writes, and then changes
 pub record Formed (images : List NamedImage) (F : FlatState) (p : Process) (s : Space) (refused : Bool) (S : Step) : Type 0 where
   pub after : S.after ≡ apply_change images (apply_writes F p.pid S.writes) p.pid S.regs S.change
-  pub may : MayChange (apply_writes F p.pid S.writes) S.change
+  pub may : NamesChild (apply_writes F p.pid S.writes) S.change
   pub wants : refused ≡ true → change_wanted images F s S.change ≡ []
   pub suits : Suits S.entries S.change
 

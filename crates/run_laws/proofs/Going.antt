@@ -1,25 +1,24 @@
 -- No unit stops a machine.
 use Rattle.std.proofs.Common.{◌≡◌, ℕ, Bool, true, false, List, [], ◌∷◌, Option, Some, None, refl, ◌∙◌}
 use Rattle.vm_facts.specs.Answers.{ByteWrite}
-use Rattle.vm_facts.specs.Flat.{Space, Holding, Holds, Lends, Zombie, Process}
+use Rattle.flat_state.specs.Space.{Space, address_in}
+use Rattle.flat_state.specs.Flat.{Holding, Holds, Lends, Zombie, Process, NamedImage, Inputs, process_of}
 use Rattle.vm_facts.specs.declared.page.Page.{Page}
 use Rattle.vm_facts.specs.declared.page.PageState.{PageState}
 use Rattle.vm_facts.specs.declared.page.PageState.TheVariants.{Unfilled, Valid, Invalid, Coming, Going, OnSwap}
 use Rattle.vm_facts.specs.declared.regs.Regs.{Regs}
 use Rattle.vm_facts.specs.declared.entry.Entry.{Entry}
 use Rattle.vm_facts.specs.declared.entry.Entry.TheVariants as entries
-use Rattle.page_model.specs.declared.change.Change.{Change}
-use Rattle.page_model.specs.declared.change.Change.TheVariants.{Keep, Resize, Fork, Lend, Exec, Reap, Sleep, End}
-use Rattle.page_model.specs.Space.{address_in}
-use Rattle.page_model.specs.Flat.{NamedImage, Inputs, process_of}
+use Rattle.flat_state.specs.declared.change.Change.{Change}
+use Rattle.flat_state.specs.declared.change.Change.TheVariants.{Keep, Resize, Fork, Lend, Exec, Reap, Sleep, End}
 use Rattle.page_model.specs.Pages.{numbered}
 use Rattle.page_model.specs.Placement.{state_of}
 use Rattle.page_model.specs.Place.{is_borrower}
-use Rattle.page_model.specs.Kernel.{Kernel, Proc}
-use Rattle.page_model.specs.FlatStep.{flat_if, flat_step, pass_step}
+use Rattle.kernel_model.specs.Kernel.{Kernel, Proc}
+use Rattle.kernel_model.specs.ChangeStep.{change_if, change_step, pass_step}
 use Rattle.flat_model.specs.Touched.{page_tested}
 use Rattle.flat_model.specs.Run.{step_at}
-use Rattle.flat_model.specs.State.{State}
+use Rattle.run_model.specs.State.{State}
 use Rattle.run_laws.specs.Machine.{place_in, write_into, write_page, write_byte, write_bytes, write_held, write_by, lender_among, keeps_step, back_step, change_step, written_step, taken_step, process_step, unit_step}
 
 page_goes : (k : Kernel) (o : Option Page) (at byte : ℕ) → (write_page k o at byte).stopped ≡ k.stopped
@@ -47,10 +46,10 @@ by_goes k (Some q) ws = go q.holding
     go (Lends sid child) = refl
     go (Zombie status) = refl
 
-flat_goes : (images : List NamedImage) (k : Kernel) (pid : ℕ) (regs : Regs) (e : Entry) (change : Change) → (flat_step images k pid regs e change).stopped ≡ k.stopped
+flat_goes : (images : List NamedImage) (k : Kernel) (pid : ℕ) (regs : Regs) (e : Entry) (change : Change) → (change_step images k pid regs e change).stopped ≡ k.stopped
 flat_goes images k pid regs e change = go (numbered (λ (p : Proc). p.pid) pid k.processes)
   where
-    go : (o : Option Proc) → (flat_if images k regs e change o).stopped ≡ k.stopped
+    go : (o : Option Proc) → (change_if images k regs e change o).stopped ≡ k.stopped
     go None = refl
     go (Some p) = refl
 

@@ -1,43 +1,47 @@
 -- A change of a process keeps the machine with its bytes, and lands where the state of the run does.
 use Rattle.std.proofs.Common.{◌≡◌, ◌≢◌, ℕ, Bool, true, false, cond, List, [], ◌∷◌, length, map, Option, Some, Ok, refl, sym, ap, ◌∙◌, subst}
-use Rattle.vm_facts.specs.Flat.{Space, Holding, Holds, Lends, Zombie, Process, FlatState}
+use Rattle.flat_state.specs.Space.{Space}
+use Rattle.flat_state.specs.Flat.{Holding, Holds, Lends, Zombie, Process, FlatState, Inputs}
 use Rattle.vm_facts.specs.declared.regs.Regs.{Regs}
 use Rattle.vm_facts.specs.declared.entry.Entry.{Entry}
 use Rattle.swap_book.specs.Holdings.{Holdings}
 use Rattle.swap_book.specs.Placing.{place_all}
-use Rattle.page_model.specs.declared.change.Change.{Change}
-use Rattle.page_model.specs.declared.change.Change.TheVariants.{Keep, Resize, Fork, Lend, Exec, Reap, Sleep, End}
-use Rattle.page_model.specs.Flat.{Inputs}
-use Rattle.page_model.specs.Change.{lends_to, apply_change}
-use Rattle.page_model.specs.Journal.{append}
+use Rattle.flat_state.specs.declared.change.Change.{Change}
+use Rattle.flat_state.specs.declared.change.Change.TheVariants.{Keep, Resize, Fork, Lend, Exec, Reap, Sleep, End}
+use Rattle.flat_state.specs.Change.{lends_to, apply_change, NamesChild}
+use Rattle.flat_state.specs.Journal.{append}
 use Rattle.page_model.specs.Pages.{numbered}
 use Rattle.page_model.specs.Placement.{space_number, image_of, sharers}
 use Rattle.page_model.specs.Place.{is_borrower, place_change}
 use Rattle.page_model.specs.Conditions.{MayForget}
 use Rattle.page_model.specs.Ownership.{OneOwner}
-use Rattle.page_model.specs.Kernel.{Kernel, Proc, Life, Outline, outline_of, outline_kept, life_of, Fits, SameTables, Sound, Coupled, lives, lives_in, has_life}
-use Rattle.page_model.specs.FlatStep.{flat_step, pass_step, holdings_after, space_of_life, gave_back, life_of_proc}
-use Rattle.page_laws.specs.Asks.{asked}
-use Rattle.page_laws.specs.Numbers.{Numbered, SettlesFor, ReadyFor}
-use Rattle.page_laws.specs.Start.{ImageFits}
-use Rattle.page_laws.specs.FlatStands.{IsNumbered, LendsStand, IsLender, Stands, MayChange}
-use Rattle.page_laws.proofs.Local.{none_some, some_is}
-use Rattle.page_laws.proofs.Sames.{settled_rests}
-use Rattle.page_laws.proofs.Sounds.{pass_sound}
-use Rattle.page_laws.proofs.Numbers.{flat_numbered, pass_numbered}
-use Rattle.page_laws.proofs.Allowed.{ready_sound, may_change}
-use Rattle.page_laws.proofs.CoupledReady.{coupled_ready}
-use Rattle.page_laws.proofs.KernelForks.{fit_image, fork_coupled_step}
-use Rattle.page_laws.proofs.KernelSteps.{keep_coupled, sleep_coupled, reap_coupled}
-use Rattle.page_laws.proofs.KernelSizes.{resize_coupled_step}
-use Rattle.page_laws.proofs.KernelLends.{lend_coupled_step}
-use Rattle.page_laws.proofs.KernelExecs.{exec_coupled_step}
-use Rattle.page_laws.proofs.KernelEnds.{end_coupled_step}
-use Rattle.page_laws.proofs.KernelReturns.{Borrowing, borrowing, exec_back, end_back}
-use Rattle.page_laws.proofs.FlatLists.{pid_of, found_is}
-use Rattle.page_laws.proofs.FlatLenders.{lender_found}
-use Rattle.page_laws.proofs.FlatNumbers.{changes_numbered}
-use Rattle.page_laws.proofs.ProcTables.{Stepping, stepping}
+use Rattle.kernel_model.specs.Kernel.{Kernel, Proc, Life, life_of}
+use Rattle.kernel_model.specs.Coupled.{Outline, outline_of, outline_kept, Fits, SameTables, Coupled}
+use Rattle.kernel_model.specs.Sound.{Sound, lives, lives_in, has_life}
+use Rattle.kernel_model.specs.ChangeStep.{change_step, pass_step, holdings_after, space_of_life, gave_back, life_of_proc}
+use Rattle.kernel_model.specs.Asks.{asked}
+use Rattle.kernel_model.specs.Numbers.{Numbered, SettlesFor, ReadyFor}
+use Rattle.kernel_model.specs.Start.{ImageFits}
+use Rattle.flat_state.specs.Numbers.{IsNumbered}
+use Rattle.flat_state.specs.Lenders.{LendsStand, IsLender}
+use Rattle.kernel_model.specs.Stands.{Stands}
+use Rattle.page_laws.proofs.Lists.Local.{none_some, some_is}
+use Rattle.page_laws.proofs.Bytes.Others.{settled_rests}
+use Rattle.kernel_laws.proofs.Sound.Steps.{pass_sound}
+use Rattle.kernel_laws.proofs.Sound.NumbersApart.{flat_numbered, pass_numbered}
+use Rattle.kernel_laws.proofs.Sound.Allowed.{ready_sound, may_change}
+use Rattle.kernel_laws.proofs.Machine.Ready.{coupled_ready}
+use Rattle.kernel_laws.proofs.Machine.Forks.{fit_image, fork_coupled_step}
+use Rattle.kernel_laws.proofs.Machine.Still.{keep_coupled, sleep_coupled, reap_coupled}
+use Rattle.kernel_laws.proofs.Machine.Breaks.{resize_coupled_step}
+use Rattle.kernel_laws.proofs.Machine.Lends.{lend_coupled_step}
+use Rattle.kernel_laws.proofs.Machine.Execs.{exec_coupled_step}
+use Rattle.kernel_laws.proofs.Machine.Ends.{end_coupled_step}
+use Rattle.kernel_laws.proofs.Machine.Returns.{Borrowing, borrowing, exec_back, end_back}
+use Rattle.kernel_laws.proofs.Flat.Lists.{pid_of, found_is}
+use Rattle.kernel_laws.proofs.Flat.Lenders.{lender_found}
+use Rattle.kernel_laws.proofs.Flat.Numbers.{changes_numbered}
+use Rattle.kernel_laws.proofs.Machine.Processes.{Stepping, stepping}
 use Rattle.flat_laws.proofs.Asking.{own_space, shared_same, no_sharers, some_sharers, change_same}
 use Rattle.flat_model.specs.Asked.{is_shared, given_up}
 use Rattle.run_laws.specs.Standing.{Own}
@@ -182,29 +186,29 @@ lends_is pid (Holds s) = refl
 lends_is pid (Lends sid child) = refl
 lends_is pid (Zombie status) = refl
 
-lender_flat : (ps : List Process) (pid : ℕ) (m : Process) → Rattle.page_laws.specs.FlatStands.AllDistinct (map pid_of ps) → numbered pid_of m.pid ps ≡ Some m → lends_to pid m.holding ≡ true → ((x : Process) → numbered pid_of x.pid ps ≡ Some x → lends_to pid x.holding ≡ true → x.pid ≡ m.pid)
+lender_flat : (ps : List Process) (pid : ℕ) (m : Process) → Rattle.flat_state.specs.Numbers.AllDistinct (map pid_of ps) → numbered pid_of m.pid ps ≡ Some m → lends_to pid m.holding ≡ true → ((x : Process) → numbered pid_of x.pid ps ≡ Some x → lends_to pid x.holding ≡ true → x.pid ≡ m.pid)
     → lender_in (map outline_of ps) pid ≡ m.pid
 lender_flat [] pid m d e t only = none_some m e
 lender_flat (p ∷ ps) pid m d e t only = ap (λ (b : Bool). cond b p.pid (lender_in (map outline_of ps) pid)) (lends_is pid p.holding) ∙ go (lender_flat ps pid m d.1) (lends_to pid p.holding) refl
   where
     go : (numbered pid_of m.pid ps ≡ Some m → lends_to pid m.holding ≡ true → ((x : Process) → numbered pid_of x.pid ps ≡ Some x → lends_to pid x.holding ≡ true → x.pid ≡ m.pid) → lender_in (map outline_of ps) pid ≡ m.pid)
         → (b : Bool) → lends_to pid p.holding ≡ b → cond b p.pid (lender_in (map outline_of ps) pid) ≡ m.pid
-    go later true y = only p (Rattle.page_laws.proofs.Numbered.hit pid_of p.pid p ps refl) y
-    go later false y = later (sym (Rattle.page_laws.proofs.Numbered.miss pid_of m.pid p ps other) ∙ e) t
-        (λ x f l. only x (Rattle.page_laws.proofs.Numbered.miss pid_of x.pid p ps (λ i. none_some x (sym (Rattle.page_laws.proofs.Numbered.absent_none pid_of x.pid ps (subst (λ (n : ℕ). Rattle.page_laws.specs.FlatStands.IsAbsent n (map pid_of ps)) i d.0)) ∙ f)) ∙ f) l)
+    go later true y = only p (Rattle.kernel_laws.proofs.Flat.Numbered.hit pid_of p.pid p ps refl) y
+    go later false y = later (sym (Rattle.kernel_laws.proofs.Flat.Numbered.miss pid_of m.pid p ps other) ∙ e) t
+        (λ x f l. only x (Rattle.kernel_laws.proofs.Flat.Numbered.miss pid_of x.pid p ps (λ i. none_some x (sym (Rattle.kernel_laws.proofs.Flat.Numbered.absent_none pid_of x.pid ps (subst (λ (n : ℕ). Rattle.flat_state.specs.Numbers.IsAbsent n (map pid_of ps)) i d.0)) ∙ f)) ∙ f) l)
       where
         other : p.pid ≢ m.pid
-        other i = let same : p ≡ m = some_is p m (sym (Rattle.page_laws.proofs.Numbered.hit pid_of m.pid p ps i) ∙ e) in let z : false ≡ true = sym y ∙ ap (λ (r : Process). lends_to pid r.holding) same ∙ t in cc
+        other i = let same : p ≡ m = some_is p m (sym (Rattle.kernel_laws.proofs.Flat.Numbered.hit pid_of m.pid p ps i) ∙ e) in let z : false ≡ true = sym y ∙ ap (λ (r : Process). lends_to pid r.holding) same ∙ t in cc
 
 pub lender_is : (k : Kernel) (flat : FlatState) (pid sid : ℕ) (m : Process) → SameTables k flat → IsNumbered flat → IsLender flat pid sid m → lender_among k.processes pid ≡ m.pid
 lender_is k flat pid sid m t n is =
     lender_kept k.processes pid ∙ ap (λ (os : List Outline). lender_in os pid) t.processes
-    ∙ lender_flat flat.processes pid m n.pids (sym (found_is flat.processes m.pid) ∙ is.found) (ap (lends_to pid) is.holding ∙ Rattle.page_laws.proofs.Numbered.eq_self pid) (λ x e l. is.only x (found_is flat.processes x.pid ∙ e) l)
+    ∙ lender_flat flat.processes pid m n.pids (sym (found_is flat.processes m.pid) ∙ is.found) (ap (lends_to pid) is.holding ∙ Rattle.kernel_laws.proofs.Flat.Numbered.eq_self pid) (λ x e l. is.only x (found_is flat.processes x.pid ∙ e) l)
 
 -- Who borrowed its space, and gives it back.
 
 back_coupled : (A : Inputs) (k : Kernel) (flat : FlatState) (image : List ℕ) (before : Holdings) (pid : ℕ) (regs : Regs) (e : Entry) (q m : Process) (s : Space) (change : Change) → Changing A flat k.place before k.holdings pid q s change → IsLender flat pid s.sid m → GivesBack change
-    → Found A flat k image before → Coupled (flat_step A.images (pass_step k pid m.pid) pid regs e change) A.images image (apply_change A.images flat pid regs change)
+    → Found A flat k image before → Coupled (change_step A.images (pass_step k pid m.pid) pid regs e change) A.images image (apply_change A.images flat pid regs change)
 back_coupled A k flat image before pid regs e q m s (Exec number top) c is gb x =
     let st : Stands A.images k flat = x.stands in
     let i : ImageFits c.execs.0 = c.images number c.execs.0 c.execs.1 in
@@ -214,9 +218,9 @@ back_coupled A k flat image before pid regs e q m s (End status) c is gb x =
     end_back A.swap_blocks k A.images image flat pid regs e status q m s (found_none A flat k image before x c.pieces) c.numbers st.out c.clear c.found_process c.holds is x.coupled
 back_coupled A k flat image before pid regs e q m s _ c is gb x = absurd gb
 
-back_is : (A : Inputs) (k : Kernel) (pid n : ℕ) (regs : Regs) (e : Entry) (change : Change) → GivesBack change → lender_among k.processes pid ≡ n → back_step A.images k pid regs e change ≡ flat_step A.images (pass_step k pid n) pid regs e change
-back_is A k pid n regs e (Exec number top) gb i = ap (λ (m : ℕ). flat_step A.images (pass_step k pid m) pid regs e (Exec number top)) i
-back_is A k pid n regs e (End status) gb i = ap (λ (m : ℕ). flat_step A.images (pass_step k pid m) pid regs e (End status)) i
+back_is : (A : Inputs) (k : Kernel) (pid n : ℕ) (regs : Regs) (e : Entry) (change : Change) → GivesBack change → lender_among k.processes pid ≡ n → back_step A.images k pid regs e change ≡ change_step A.images (pass_step k pid n) pid regs e change
+back_is A k pid n regs e (Exec number top) gb i = ap (λ (m : ℕ). change_step A.images (pass_step k pid m) pid regs e (Exec number top)) i
+back_is A k pid n regs e (End status) gb i = ap (λ (m : ℕ). change_step A.images (pass_step k pid m) pid regs e (End status)) i
 back_is A k pid n regs e _ gb i = absurd gb
 
 pub back_landed : (A : Inputs) (k : Kernel) (flat : FlatState) (image : List ℕ) (before : Holdings) (pid : ℕ) (regs : Regs) (e : Entry) (q : Process) (s : Space) (change : Change) → Changing A flat k.place before k.holdings pid q s change → LendsStand flat → is_borrower flat.processes pid ≡ true → GivesBack change
@@ -270,7 +274,7 @@ back_landed A k flat image before pid regs e q s change c lend w gb x =
     pieces = ap (place_all A.swap_blocks before) (asks_same A.images k k1 pid change gb refl refl ∙ change_same A.images k flat pid q s change c.images st.texts x.numbered c.numbers t c.found_process c.holds) ∙ c.pieces
 
     l : Kernel
-    l = flat_step A.images k1 pid regs e change
+    l = change_step A.images k1 pid regs e change
 
     sound : Sound A.swap_blocks l
     sound = ready_sound A.swap_blocks A.images k1 before pid regs e change sound1 n1 ready pieces

@@ -1,6 +1,7 @@
 -- A list of next units is a run of the flat machine.
 use Rattle.std.proofs.Common.{◌≡◌, ℕ, ◌==◌, ◌&&◌, Bool, true, false, if◌then◌else◌, List, [], ◌∷◌, Option, Some, None, Result, Ok, Err, ℤ, refl, sym, ap, ◌∙◌, subst}
-use Rattle.vm_facts.specs.Flat.{Space, Holding, Holds, Lends, Zombie, Process, FlatState}
+use Rattle.flat_state.specs.Space.{Space}
+use Rattle.flat_state.specs.Flat.{Holding, Holds, Lends, Zombie, Process, FlatState, NamedImage, Inputs, process_of, can_step}
 use Rattle.vm_facts.specs.declared.page.Page.{Page}
 use Rattle.vm_facts.specs.declared.page.PageState.{PageState}
 use Rattle.vm_facts.specs.declared.page.PageState.TheVariants.{Unfilled, Valid, Invalid, Coming, Going, OnSwap}
@@ -10,15 +11,14 @@ use Rattle.user_vax.specs.Effects.{Effect}
 use Rattle.user_vax.specs.declared.refused.Refused.{Refused}
 use Rattle.user_vax.specs.declared.refused.Refused.TheVariants.{Miss, Below, Signal}
 use Rattle.swap_book.specs.Holdings.{Holdings}
-use Rattle.page_model.specs.Flat.{NamedImage, Inputs, process_of, can_step}
 use Rattle.page_model.specs.Pages.{Filling, Zeros, OfImage}
 use Rattle.page_model.specs.Placement.{Placement, Transfer, state_of, filling_of}
-use Rattle.page_model.specs.Journal.{appended, instructions_of, IsUnit, AllUnits}
+use Rattle.flat_state.specs.Journal.{appended, instructions_of, IsUnit, AllUnits}
 use Rattle.page_model.specs.Place.{space_of_process}
 use Rattle.page_model.specs.Serve.{force_entry, is_full, read_entry_if, bring_entry_by, feed_entry_by, serve_entry_by, serve_entry}
-use Rattle.page_laws.specs.Start.{ImagesFit}
-use Rattle.page_laws.proofs.PutOuts.{unit_case}
-use Rattle.page_laws.proofs.Units.{unit_is}
+use Rattle.kernel_model.specs.Start.{ImagesFit}
+use Rattle.page_laws.proofs.Swapper.PuttingOut.{unit_case}
+use Rattle.page_laws.proofs.Moves.Units.{unit_is}
 use Rattle.flat_model.specs.Instruction.{instruction_in}
 use Rattle.flat_model.specs.declared.calls.Reply.{Reply}
 use Rattle.flat_model.specs.declared.calls.Reply.TheVariants.{Fails, Does, Writes, Waits, Exits}
@@ -27,13 +27,13 @@ use Rattle.flat_model.specs.Calls.{call_of}
 use Rattle.flat_model.specs.Step.{replied_step, reply_behind, called_step, step_behind, step_of, step_holding, step_if, flat_step}
 use Rattle.flat_model.specs.Run.{is_refused, step_at, behind_first, due_at, first_if, act as next_of_step, flat_run}
 use Rattle.flat_model.specs.Asked.{start_held, held}
-use Rattle.flat_model.specs.State.{State, start}
-use Rattle.flat_model.specs.Wanted.{locked}
-use Rattle.flat_model.specs.After.{after, state_after, state_at}
-use Rattle.flat_model.specs.Act.{AllNext}
-use Rattle.flat_model.proofs.After.{units_count, state_appended}
-use Rattle.flat_model.proofs.FlatRuns.{run_held, run_flat}
-use Rattle.flat_model.proofs.Acting.{next_run}
+use Rattle.run_model.specs.State.{State, start}
+use Rattle.run_model.specs.Wanted.{locked}
+use Rattle.run_model.specs.After.{after, state_after, state_at}
+use Rattle.run_model.specs.Act.{AllNext}
+use Rattle.run_model.proofs.After.{units_count, state_appended}
+use Rattle.run_model.proofs.FlatRuns.{run_held, run_flat}
+use Rattle.run_model.proofs.Acting.{next_run}
 use Rattle.run_model.specs.Next.{fill_by, fill_unit, begins_write, move_by, next_unit}
 use Rattle.run_model.specs.Kinds.{Kind, Fills, Brings, Copies, Serves, Acts, ComesIn, Interrupts, Moves, PutsOut, Notes, Begins}
 use Rattle.run_model.specs.Lawful.{Follows, Reaches, IsLawful}
@@ -212,7 +212,7 @@ reaches_lawful A journal s images execs begin r = record { reaches = r; flat = f
     same = ap (state_at A hs) (sym r.joined) ∙ state_appended A hs us units ∙ at
 
     count : instructions_of journal ≡ s.count
-    count = sym (Rattle.flat_model.proofs.After.state_count A hs journal) ∙ ap (λ (x : State). x.count) same
+    count = sym (Rattle.run_model.proofs.After.state_count A hs journal) ∙ ap (λ (x : State). x.count) same
 
     holdings : held A journal ≡ Ok s.holdings
     holdings = run_held A hs journal r.found (run_flat A hs journal s.point flat) ∙ ap (λ (x : State). Ok x.holdings) same

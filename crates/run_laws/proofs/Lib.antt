@@ -40,4 +40,5 @@ pub mod Filing
 pub mod Living
 pub mod Residents
 pub mod Going
+pub mod LockedRoom
 pub mod Room

@@ -1,6 +1,7 @@
 -- A machine with its bytes that stands at a state of a run stands at the next one, behind the unit's own step.
 use Rattle.std.proofs.Common.{◌≡◌, ◌⊎◌, inl, inr, ℕ, ◌*◌, ◌≤◌, Bool, true, false, List, [], ◌∷◌, length, map, Option, Some, None, refl, sym, ap, ◌∙◌, subst, arith}
-use Rattle.vm_facts.specs.Flat.{Space, Holding, Holds, Process, FlatState}
+use Rattle.flat_state.specs.Space.{Space}
+use Rattle.flat_state.specs.Flat.{Holding, Holds, Process, FlatState, NamedImage, Inputs, process_of}
 use Rattle.vm_facts.specs.declared.page.Page.{Page}
 use Rattle.vm_facts.specs.declared.page.Page.TheVariants.{Data, Stack}
 use Rattle.vm_facts.specs.declared.regs.Regs.{Regs}
@@ -10,35 +11,38 @@ use Rattle.swap_book.specs.declared.Owner.TheVariants as owners
 use Rattle.swap_book.specs.Holdings.{Holdings, block_in}
 use Rattle.swap_book.specs.Book.{IsPlace, ArePlacesApart}
 use Rattle.swap_book.proofs.PlaceLaws.{places_apart_of}
-use Rattle.page_model.specs.Flat.{NamedImage, Inputs, process_of}
-use Rattle.page_model.specs.Journal.{append}
+use Rattle.flat_state.specs.Journal.{append}
 use Rattle.page_model.specs.Pages.{numbered}
 use Rattle.page_model.specs.Placement.{Placement, Transfer, Part, Errand, Writes, Reads, space_number, slots_of}
 use Rattle.page_model.specs.Place.{place_entry, space_of_holding}
 use Rattle.page_model.specs.Swapper.{is_out}
 use Rattle.page_model.specs.Ownership.{OwnsBlocks, OneOwner}
-use Rattle.page_model.specs.Coupled.{Bytes, source_bytes}
-use Rattle.page_model.specs.Kernel.{Kernel, Proc, Outline, outline_kept, outline_of, life_of, has_life, lives, lives_in, SameTables, Sound, Coupled, KeepsRegs, AreRegs, AreRead, AreReadBy, beside_kernel, stored_at, store_at, u_page, regs_in, note_step, out_step, in_step}
-use Rattle.page_model.specs.FlatStep.{space_of_life}
-use Rattle.page_laws.specs.Start.{ImagesFit, kept_of}
-use Rattle.page_laws.specs.Numbers.{EachBelow, AllDiffer, Numbered}
-use Rattle.page_laws.specs.FlatStands.{Stands, holds_some}
-use Rattle.page_laws.proofs.Local.{some_is}
-use Rattle.page_laws.proofs.Blocks.{length_put}
-use Rattle.page_laws.proofs.Sounds.{alive_owner}
-use Rattle.page_laws.proofs.KernelTables.{kept_pid, kept_at, outline_at, regs_at}
-use Rattle.page_laws.proofs.KernelSwaps.{found_at, out_coupled, in_coupled_any, u_length, u_found}
-use Rattle.page_laws.proofs.KernelCoupled.{note_coupled}
-use Rattle.page_laws.proofs.KernelStands.{note_stands, out_stands, in_stands}
-use Rattle.page_laws.proofs.KernelDone.{some_of, image_length}
-use Rattle.page_laws.proofs.ProcTables.{pids_same}
+use Rattle.page_model.specs.PageBytes.{Bytes, source_bytes}
+use Rattle.kernel_model.specs.Kernel.{Kernel, Proc, life_of, note_step, out_step, in_step}
+use Rattle.kernel_model.specs.Coupled.{Outline, outline_kept, outline_of, SameTables, Coupled, KeepsRegs, AreRead, AreReadBy, beside_kernel}
+use Rattle.kernel_model.specs.Sound.{has_life, lives, lives_in, Sound}
+use Rattle.kernel_model.specs.UPage.{AreRegs, u_page, regs_in}
+use Rattle.page_model.specs.Stored.{stored_at, store_at}
+use Rattle.kernel_model.specs.ChangeStep.{space_of_life}
+use Rattle.kernel_model.specs.Start.{ImagesFit, kept_of}
+use Rattle.kernel_model.specs.Numbers.{EachBelow, AllDiffer, Numbered}
+use Rattle.kernel_model.specs.Stands.{Stands, holds_some}
+use Rattle.page_laws.proofs.Lists.Local.{some_is}
+use Rattle.page_laws.proofs.Blocks.Places.{length_put}
+use Rattle.kernel_laws.proofs.Sound.Steps.{alive_owner}
+use Rattle.kernel_laws.proofs.Machine.Tables.{kept_pid, kept_at, outline_at, regs_at}
+use Rattle.kernel_laws.proofs.Machine.Swaps.{found_at, out_coupled, in_coupled_any, u_length, u_found}
+use Rattle.kernel_laws.proofs.Machine.Moves.{note_coupled}
+use Rattle.kernel_laws.proofs.Stands.Steps.{note_stands, out_stands, in_stands}
+use Rattle.kernel_laws.proofs.Machine.Done.{some_of, image_length}
+use Rattle.kernel_laws.proofs.Machine.Processes.{pids_same}
 use Rattle.flat_model.specs.Run.{Point, process_of_entry, step_at}
-use Rattle.page_model.specs.Change.{apply_writes}
+use Rattle.flat_state.specs.Change.{apply_writes}
 use Rattle.flat_model.specs.Touched.{touched}
-use Rattle.flat_model.specs.State.{State}
-use Rattle.flat_model.specs.Wanted.{touched_by, AllValid, locked}
-use Rattle.flat_model.specs.After.{place_at, after}
-use Rattle.flat_model.proofs.Wanting.{wanted_none}
+use Rattle.run_model.specs.State.{State}
+use Rattle.run_model.specs.Wanted.{touched_by, AllValid, locked}
+use Rattle.run_model.specs.After.{place_at, after}
+use Rattle.run_model.proofs.Wanting.{wanted_none}
 use Rattle.run_model.specs.Next.{next_unit}
 use Rattle.run_model.specs.Kinds.{Runs, Kind}
 use Rattle.run_model.proofs.NextUnits.{kind_of}
@@ -326,14 +330,14 @@ pub record Leaves (k : Kernel) (flat : FlatState) (pid : ℕ) : Type 0 where
 pub leaves : (k : Kernel) (flat : FlatState) (pid : ℕ) → SameTables k flat → holds_some (process_of flat pid) ≡ true → Leaves k flat pid
 leaves k flat pid t h = go (process_of flat pid) refl h
   where
-    holding : (q : Process) → process_of flat pid ≡ Some q → (x : Holding) → q.holding ≡ x → Rattle.page_model.specs.Flat.holds_space x ≡ true → Leaves k flat pid
+    holding : (q : Process) → process_of flat pid ≡ Some q → (x : Holding) → q.holding ≡ x → Rattle.flat_state.specs.Flat.holds_space x ≡ true → Leaves k flat pid
     holding q e (Holds s) i z =
         let f = found_at flat pid q e in
         let p : (p : Proc) × (numbered kept_pid pid k.processes ≡ Some p) = kept_at k.processes flat.processes t.processes pid q f.1 in
         let o : outline_kept p.0 ≡ outline_of q = outline_at k.processes flat.processes t.processes pid p.0 q p.1 f.1 in
         record { process = q; space = s; here = e; holds = i; proc = p.0; kept = p.1; life = ap (λ (x : Outline). has_life x.life) o ∙ ap (λ (x : Holding). has_life (life_of x)) i }
-    holding q e (Rattle.vm_facts.specs.Flat.Lends sid child) i z = absurd cc
-    holding q e (Rattle.vm_facts.specs.Flat.Zombie status) i z = absurd cc
+    holding q e (Rattle.flat_state.specs.Flat.Lends sid child) i z = absurd cc
+    holding q e (Rattle.flat_state.specs.Flat.Zombie status) i z = absurd cc
 
     go : (o : Option Process) → process_of flat pid ≡ o → holds_some o ≡ true → Leaves k flat pid
     go None e z = absurd cc

@@ -5,27 +5,29 @@ use Rattle.vm_facts.specs.declared.entry.Entry.{Entry}
 use Rattle.vm_facts.specs.declared.entry.Entry.TheVariants as entries
 use Rattle.swap_book.specs.declared.Owner.TheVariants as owners
 use Rattle.swap_book.specs.Holdings.{Holdings, block_in}
-use Rattle.page_model.specs.Flat.{Inputs}
+use Rattle.flat_state.specs.Flat.{Inputs}
 use Rattle.page_model.specs.Placement.{Starting}
-use Rattle.page_model.specs.Kernel.{Coupled, Kernel, Proc, AreRegs, AreRead, beside_kernel, plain_step, zero_step, copy_step, get_step, reclaim_step, push_step, done_step, note_step, out_step, in_step, image_after, stored_at, store_at, regs_in}
-use Rattle.page_laws.specs.Start.{ImagesFit, AreStarting, start_kernel}
-use Rattle.page_laws.proofs.Local.{some_is}
-use Rattle.page_laws.proofs.KernelStarts.{start_coupled_all, all_in}
-use Rattle.page_laws.proofs.KernelStartStands.{start_beside}
-use Rattle.flat_model.specs.State.{State, starting, start}
-use Rattle.flat_model.specs.Wanted.{locked}
-use Rattle.flat_model.specs.After.{after}
+use Rattle.kernel_model.specs.Coupled.{Coupled, AreRead, beside_kernel}
+use Rattle.kernel_model.specs.Kernel.{Kernel, Proc, plain_step, zero_step, copy_step, get_step, reclaim_step, push_step, done_step, note_step, out_step, in_step, image_after}
+use Rattle.kernel_model.specs.UPage.{AreRegs, regs_in}
+use Rattle.page_model.specs.Stored.{stored_at, store_at}
+use Rattle.kernel_model.specs.Start.{ImagesFit, AreStarting, start_kernel}
+use Rattle.page_laws.proofs.Lists.Local.{some_is}
+use Rattle.kernel_laws.proofs.Machine.Starts.{start_coupled_all, all_in}
+use Rattle.kernel_laws.proofs.Stands.Starts.{start_beside}
+use Rattle.run_model.specs.State.{State, starting, start}
+use Rattle.run_model.specs.Wanted.{locked}
+use Rattle.run_model.specs.After.{after}
 use Rattle.run_model.specs.Lawful.{Follows}
 use Rattle.run_laws.specs.Running.{IsRun, CanRun}
 use Rattle.flat_model.specs.Run.{step_at}
-use Rattle.page_model.specs.Change.{apply_writes}
+use Rattle.flat_state.specs.Change.{apply_writes}
 use Rattle.run_laws.proofs.Written.{Mid}
-use Rattle.run_laws.proofs.MachineUnits.{mid_stands}
+use Rattle.run_laws.proofs.MachineUnits.{mid_stands, stands_behind, unit_stands}
 use Rattle.run_laws.specs.Machine.{written_step, taken_step, EndsStep, process_step, ran_step, proc_of, u_bytes, unit_step, unit_image, IsGiven, StandsAt, Makes, IsNote, Completes, Next}
 use Rattle.run_laws.proofs.Execs.{execs_fit}
 use Rattle.run_laws.proofs.Beginning.{are_starting, run_start}
 use Rattle.run_laws.proofs.Wholes.{unit_run}
-use Rattle.run_laws.proofs.MachineUnits.{stands_behind, unit_stands}
 
 pub unit_keeps : (A : Inputs) (s : State) (k : Kernel) (image : List ℕ) (read : List (List ℕ)) (u : Entry) → Next A s k image u → IsGiven A s k image read u → StandsAt A (after A s u) (unit_step A s k image read u) (unit_image k image u)
 unit_keeps A s k image read u x g = unit_stands A s k image read u x.images (execs_fit A) x.run x.at x.next g

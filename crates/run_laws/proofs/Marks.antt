@@ -5,23 +5,24 @@ use Rattle.vm_facts.specs.declared.event.Event.{Event}
 use Rattle.vm_facts.specs.declared.event.Event.TheVariants as events
 use Rattle.vm_facts.specs.declared.entry.Entry.{Entry}
 use Rattle.vm_facts.specs.declared.entry.Entry.TheVariants as entries
-use Rattle.page_model.specs.Flat.{Inputs, process_of}
-use Rattle.page_model.specs.Pages.{pages_from, number_of}
+use Rattle.flat_state.specs.Flat.{Inputs, process_of}
+use Rattle.flat_state.specs.PageNames.{pages_from, number_of}
 use Rattle.page_model.specs.Placement.{Transfer, Due}
 use Rattle.page_model.specs.Moves.{done}
 use Rattle.page_model.specs.Place.{put_step}
 use Rattle.page_model.specs.Hands.{hand_move}
 use Rattle.page_model.specs.Swapper.{is_out, Choice, In, Out, Nothing, swap_choice, put_out_unit}
 use Rattle.page_model.specs.Ownership.{OwnsFrames}
-use Rattle.page_laws.specs.FlatStands.{IsNumbered, holds_some}
-use Rattle.page_laws.proofs.Stays.{Steady, Stays, move_stays, done_steady}
-use Rattle.page_laws.proofs.Sames.{put_steady}
-use Rattle.page_laws.proofs.PutOuts.{unit_case, done_residents, put_residents, same_out}
-use Rattle.flat_model.specs.declared.mark.Mark.{Mark}
-use Rattle.flat_model.specs.declared.mark.Mark.TheVariants as marks
-use Rattle.flat_model.specs.State.{State, runners}
-use Rattle.flat_model.specs.Wanted.{locked}
-use Rattle.flat_model.specs.After.{interrupt_mark, swap_mark, mark_of_event, mark_of_line, after}
+use Rattle.flat_state.specs.Numbers.{IsNumbered}
+use Rattle.kernel_model.specs.Stands.{holds_some}
+use Rattle.page_laws.proofs.Moves.Stays.{Steady, Stays, move_stays, done_steady}
+use Rattle.page_laws.proofs.Bytes.Others.{put_steady}
+use Rattle.page_laws.proofs.Swapper.PuttingOut.{unit_case, done_residents, put_residents, same_out}
+use Rattle.run_model.specs.declared.mark.Mark.{Mark}
+use Rattle.run_model.specs.declared.mark.Mark.TheVariants as marks
+use Rattle.run_model.specs.State.{State, runners}
+use Rattle.run_model.specs.Wanted.{locked}
+use Rattle.run_model.specs.After.{interrupt_mark, swap_mark, mark_of_event, mark_of_line, after}
 use Rattle.run_model.specs.Next.{move_by}
 use Rattle.run_model.specs.Kinds.{GoesOn, Comes}
 use Rattle.run_laws.specs.Standing.{MarkStands}
@@ -54,31 +55,31 @@ pub free_kept : (A : Inputs) (s : State) (u : Entry) (m : Mark) → s.mark ≡ m
 unfolding after
 free_kept A s u m e k f = go u k (subst IsFree (sym e) f)
   where
-    done_free : (x : Mark) → IsFree x → IsFree (Rattle.flat_model.specs.After.completed x)
+    done_free : (x : Mark) → IsFree x → IsFree (Rattle.run_model.specs.After.completed x)
     done_free marks.Over f = tt
     done_free (marks.Dispatch pid count since) f = tt
     done_free (marks.Turn pid since) f = tt
     done_free _ f = absurd f
 
-    hands_free : (n : ℕ) (x : Mark) → IsFree x → IsFree (Rattle.flat_model.specs.After.moved_on n x)
+    hands_free : (n : ℕ) (x : Mark) → IsFree x → IsFree (Rattle.run_model.specs.After.moved_on n x)
     hands_free n marks.Over f = tt
     hands_free n (marks.Dispatch pid count since) f = tt
     hands_free n (marks.Turn pid since) f = tt
     hands_free n _ f = absurd f
 
-    out_free : (x : Mark) → IsFree x → IsFree (Rattle.flat_model.specs.After.put_out x)
+    out_free : (x : Mark) → IsFree x → IsFree (Rattle.run_model.specs.After.put_out x)
     out_free marks.Over f = tt
     out_free (marks.Dispatch pid count since) f = tt
     out_free (marks.Turn pid since) f = tt
     out_free _ f = absurd f
 
-    in_free : (x : Mark) → IsFree x → IsFree (Rattle.flat_model.specs.After.brought_in x)
+    in_free : (x : Mark) → IsFree x → IsFree (Rattle.run_model.specs.After.brought_in x)
     in_free marks.Over f = tt
     in_free (marks.Dispatch pid count since) f = tt
     in_free (marks.Turn pid since) f = tt
     in_free _ f = absurd f
 
-    noted_free : (x : Mark) → IsFree x → IsFree (Rattle.flat_model.specs.After.audited x)
+    noted_free : (x : Mark) → IsFree x → IsFree (Rattle.run_model.specs.After.audited x)
     noted_free marks.Over f = tt
     noted_free (marks.Dispatch pid count since) f = tt
     noted_free (marks.Turn pid since) f = tt
@@ -125,30 +126,30 @@ on_free A s _ pid now g = absurd g
 
 pub come_free : (A : Inputs) (s : State) (pid : ℕ) (m : Mark) → s.mark ≡ m → Comes A s m pid → IsFree (after A s (entries.SwapIn pid)).mark
 unfolding after
-come_free A s pid (marks.BringIn p) e c = subst (λ (x : Mark). IsFree (Rattle.flat_model.specs.After.brought_in x)) (sym e) tt
-come_free A s pid (marks.Turn p since) e c = subst (λ (x : Mark). IsFree (Rattle.flat_model.specs.After.brought_in x)) (sym e) tt
+come_free A s pid (marks.BringIn p) e c = subst (λ (x : Mark). IsFree (Rattle.run_model.specs.After.brought_in x)) (sym e) tt
+come_free A s pid (marks.Turn p since) e c = subst (λ (x : Mark). IsFree (Rattle.run_model.specs.After.brought_in x)) (sym e) tt
 come_free A s pid _ e c = absurd c
 
 pub done_free : (A : Inputs) (s : State) → s.mark ≡ marks.Interrupt → IsFree (after A s entries.Done).mark
 unfolding after
-done_free A s e = subst (λ (x : Mark). IsFree (Rattle.flat_model.specs.After.completed x)) (sym e) tt
+done_free A s e = subst (λ (x : Mark). IsFree (Rattle.run_model.specs.After.completed x)) (sym e) tt
 
 pub noted_free : (A : Inputs) (s : State) (a b c d : ℕ) → s.mark ≡ marks.Audit → IsFree (after A s (entries.Owners a b c d)).mark
 unfolding after
-noted_free A s a b c d e = subst (λ (x : Mark). IsFree (Rattle.flat_model.specs.After.audited x)) (sym e) tt
+noted_free A s a b c d e = subst (λ (x : Mark). IsFree (Rattle.run_model.specs.After.audited x)) (sym e) tt
 
 pub hands_stand : (A : Inputs) (s : State) (count : ℕ) (b : Bool) → OwnsFrames s.place → s.place.due ≡ [] → s.mark ≡ marks.Hands count → MarkStands (after A s (move_by b)) (after A s (move_by b)).mark
 unfolding after
-hands_stand A s count true o d e = subst (λ (x : Mark). MarkStands (after A s entries.Done) (Rattle.flat_model.specs.After.completed x)) (sym e) (let t : Steady s.place (done s.place) = done_steady s.place o in t.due ∙ d)
-hands_stand A s count false o d e = subst (λ (x : Mark). MarkStands (after A s (entries.Hands 1)) (Rattle.flat_model.specs.After.moved_on 1 x)) (sym e) (let t : Stays s.place (hand_move s.place (locked A s)) = move_stays s.place (locked A s) in t.due ∙ d)
+hands_stand A s count true o d e = subst (λ (x : Mark). MarkStands (after A s entries.Done) (Rattle.run_model.specs.After.completed x)) (sym e) (let t : Steady s.place (done s.place) = done_steady s.place o in t.due ∙ d)
+hands_stand A s count false o d e = subst (λ (x : Mark). MarkStands (after A s (entries.Hands 1)) (Rattle.run_model.specs.After.moved_on 1 x)) (sym e) (let t : Stays s.place (hand_move s.place (locked A s)) = move_stays s.place (locked A s) in t.due ∙ d)
 
 pub put_stands : (A : Inputs) (s : State) (pid sid : ℕ) → OwnsFrames s.place → s.place.due ≡ [] → s.mark ≡ marks.PutOut pid → holds_some (process_of s.point.flat pid) ≡ true → is_out s.place pid ≡ false → MarkStands (after A s (put_out_unit s.place pid sid)) (after A s (put_out_unit s.place pid sid)).mark
 unfolding after
 put_stands A s pid sid o d e h r = unit_case (λ (u : Entry). MarkStands (after A s u) (after A s u).mark) s.place pid sid
-    (λ t ts z. subst (λ (x : Mark). MarkStands (after A s entries.Done) (Rattle.flat_model.specs.After.completed x)) (sym e) (let y : Steady s.place (done s.place) = done_steady s.place o in (y.due ∙ d, h, same_out s.place (done s.place) pid (done_residents s.place) ∙ r)))
+    (λ t ts z. subst (λ (x : Mark). MarkStands (after A s entries.Done) (Rattle.run_model.specs.After.completed x)) (sym e) (let y : Steady s.place (done s.place) = done_steady s.place o in (y.due ∙ d, h, same_out s.place (done s.place) pid (done_residents s.place) ∙ r)))
     (λ v x y z. subst (MarkStands (after A s (entries.Put v (Rattle.page_model.specs.Runs.run_put s.place v).n))) (sym e)
     (let t : Steady s.place (put_step s.place v (pages_from v (number_of v) (Rattle.page_model.specs.Runs.run_put s.place v).n)) = put_steady s.place v (pages_from v (number_of v) (Rattle.page_model.specs.Runs.run_put s.place v).n) in (t.due ∙ d, h, same_out s.place (put_step s.place v (pages_from v (number_of v) (Rattle.page_model.specs.Runs.run_put s.place v).n)) pid (put_residents s.place v (pages_from v (number_of v) (Rattle.page_model.specs.Runs.run_put s.place v).n)) ∙ r)))
-    (λ x y. subst (λ (z : Mark). MarkStands (after A s (entries.SwapOut pid)) (Rattle.flat_model.specs.After.put_out z)) (sym e) tt)
+    (λ x y. subst (λ (z : Mark). MarkStands (after A s (entries.SwapOut pid)) (Rattle.run_model.specs.After.put_out z)) (sym e) tt)
 
 -- A line of the schedule.
 

@@ -2,23 +2,23 @@
 use Rattle.std.proofs.Common.{◌≡◌, ◌≢◌, inl, inr, ℕ, Bool, true, false, List, Option, Some, None, refl, sym, ap, ◌∙◌, subst}
 use Rattle.std.proofs.lemmas.Bool.{cases_eq}
 use Rattle.vm_facts.specs.Answers.{ByteWrite}
-use Rattle.vm_facts.specs.Flat.{Space, Holding, Holds, Lends, Zombie, Process, FlatState}
+use Rattle.flat_state.specs.Space.{Space}
+use Rattle.flat_state.specs.Flat.{Holding, Holds, Lends, Zombie, Process, FlatState, NamedImage, image_numbered, process_of}
 use Rattle.vm_facts.specs.declared.regs.Regs.{Regs}
-use Rattle.page_model.specs.declared.change.Change.{Change}
-use Rattle.page_model.specs.declared.change.Change.TheVariants.{Keep, Resize, Fork, Lend, Exec, Reap, Sleep, End}
-use Rattle.page_model.specs.Flat.{NamedImage, image_numbered, process_of}
-use Rattle.page_model.specs.Change.{apply_change, apply_writes}
+use Rattle.flat_state.specs.declared.change.Change.{Change}
+use Rattle.flat_state.specs.declared.change.Change.TheVariants.{Keep, Resize, Fork, Lend, Exec, Reap, Sleep, End}
+use Rattle.flat_state.specs.Change.{apply_change, apply_writes, NamesChild}
 use Rattle.page_model.specs.Placement.{Placement, Residence}
 use Rattle.page_model.specs.Place.{place_change, enter_image, give_up_unless}
 use Rattle.page_model.specs.Moves.{drop_all}
 use Rattle.page_model.specs.Swapper.{is_out, residence_of}
-use Rattle.page_model.specs.Kernel.{AreRegs}
-use Rattle.page_laws.specs.FlatStands.{OutHold, MayChange, holds_some}
-use Rattle.page_laws.proofs.OwnsChanges.{dropped_pages}
-use Rattle.page_laws.proofs.KernelShapes.{Shaped, drop_all_shaped}
-use Rattle.page_laws.proofs.KernelForks.{out_begun}
-use Rattle.page_laws.proofs.KernelGone.{Gone, gone_unless}
-use Rattle.page_laws.proofs.KernelEnds.{out_ended, out_gone}
+use Rattle.kernel_model.specs.UPage.{AreRegs}
+use Rattle.kernel_model.specs.Stands.{OutHold, holds_some}
+use Rattle.page_laws.proofs.Ownership.Changes.{dropped_pages}
+use Rattle.kernel_laws.proofs.Machine.Shapes.{Shaped, drop_all_shaped}
+use Rattle.kernel_laws.proofs.Machine.Forks.{out_begun}
+use Rattle.kernel_laws.proofs.Machine.Gone.{Gone, gone_unless}
+use Rattle.kernel_laws.proofs.Machine.Ends.{out_ended, out_gone}
 use Rattle.run_laws.specs.Machine.{OutRegs}
 use Rattle.run_laws.proofs.Registered.{FoundRegs, writes_stay, change_stays}
 
@@ -49,7 +49,7 @@ change_out images p pid sid b next at (End status) n e =
 pub out_holder : (p : Placement) (flat : FlatState) (n : ℕ) → OutHold p flat → is_out p n ≡ true → (x : Process) × (t : Space) × (process_of flat n ≡ Some x) × (x.holding ≡ Holds t)
 out_holder p flat n o e = go (process_of flat n) refl (o n e)
   where
-    holding : (x : Process) → process_of flat n ≡ Some x → (h : Holding) → x.holding ≡ h → Rattle.page_model.specs.Flat.holds_space h ≡ true → (x : Process) × (t : Space) × (process_of flat n ≡ Some x) × (x.holding ≡ Holds t)
+    holding : (x : Process) → process_of flat n ≡ Some x → (h : Holding) → x.holding ≡ h → Rattle.flat_state.specs.Flat.holds_space h ≡ true → (x : Process) × (t : Space) × (process_of flat n ≡ Some x) × (x.holding ≡ Holds t)
     holding x f (Holds t) h z = (x, t, f, h)
     holding x f (Lends sid child) h z = absurd cc
     holding x f (Zombie status) h z = absurd cc
@@ -59,12 +59,12 @@ out_holder p flat n o e = go (process_of flat n) refl (o n e)
     go (Some x) f z = holding x f x.holding refl z
 
 -- their registers stay
-pub regs_stay : (images : List NamedImage) (flat : FlatState) (p r : Placement) (pid : ℕ) (ws : List ByteWrite) (regs : Regs) (change : Change) → is_out p pid ≡ false → OutHold p flat → MayChange (apply_writes flat pid ws) change → ((n : ℕ) → is_out r n ≡ true → is_out p n ≡ true) → OutRegs p flat
+pub regs_stay : (images : List NamedImage) (flat : FlatState) (p r : Placement) (pid : ℕ) (ws : List ByteWrite) (regs : Regs) (change : Change) → is_out p pid ≡ false → OutHold p flat → NamesChild (apply_writes flat pid ws) change → ((n : ℕ) → is_out r n ≡ true → is_out p n ≡ true) → OutRegs p flat
     → OutRegs r (apply_change images (apply_writes flat pid ws) pid regs change)
 regs_stay images flat p r pid ws regs change inside o may was old n a e f =
     let x = out_holder p flat n o (was n e) in
     let other : pid ≢ n = λ i. (let z : true ≡ false = sym (was n e) ∙ ap (is_out p) (sym i) ∙ inside in cc) in
     let y : FoundRegs (apply_change images (apply_writes flat pid ws) pid regs change).processes n x.1 x.0.regs =
     change_stays images (apply_writes flat pid ws) pid regs change n x.1 x.0.regs may other (writes_stay flat pid ws n x.1 x.0.regs other (record { process = x.0; here = x.2; holds = x.3; regs = refl })) in
-    let same : y.process ≡ a = Rattle.page_laws.proofs.Local.some_is y.process a (sym y.here ∙ f) in
+    let same : y.process ≡ a = Rattle.page_laws.proofs.Lists.Local.some_is y.process a (sym y.here ∙ f) in
     subst AreRegs (sym y.regs ∙ ap (λ (q : Process). q.regs) same) (old n x.0 (was n e) x.2)

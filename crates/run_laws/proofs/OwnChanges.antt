@@ -1,44 +1,47 @@
 -- A change of a process that holds its own space, or doesn't give it up, leaves what stands.
 use Rattle.std.proofs.Common.{◌≡◌, ◌≢◌, ℕ, Bool, true, false, List, [], ◌∷◌, ◌++◌, length, Option, Some, None, Ok, refl, sym, ap, ◌∙◌, subst}
-use Rattle.vm_facts.specs.Flat.{Space, Holds, Process, FlatState}
+use Rattle.flat_state.specs.Space.{Space}
+use Rattle.flat_state.specs.Flat.{Holds, Process, FlatState, NamedImage, Inputs, process_of, spaces_of}
 use Rattle.vm_facts.specs.declared.regs.Regs.{Regs}
 use Rattle.vm_facts.specs.declared.entry.Entry.{Entry}
 use Rattle.swap_book.specs.Holdings.{Holdings}
 use Rattle.swap_book.specs.Placing.{place_all}
-use Rattle.page_model.specs.declared.change.Change.{Change}
-use Rattle.page_model.specs.declared.change.Change.TheVariants.{Keep, Resize, Fork, Lend, Exec, Reap, Sleep, End}
-use Rattle.page_model.specs.Flat.{NamedImage, Inputs, process_of}
-use Rattle.page_model.specs.Change.{apply_change}
-use Rattle.page_model.specs.Journal.{append}
+use Rattle.flat_state.specs.declared.change.Change.{Change}
+use Rattle.flat_state.specs.declared.change.Change.TheVariants.{Keep, Resize, Fork, Lend, Exec, Reap, Sleep, End}
+use Rattle.flat_state.specs.Change.{apply_change, NamesChild}
+use Rattle.flat_state.specs.Journal.{append}
 use Rattle.page_model.specs.Pages.{SpacePages, numbered}
 use Rattle.page_model.specs.Placement.{Placement, space_number, image_of, sharers}
 use Rattle.page_model.specs.Place.{is_borrower, place_change}
 use Rattle.page_model.specs.Dues.{DueStand}
-use Rattle.page_model.specs.Conditions.{HaveParts, CanChange}
+use Rattle.page_model.specs.Conditions.{HaveParts, CanChange, ApartFrom}
 use Rattle.page_model.specs.Swapper.{is_out}
 use Rattle.page_model.specs.Ownership.{OneOwner}
-use Rattle.page_model.specs.Kernel.{Kernel, Proc, Life, New, Fits, AllFit, HoldsSpace, SameTables, Sound, lives, lives_in, DataFits, spaces_of}
-use Rattle.page_model.specs.FlatStep.{flat_step, holdings_after, space_of_life, gave_back, life_of_proc, with_proc, child_proc}
-use Rattle.page_laws.specs.Asks.{asked}
-use Rattle.page_laws.specs.Taken.{MayReap, ApartFrom}
-use Rattle.page_laws.specs.Numbers.{Numbered, TakesNext, SettlesFor, ReadyFor}
-use Rattle.page_laws.specs.Start.{ImageFits, ImagesFit}
-use Rattle.page_laws.specs.FlatStands.{IsNumbered, Stands, MayChange}
-use Rattle.page_laws.proofs.Local.{none_some}
-use Rattle.page_laws.proofs.Numbered.{pushed_new, pushed_found}
-use Rattle.page_laws.proofs.Sounds.{pass_sound}
-use Rattle.page_laws.proofs.Numbers.{flat_numbered, pass_numbered}
-use Rattle.page_laws.proofs.Allowed.{ready_sound, may_change}
-use Rattle.page_laws.proofs.CoupledReady.{coupled_ready, coupled_reaps}
-use Rattle.page_laws.proofs.SoundChanges.{Unhanded, change_unhanded}
-use Rattle.page_laws.proofs.ServeStands.{SameHands}
-use Rattle.page_laws.proofs.DueChanges.{change_due}
-use Rattle.page_laws.proofs.KernelForks.{fit_image, next_new, next_pid_none, kept_none}
-use Rattle.page_laws.proofs.KernelTables.{kept_pid}
-use Rattle.page_laws.proofs.FlatLists.{pid_of}
-use Rattle.page_laws.proofs.ProcTables.{Stepping, stepping, by_life, step_is, with_at, with_not}
-use Rattle.page_laws.proofs.TablesThrough.{keep_tables, sleep_tables, reap_tables, resize_tables, fork_tables, lend_tables, exec_tables, end_tables}
-use Rattle.page_laws.proofs.KernelStandsChanges.{keep_stands, sleep_stands, reap_stands, resize_stands, fork_stands, lend_stands, exec_stands, end_stands}
+use Rattle.kernel_model.specs.Kernel.{Kernel, Proc, Life, New, HoldsSpace}
+use Rattle.kernel_model.specs.Coupled.{Fits, AllFit, SameTables}
+use Rattle.kernel_model.specs.Sound.{Sound, lives, lives_in, DataFits}
+use Rattle.kernel_model.specs.ChangeStep.{change_step, holdings_after, space_of_life, gave_back, life_of_proc, with_proc, child_proc}
+use Rattle.kernel_model.specs.Asks.{asked, WantsThese}
+use Rattle.kernel_model.specs.Taken.{MayReap}
+use Rattle.kernel_model.specs.Numbers.{Numbered, TakesNext, SettlesFor, ReadyFor}
+use Rattle.kernel_model.specs.Start.{ImageFits, ImagesFit}
+use Rattle.flat_state.specs.Numbers.{IsNumbered}
+use Rattle.kernel_model.specs.Stands.{Stands}
+use Rattle.page_laws.proofs.Lists.Local.{none_some}
+use Rattle.kernel_laws.proofs.Flat.Numbered.{pushed_new, pushed_found}
+use Rattle.kernel_laws.proofs.Sound.Steps.{pass_sound, pass_lives}
+use Rattle.kernel_laws.proofs.Sound.NumbersApart.{flat_numbered, pass_numbered}
+use Rattle.kernel_laws.proofs.Sound.Allowed.{ready_sound, may_change, wants_these}
+use Rattle.kernel_laws.proofs.Machine.Ready.{coupled_ready, coupled_reaps}
+use Rattle.kernel_laws.proofs.Sound.Changes.{Unhanded, change_unhanded}
+use Rattle.page_laws.proofs.Ends.Hands.{SameHands}
+use Rattle.page_laws.proofs.Due.Changes.{change_due}
+use Rattle.kernel_laws.proofs.Machine.Forks.{fit_image, next_new, next_pid_none, kept_none}
+use Rattle.kernel_laws.proofs.Machine.Tables.{kept_pid}
+use Rattle.kernel_laws.proofs.Flat.Lists.{pid_of}
+use Rattle.kernel_laws.proofs.Machine.Processes.{Stepping, stepping, by_life, step_is, with_at, with_not}
+use Rattle.kernel_laws.proofs.Machine.Through.{keep_tables, sleep_tables, reap_tables, resize_tables, fork_tables, lend_tables, exec_tables, end_tables}
+use Rattle.kernel_laws.proofs.Stands.Changes.{keep_stands, sleep_stands, reap_stands, resize_stands, fork_stands, lend_stands, exec_stands, end_stands}
 use Rattle.flat_laws.proofs.Asking.{own_space, shared_same, no_sharers, some_sharers, change_same}
 use Rattle.flat_model.specs.Asked.{is_shared, given_up, change_wanted}
 use Rattle.run_laws.specs.Standing.{machine_of, EachOnce, Placed, ExecFits, Own}
@@ -46,9 +49,6 @@ use Rattle.run_laws.specs.Machine.{keeps_step as next_of}
 use Rattle.run_laws.proofs.Bridge.{from_machine}
 use Rattle.run_laws.proofs.Changes.{given_same, change_once}
 use Rattle.run_laws.proofs.Living.{LivedOr, BackTo, flat_back, back_from}
-use Rattle.page_laws.proofs.Allowed.{wants_these}
-use Rattle.page_laws.proofs.Sounds.{pass_lives}
-use Rattle.page_laws.specs.Asks.{WantsThese}
 
 -- Who keeps a space does with it what the owner does.
 
@@ -88,7 +88,7 @@ end_false true status o = absurd o
 end_false false status o = refl
 
 pub own_told : (A : Inputs) (k : Kernel) (flat : FlatState) (pid : ℕ) (regs : Regs) (e : Entry) (q : Process) (s : Space) (b : Bool) (change : Change) → ImagesFit A.images → IsNumbered flat → process_of flat pid ≡ Some q → q.holding ≡ Holds s → is_borrower flat.processes pid ≡ b → Own b change
-    → is_out k.place pid ≡ false → k.place.due ≡ [] → MayChange flat change → ExecFits A.images change → SameTables k flat → Stands A.images k flat → Told A (next_of A.images k pid regs e change) (apply_change A.images flat pid regs change)
+    → is_out k.place pid ≡ false → k.place.due ≡ [] → NamesChild flat change → ExecFits A.images change → SameTables k flat → Stands A.images k flat → Told A (next_of A.images k pid regs e change) (apply_change A.images flat pid regs change)
 own_told A k flat pid regs e q s b Keep fit nums f h w o out due m x t st = record { tables = keep_tables k A.images flat pid regs e q s nums f h t; stands = keep_stands A.images k flat pid regs e q s t f h out st }
 own_told A k flat pid regs e q s b (Resize d r) fit nums f h w o out due m x t st = record { tables = resize_tables k A.images flat pid regs e d r q s nums f h t; stands = resize_stands A.images k flat pid regs e d r q s t f h out st }
 own_told A k flat pid regs e q s b (Fork child) fit nums f h w o out due m x t st = subst (λ (c : ℕ). Told A (next_of A.images k pid regs e (Fork c)) (apply_change A.images flat pid regs (Fork c))) (sym m)
@@ -104,7 +104,7 @@ own_told A k flat pid regs e q s b (End status) fit nums f h w o out due m x t s
 
 -- What a process asks of its machine.
 
-pub takes_next : (k : Kernel) (flat : FlatState) (change : Change) → SameTables k flat → MayChange flat change → TakesNext k change
+pub takes_next : (k : Kernel) (flat : FlatState) (change : Change) → SameTables k flat → NamesChild flat change → TakesNext k change
 takes_next k flat Keep t m = tt
 takes_next k flat (Resize d s) t m = tt
 takes_next k flat (Fork child) t m = m ∙ sym t.next_pid
@@ -114,7 +114,7 @@ takes_next k flat (Reap child) t m = tt
 takes_next k flat Sleep t m = tt
 takes_next k flat (End status) t m = tt
 
-pub may_reap : (k : Kernel) (flat : FlatState) (change : Change) → SameTables k flat → MayChange flat change → MayReap k.processes change
+pub may_reap : (k : Kernel) (flat : FlatState) (change : Change) → SameTables k flat → NamesChild flat change → MayReap k.processes change
 may_reap k flat Keep t m = tt
 may_reap k flat (Resize d s) t m = tt
 may_reap k flat (Fork child) t m = tt
@@ -126,10 +126,10 @@ may_reap k flat (End status) t m = tt
 
 -- parent and child live before the space passes
 pub lend_lives : (images : List NamedImage) (k : Kernel) (flat : FlatState) (pid : ℕ) (regs : Regs) (e : Entry) (q : Process) (s : Space) → IsNumbered flat → process_of flat pid ≡ Some q → q.holding ≡ Holds s → SameTables k flat
-    → (lives (flat_step images k pid regs e (Lend flat.next_pid)).processes pid ≡ true) × (lives (flat_step images k pid regs e (Lend flat.next_pid)).processes flat.next_pid ≡ true)
+    → (lives (change_step images k pid regs e (Lend flat.next_pid)).processes pid ≡ true) × (lives (change_step images k pid regs e (Lend flat.next_pid)).processes flat.next_pid ≡ true)
 lend_lives images k flat pid regs e q s nums f h t =
     subst (λ (x : Kernel). (lives x.processes pid ≡ true) × (lives x.processes flat.next_pid ≡ true)) (sym (step_is images k pid regs e (Lend flat.next_pid) g.proc (HoldsSpace s.sid) g.kept g.life))
-    (ap lives_in parent_kept ∙ ap Rattle.page_model.specs.Kernel.has_life g.life, ap lives_in child_kept)
+    (ap lives_in parent_kept ∙ ap Rattle.kernel_model.specs.Sound.has_life g.life, ap lives_in child_kept)
   where
     g : Stepping k flat pid q s
     g = stepping k flat pid q s t f h
@@ -157,14 +157,14 @@ pub record Kept (A : Inputs) (l : Kernel) : Type 0 where
   pub sound : Sound A.swap_blocks l
   pub numbered : Numbered l
 
-pub own_kept : (A : Inputs) (k : Kernel) (flat : FlatState) (pid : ℕ) (regs : Regs) (e : Entry) (q : Process) (s : Space) (change : Change) → IsNumbered flat → process_of flat pid ≡ Some q → q.holding ≡ Holds s → SameTables k flat → MayChange flat change
-    → Sound A.swap_blocks (flat_step A.images k pid regs e change) → Numbered (flat_step A.images k pid regs e change) → Kept A (next_of A.images k pid regs e change)
+pub own_kept : (A : Inputs) (k : Kernel) (flat : FlatState) (pid : ℕ) (regs : Regs) (e : Entry) (q : Process) (s : Space) (change : Change) → IsNumbered flat → process_of flat pid ≡ Some q → q.holding ≡ Holds s → SameTables k flat → NamesChild flat change
+    → Sound A.swap_blocks (change_step A.images k pid regs e change) → Numbered (change_step A.images k pid regs e change) → Kept A (next_of A.images k pid regs e change)
 own_kept A k flat pid regs e q s Keep nums f h t m so n = record { sound = so; numbered = n }
 own_kept A k flat pid regs e q s (Resize d r) nums f h t m so n = record { sound = so; numbered = n }
 own_kept A k flat pid regs e q s (Fork child) nums f h t m so n = record { sound = so; numbered = n }
 own_kept A k flat pid regs e q s (Lend child) nums f h t m so n =
-    let l = subst (λ (c : ℕ). (lives (flat_step A.images k pid regs e (Lend c)).processes pid ≡ true) × (lives (flat_step A.images k pid regs e (Lend c)).processes c ≡ true)) (sym m) (lend_lives A.images k flat pid regs e q s nums f h t) in
-    record { sound = pass_sound A.swap_blocks (flat_step A.images k pid regs e (Lend child)) pid child l.0 l.1 so; numbered = pass_numbered (flat_step A.images k pid regs e (Lend child)) pid child n }
+    let l = subst (λ (c : ℕ). (lives (change_step A.images k pid regs e (Lend c)).processes pid ≡ true) × (lives (change_step A.images k pid regs e (Lend c)).processes c ≡ true)) (sym m) (lend_lives A.images k flat pid regs e q s nums f h t) in
+    record { sound = pass_sound A.swap_blocks (change_step A.images k pid regs e (Lend child)) pid child l.0 l.1 so; numbered = pass_numbered (change_step A.images k pid regs e (Lend child)) pid child n }
 own_kept A k flat pid regs e q s (Exec image top) nums f h t m so n = record { sound = so; numbered = n }
 own_kept A k flat pid regs e q s (Reap child) nums f h t m so n = record { sound = so; numbered = n }
 own_kept A k flat pid regs e q s Sleep nums f h t m so n = record { sound = so; numbered = n }
@@ -176,7 +176,7 @@ pub record Lands (A : Inputs) (k : Kernel) (pid sid : ℕ) (e : Entry) (change :
   pub holdings : l.holdings ≡ holdings_after k.holdings k.place l.place pid sid false change
   pub journal : l.journal ≡ append k.journal e
 
-pub next_lands : (A : Inputs) (k : Kernel) (pid sid : ℕ) (regs : Regs) (e : Entry) (change : Change) → Lands A k pid sid e change (flat_step A.images k pid regs e change) → Lands A k pid sid e change (next_of A.images k pid regs e change)
+pub next_lands : (A : Inputs) (k : Kernel) (pid sid : ℕ) (regs : Regs) (e : Entry) (change : Change) → Lands A k pid sid e change (change_step A.images k pid regs e change) → Lands A k pid sid e change (next_of A.images k pid regs e change)
 next_lands A k pid sid regs e Keep l = l
 next_lands A k pid sid regs e (Resize d r) l = l
 next_lands A k pid sid regs e (Fork child) l = l
@@ -194,14 +194,14 @@ own_lands A k flat pid regs e q s change f h t =
     (subst (λ (n : ℕ). Lands A k n s.sid e change (by_life A.images k (record g.proc { regs = regs }) (HoldsSpace s.sid) e change)) g.pid_is (record { place = refl; holdings = refl; journal = refl })))
 
 -- who lives behind it
-pub own_lived : (A : Inputs) (k : Kernel) (flat : FlatState) (pid : ℕ) (regs : Regs) (e : Entry) (q : Process) (s : Space) (change : Change) (n : ℕ) → IsNumbered flat → process_of flat pid ≡ Some q → q.holding ≡ Holds s → SameTables k flat → MayChange flat change → WantsThese k pid change
+pub own_lived : (A : Inputs) (k : Kernel) (flat : FlatState) (pid : ℕ) (regs : Regs) (e : Entry) (q : Process) (s : Space) (change : Change) (n : ℕ) → IsNumbered flat → process_of flat pid ≡ Some q → q.holding ≡ Holds s → SameTables k flat → NamesChild flat change → WantsThese k pid change
     → lives (next_of A.images k pid regs e change).processes n ≡ true → LivedOr k.processes change pid n
 own_lived A k flat pid regs e q s Keep n nums f h t m w l = flat_back A.images k pid regs e Keep n w l
 own_lived A k flat pid regs e q s (Resize d r) n nums f h t m w l = flat_back A.images k pid regs e (Resize d r) n w l
 own_lived A k flat pid regs e q s (Fork child) n nums f h t m w l = flat_back A.images k pid regs e (Fork child) n w l
 own_lived A k flat pid regs e q s (Lend child) n nums f h t m w l =
-    let x = subst (λ (c : ℕ). (lives (flat_step A.images k pid regs e (Lend c)).processes pid ≡ true) × (lives (flat_step A.images k pid regs e (Lend c)).processes c ≡ true)) (sym m) (lend_lives A.images k flat pid regs e q s nums f h t) in
-    flat_back A.images k pid regs e (Lend child) n w (sym (pass_lives (flat_step A.images k pid regs e (Lend child)) pid child x.0 x.1 n) ∙ l)
+    let x = subst (λ (c : ℕ). (lives (change_step A.images k pid regs e (Lend c)).processes pid ≡ true) × (lives (change_step A.images k pid regs e (Lend c)).processes c ≡ true)) (sym m) (lend_lives A.images k flat pid regs e q s nums f h t) in
+    flat_back A.images k pid regs e (Lend child) n w (sym (pass_lives (change_step A.images k pid regs e (Lend child)) pid child x.0 x.1 n) ∙ l)
 own_lived A k flat pid regs e q s (Exec image top) n nums f h t m w l = flat_back A.images k pid regs e (Exec image top) n w l
 own_lived A k flat pid regs e q s (Reap child) n nums f h t m w l = flat_back A.images k pid regs e (Reap child) n w l
 own_lived A k flat pid regs e q s Sleep n nums f h t m w l = flat_back A.images k pid regs e Sleep n w l
@@ -222,7 +222,7 @@ pub record Changing (A : Inputs) (flat : FlatState) (p : Placement) (hs found : 
   pub holds : q.holding ≡ Holds s
   pub resident : is_out p pid ≡ false
   pub clear : p.due ≡ []
-  pub may : MayChange flat change
+  pub may : NamesChild flat change
   pub execs : ExecFits A.images change
   pub pieces : place_all A.swap_blocks hs (change_wanted A.images flat s change) ≡ Ok found
 
@@ -340,7 +340,7 @@ own_change A flat p hs found pid regs j e q s b change c w o settles st = record
     frames = subst (λ (x : Placement). length x.holds ≡ A.frames) (sym lands.place) (hands.frames ∙ st.frames)
 
     numbers : IsNumbered after
-    numbers = Rattle.page_laws.proofs.FlatNumbers.changes_numbered A.images flat pid regs change q s c.found_process c.holds c.may c.numbers
+    numbers = Rattle.kernel_laws.proofs.Flat.Numbers.changes_numbered A.images flat pid regs change q s c.found_process c.holds c.may c.numbers
 
     shared : Rattle.flat_model.specs.Asked.is_shared after s.image ≡ Rattle.flat_laws.proofs.Asking.is_some_of Rattle.flat_laws.proofs.Asking.image_of_pages s.image l.place.spaces
     shared = shared_same l after s.image kept.numbered numbers told.tables

@@ -1,14 +1,14 @@
 -- A paging entry leaves what stands.
 use Rattle.std.proofs.Common.{◌≡◌, ◌⊎◌, inl, inr, ℕ, zero, suc, ◌*◌, ◌==◌, ◌≤◌, Bool, true, false, cond, List, [], ◌∷◌, length, refl, sym, ap, ◌∙◌, subst}
 use Rattle.std.proofs.lemmas.List.{length-replicate}
-use Rattle.vm_facts.specs.Flat.{FlatState}
+use Rattle.flat_state.specs.Flat.{FlatState, Inputs, process_of, spaces_of}
 use Rattle.vm_facts.specs.declared.page.Page.{Page}
 use Rattle.vm_facts.specs.declared.page.Page.TheVariants.{Text}
 use Rattle.vm_facts.specs.declared.entry.Entry.{Entry}
 use Rattle.vm_facts.specs.declared.entry.Entry.TheVariants as entries
 use Rattle.swap_book.specs.Holdings.{Holdings}
-use Rattle.page_model.specs.Flat.{Inputs, process_of}
-use Rattle.page_model.specs.Pages.{changed, numbered, pages_from, number_of, same_page}
+use Rattle.page_model.specs.Pages.{changed, numbered}
+use Rattle.flat_state.specs.PageNames.{pages_from, number_of, same_page}
 use Rattle.page_model.specs.Placement.{Placement, Residence, Due, due_page, space_number, slots_of}
 use Rattle.page_model.specs.Moves.{begin, done, reclaim, get_run}
 use Rattle.page_model.specs.Hands.{hand_moves, hand_move}
@@ -16,21 +16,22 @@ use Rattle.page_model.specs.Place.{due_after, filled, put_step, place_entry}
 use Rattle.page_model.specs.Serve.{read_errand}
 use Rattle.page_model.specs.Swapper.{is_out, residence_of}
 use Rattle.page_model.specs.Ownership.{OwnsFrames, OneOwner}
-use Rattle.page_model.specs.Kernel.{Sound, SameTables, lives, spaces_of}
+use Rattle.kernel_model.specs.Sound.{Sound, lives}
+use Rattle.kernel_model.specs.Coupled.{SameTables}
 use Rattle.page_model.specs.Rank.{HandsStand}
-use Rattle.page_laws.specs.Numbers.{EachBelow, AllDiffer, Numbered}
-use Rattle.page_laws.specs.FlatStands.{Stands, holds_some}
-use Rattle.page_laws.proofs.Numbered.{eq_is}
-use Rattle.page_laws.proofs.Sounds.{KeepsHands, entry_keep}
-use Rattle.page_laws.proofs.Stays.{Steady, Stays, move_stays, done_steady}
-use Rattle.page_laws.proofs.Sames.{put_steady}
-use Rattle.page_laws.proofs.AsideSteps.{place_entry_one}
-use Rattle.page_laws.proofs.PartsKept.{entry_parts}
-use Rattle.page_laws.proofs.DueLaws.{entry_due, get_due_list}
-use Rattle.page_laws.proofs.Numbers.{entry_numbers}
-use Rattle.page_laws.proofs.FlatLists.{sid_of}
-use Rattle.page_laws.proofs.KernelStands.{reclaim_due}
-use Rattle.page_laws.proofs.KernelShapes.{Shaped, shape_in, shaped_self, fit_shapes, filled_shaped, get_run_shaped, reclaim_shaped, put_step_shaped, moves_shaped, done_shaped}
+use Rattle.kernel_model.specs.Numbers.{EachBelow, AllDiffer, Numbered}
+use Rattle.kernel_model.specs.Stands.{Stands, holds_some}
+use Rattle.kernel_laws.proofs.Flat.Numbered.{eq_is}
+use Rattle.kernel_laws.proofs.Sound.Steps.{KeepsHands, entry_keep}
+use Rattle.page_laws.proofs.Moves.Stays.{Steady, Stays, move_stays, done_steady}
+use Rattle.page_laws.proofs.Bytes.Others.{put_steady}
+use Rattle.page_laws.proofs.Blocks.Steps.{place_entry_one}
+use Rattle.page_laws.proofs.Moves.Parts.{entry_parts}
+use Rattle.page_laws.proofs.Due.Entries.{entry_due, get_due_list}
+use Rattle.kernel_laws.proofs.Sound.NumbersApart.{entry_numbers}
+use Rattle.kernel_laws.proofs.Flat.Lists.{sid_of}
+use Rattle.kernel_laws.proofs.Stands.Steps.{reclaim_due}
+use Rattle.kernel_laws.proofs.Machine.Shapes.{Shaped, shape_in, shaped_self, fit_shapes, filled_shaped, get_run_shaped, reclaim_shaped, put_step_shaped, moves_shaped, done_shaped}
 use Rattle.run_laws.specs.Standing.{IsAllowed, machine_of, EachOnce, Placed}
 
 -- Who is resident.

@@ -5,14 +5,14 @@ use Rattle.vm_facts.specs.declared.page.PageState.{PageState}
 use Rattle.vm_facts.specs.declared.page.PageState.TheVariants.{Unfilled, Valid, Invalid, Coming, Going, OnSwap}
 use Rattle.vm_facts.specs.declared.entry.Entry.{Entry}
 use Rattle.vm_facts.specs.declared.entry.Entry.TheVariants as entries
-use Rattle.page_model.specs.Flat.{Inputs}
+use Rattle.flat_state.specs.Flat.{Inputs}
 use Rattle.page_model.specs.Pages.{Filling, Zeros, OfImage}
 use Rattle.page_model.specs.Placement.{Placement, Transfer, state_of, filling_of}
 use Rattle.page_model.specs.Serve.{force_entry, is_full, read_entry_if, bring_entry_by, feed_entry_by, serve_entry_by, serve_entry}
 use Rattle.page_model.specs.Swapper.{put_out_unit}
-use Rattle.page_laws.proofs.PutOuts.{unit_case}
+use Rattle.page_laws.proofs.Swapper.PuttingOut.{unit_case}
 use Rattle.flat_model.specs.Run.{process_of_entry}
-use Rattle.flat_model.specs.State.{State}
+use Rattle.run_model.specs.State.{State}
 use Rattle.run_laws.proofs.Paging.{Leaver}
 use Rattle.run_model.specs.Next.{when, fill_by, fill_unit, begins_write, move_by, move_unit, turn_of, next_turned, last_turned, line_or_turn, next_mark}
 

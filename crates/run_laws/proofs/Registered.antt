@@ -1,15 +1,12 @@
 -- Another process keeps its registers, where the list of processes changes.
 use Rattle.std.proofs.Common.{◌≡◌, ◌≢◌, ℕ, ◌==◌, Bool, true, false, cond, List, [], ◌∷◌, ◌++◌, not, map, filter, find, Option, Some, None, refl, sym, ap, ◌∙◌, arith}
 use Rattle.std.proofs.lemmas.Bool.Decides.{nat_tests}
-use Rattle.vm_facts.specs.Flat.{Space, Holding, Holds, Lends, Zombie, Process, FlatState}
+use Rattle.flat_state.specs.Space.{Space, puts}
+use Rattle.flat_state.specs.Flat.{Holding, Holds, Lends, Zombie, Process, FlatState, NamedImage, image_numbered, process_of, space_with}
 use Rattle.vm_facts.specs.declared.regs.Regs.{Regs}
-use Rattle.page_model.specs.Change.{replaced_by, replaced, returned_by, returned, lends_to, is_zombie_child}
-use Rattle.page_model.specs.declared.change.Change.{Change}
-use Rattle.page_model.specs.declared.change.Change.TheVariants.{Keep, Resize, Fork, Lend, Exec, Reap, Sleep, End}
-use Rattle.page_model.specs.Flat.{NamedImage, image_numbered, process_of, space_with}
-use Rattle.page_model.specs.Space.{puts}
-use Rattle.page_model.specs.Change.{changed, changed_by, changed_if, apply_change, apply_writes, wrote_by, wrote_if, with_process, without_process, given_back, orphaned, left, entered, child_of, resized, without_parent, awake}
-use Rattle.page_laws.specs.FlatStands.{MayChange}
+use Rattle.flat_state.specs.Change.{replaced_by, replaced, returned_by, returned, lends_to, is_zombie_child, changed, changed_by, changed_if, apply_change, apply_writes, wrote_by, wrote_if, with_process, without_process, given_back, orphaned, left, entered, child_of, resized, without_parent, awake, NamesChild}
+use Rattle.flat_state.specs.declared.change.Change.{Change}
+use Rattle.flat_state.specs.declared.change.Change.TheVariants.{Keep, Resize, Fork, Lend, Exec, Reap, Sleep, End}
 use Rattle.vm_facts.specs.Answers.{ByteWrite}
 use Rattle.flat_laws.proofs.Finding.{holder_is_none}
 use Rattle.flat_laws.proofs.Others.{number_of_found}
@@ -102,7 +99,7 @@ without_stays qs of pid s g other h =
 -- Changes.
 
 -- a zombie isn't one that holds a space
-zombie_apart : (F : FlatState) (child pid : ℕ) (s : Space) (g : Regs) → MayChange F (Reap child) → FoundRegs F.processes pid s g → child ≢ pid
+zombie_apart : (F : FlatState) (child pid : ℕ) (s : Space) (g : Regs) → NamesChild F (Reap child) → FoundRegs F.processes pid s g → child ≢ pid
 zombie_apart F child pid s g may found = λ same.
     let one : Some may.0 ≡ Some found.process = sym may.2 ∙ ap (λ (n : ℕ). process_of F n) same ∙ found.here in
     let it : may.0 ≡ found.process = cc in
@@ -124,7 +121,7 @@ entered_stays F p t image (Some named) top pid s g other h =
     found_returned p.pid t (with_process F record p { holding = Holds (space_with F.next_sid image named.image top) }).processes pid s g
     (found_replaced F.processes (record p { holding = Holds (space_with F.next_sid image named.image top) }) pid s g other h)
 
-changed_stays : (images : List NamedImage) (F : FlatState) (p : Process) (t : Space) (change : Change) (pid : ℕ) (s : Space) (g : Regs) → MayChange F change → p.pid ≢ pid → FoundRegs F.processes pid s g → FoundRegs (changed images F p t change).processes pid s g
+changed_stays : (images : List NamedImage) (F : FlatState) (p : Process) (t : Space) (change : Change) (pid : ℕ) (s : Space) (g : Regs) → NamesChild F change → p.pid ≢ pid → FoundRegs F.processes pid s g → FoundRegs (changed images F p t change).processes pid s g
 changed_stays images F p t Keep pid s g fits other h = found_replaced F.processes p pid s g other h
 changed_stays images F p t (Resize a b) pid s g fits other h = found_replaced F.processes (record p { holding = Holds (resized t a b) }) pid s g other h
 changed_stays images F p t (Fork child) pid s g fits other h =
@@ -142,7 +139,7 @@ changed_stays images F p t (End status) pid s g fits other h =
     (orphaned_stays (given_back (with_process F dead) p.pid t) p.pid pid s g
     (found_returned p.pid t (with_process F dead).processes pid s g (found_replaced F.processes dead pid s g other h)))
 
-pub change_stays : (images : List NamedImage) (F : FlatState) (of : ℕ) (regs : Regs) (change : Change) (pid : ℕ) (s : Space) (g : Regs) → MayChange F change → of ≢ pid → FoundRegs F.processes pid s g → FoundRegs (apply_change images F of regs change).processes pid s g
+pub change_stays : (images : List NamedImage) (F : FlatState) (of : ℕ) (regs : Regs) (change : Change) (pid : ℕ) (s : Space) (g : Regs) → NamesChild F change → of ≢ pid → FoundRegs F.processes pid s g → FoundRegs (apply_change images F of regs change).processes pid s g
 unfolding apply_change
 change_stays images F of regs change pid s g fits other h = go (process_of F of) refl
   where

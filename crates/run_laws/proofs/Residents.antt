@@ -1,33 +1,33 @@
 -- Each process that lives is resident, or out; and putting one out ends.
 use Rattle.std.proofs.Common.{◌≡◌, ◌≢◌, ◌⊎◌, inl, inr, ℕ, ◌+◌, ◌<◌, ◌==◌, Bool, true, false, cond, not, List, [], ◌∷◌, ◌++◌, map, filter, Option, Some, None, refl, sym, ap, ◌∙◌, subst}
-use Rattle.vm_facts.specs.Flat.{Process, FlatState}
+use Rattle.flat_state.specs.Flat.{Process, FlatState, NamedImage, Inputs, image_numbered, process_of, start_state, start_processes}
 use Rattle.vm_facts.specs.declared.page.Page.{Page}
 use Rattle.vm_facts.specs.declared.entry.Entry.{Entry}
 use Rattle.vm_facts.specs.declared.entry.Entry.TheVariants as entries
 use Rattle.swap_book.specs.Holdings.{Holdings}
-use Rattle.page_model.specs.declared.change.Change.{Change}
-use Rattle.page_model.specs.declared.change.Change.TheVariants.{Keep, Resize, Fork, Lend, Exec, Reap, Sleep, End}
-use Rattle.page_model.specs.Flat.{NamedImage, Inputs, image_numbered, process_of, start_state, start_processes}
-use Rattle.page_model.specs.Pages.{numbered, changed, pages_from, number_of}
+use Rattle.flat_state.specs.declared.change.Change.{Change}
+use Rattle.flat_state.specs.declared.change.Change.TheVariants.{Keep, Resize, Fork, Lend, Exec, Reap, Sleep, End}
+use Rattle.page_model.specs.Pages.{numbered, changed}
+use Rattle.flat_state.specs.PageNames.{pages_from, number_of}
 use Rattle.page_model.specs.Placement.{Placement, Residence, Starting, residents_from}
 use Rattle.page_model.specs.Moves.{touch, touch_all, drop_all}
 use Rattle.page_model.specs.Place.{is_borrower, space_of_process, place_entry, place_change, enter_image, give_up_unless}
 use Rattle.page_model.specs.Serve.{read_errand}
 use Rattle.page_model.specs.Swapper.{is_out, put_out_unit}
-use Rattle.page_model.specs.Kernel.{lives}
-use Rattle.page_laws.specs.Asks.{is_started}
-use Rattle.page_laws.specs.Start.{kept_of}
-use Rattle.page_laws.specs.PuttingOut.{IsResident, put_rank, EndsPuttingOut}
-use Rattle.page_laws.specs.FlatStands.{holds_some}
-use Rattle.page_laws.proofs.OwnsChanges.{dropped_pages}
-use Rattle.page_laws.proofs.KernelShapes.{Shaped, filled_shaped, get_run_shaped, reclaim_shaped, moves_shaped, put_step_shaped, done_shaped, touch_shaped, drop_all_shaped}
-use Rattle.page_laws.proofs.KernelGone.{Gone, gone_unless}
-use Rattle.page_laws.proofs.PutOuts.{unit_falls, put_out}
+use Rattle.kernel_model.specs.Sound.{lives}
+use Rattle.kernel_model.specs.Asks.{is_started}
+use Rattle.kernel_model.specs.Start.{kept_of, ImagesFit}
+use Rattle.page_model.specs.PuttingOut.{IsResident, put_rank, EndsPuttingOut}
+use Rattle.kernel_model.specs.Stands.{holds_some}
+use Rattle.page_laws.proofs.Ownership.Changes.{dropped_pages}
+use Rattle.kernel_laws.proofs.Machine.Shapes.{Shaped, filled_shaped, get_run_shaped, reclaim_shaped, moves_shaped, put_step_shaped, done_shaped, touch_shaped, drop_all_shaped}
+use Rattle.kernel_laws.proofs.Machine.Gone.{Gone, gone_unless}
+use Rattle.page_laws.proofs.Swapper.PuttingOut.{unit_falls, put_out}
 use Rattle.flat_model.specs.Run.{Point, process_of_entry, step_at}
-use Rattle.flat_model.specs.declared.mark.Mark.TheVariants as marks
-use Rattle.flat_model.specs.State.{State, starting, start}
-use Rattle.flat_model.specs.Wanted.{locked}
-use Rattle.flat_model.specs.After.{pages_written, place_at, after}
+use Rattle.run_model.specs.declared.mark.Mark.TheVariants as marks
+use Rattle.run_model.specs.State.{State, starting, start}
+use Rattle.run_model.specs.Wanted.{locked}
+use Rattle.run_model.specs.After.{pages_written, place_at, after}
 use Rattle.run_model.specs.Next.{or_else, due_unit, under, next_mark, next_unit}
 use Rattle.run_model.specs.Lawful.{Follows, Reaches}
 use Rattle.run_model.proofs.NextUnits.{kind_of}
@@ -43,7 +43,6 @@ use Rattle.run_laws.proofs.Sorts.{Sort, Pages, GoesIn, GoesOff, Says, Makes, sor
 use Rattle.run_laws.proofs.Beginning.{started_lives}
 use Rattle.run_laws.proofs.Execs.{execs_fit}
 use Rattle.run_laws.proofs.Wholes.{unit_run, start_run}
-use Rattle.page_laws.specs.Start.{ImagesFit}
 
 abbrev here : Residence → ℕ
 here r = r.pid
@@ -100,7 +99,7 @@ pushed_old (r ∷ rs) x n e = go (r.pid == n) e (pushed_old rs x n)
     go false z ih = ih z
 
 begun : (rs : List Residence) (child at n : ℕ) → (n ≡ child) ⊎ (numbered here n rs ≢ None) → numbered here n (rs ++ record { pid = child; out = false; since = at } ∷ []) ≢ None
-begun rs child at n (inl i) = λ z. (let y : false ≡ true = sym (pushed_old rs (record { pid = child; out = false; since = at }) n z).1 ∙ ap (λ (m : ℕ). child == m) i ∙ Rattle.page_laws.proofs.Numbered.eq_self child in cc)
+begun rs child at n (inl i) = λ z. (let y : false ≡ true = sym (pushed_old rs (record { pid = child; out = false; since = at }) n z).1 ∙ ap (λ (m : ℕ). child == m) i ∙ Rattle.kernel_laws.proofs.Flat.Numbered.eq_self child in cc)
 begun rs child at n (inr h) = λ z. h (pushed_old rs (record { pid = child; out = false; since = at }) n z).0
 
 ended_none : (rs : List Residence) (pid n : ℕ) → n ≢ pid → numbered here n (filter (λ (r : Residence). not (r.pid == pid)) rs) ≡ None → numbered here n rs ≡ None
@@ -109,12 +108,12 @@ ended_none (r ∷ rs) pid n d e = go (r.pid == pid) (r.pid == n) refl refl e (en
   where
     go : (b c : Bool) → (r.pid == pid) ≡ b → (r.pid == n) ≡ c → numbered here n (cond (not b) (r ∷ filter (λ (r : Residence). not (r.pid == pid)) rs) (filter (λ (r : Residence). not (r.pid == pid)) rs)) ≡ None
         → (numbered here n (filter (λ (r : Residence). not (r.pid == pid)) rs) ≡ None → numbered here n rs ≡ None) → cond c (Some r) (numbered here n rs) ≡ None
-    go true true i k z ih = absurd (d (sym (Rattle.page_laws.proofs.Numbered.eq_is r.pid n k) ∙ Rattle.page_laws.proofs.Numbered.eq_is r.pid pid i))
+    go true true i k z ih = absurd (d (sym (Rattle.kernel_laws.proofs.Flat.Numbered.eq_is r.pid n k) ∙ Rattle.kernel_laws.proofs.Flat.Numbered.eq_is r.pid pid i))
     go true false i k z ih = ih z
     go false true i k z ih = absurd (let y : Some r ≡ None = sym (ap (λ (c : Bool). cond c (Some r) (numbered here n (filter (λ (r : Residence). not (r.pid == pid)) rs))) k) ∙ z in cc)
     go false false i k z ih = ih (sym (ap (λ (c : Bool). cond c (Some r) (numbered here n (filter (λ (r : Residence). not (r.pid == pid)) rs))) k) ∙ z)
 
-pub change_resides : (images : List NamedImage) (p : Placement) (pid sid : ℕ) (b : Bool) (next at : ℕ) (change : Change) (n : ℕ) → Rattle.page_laws.proofs.Askings.IsChild change n ⊎ (IsResident p n × Lasting change pid n) → IsResident (place_change images p pid sid b next at change) n
+pub change_resides : (images : List NamedImage) (p : Placement) (pid sid : ℕ) (b : Bool) (next at : ℕ) (change : Change) (n : ℕ) → Rattle.kernel_laws.proofs.Pieces.Wanted.IsChild change n ⊎ (IsResident p n × Lasting change pid n) → IsResident (place_change images p pid sid b next at change) n
 change_resides images p pid sid b next at Keep n (inl c) = absurd c
 change_resides images p pid sid b next at Keep n (inr h) = h.0
 change_resides images p pid sid b next at (Resize d s) n (inl c) = absurd c
@@ -200,17 +199,17 @@ reached_resides A hs journal s c r =
 holder_lives : (flat : FlatState) (pid : ℕ) → holds_some (process_of flat pid) ≡ true → lives (map kept_of flat.processes) pid ≡ true
 holder_lives flat pid h = go flat.processes h
   where
-    one : (x : Rattle.vm_facts.specs.Flat.Holding) → Rattle.page_model.specs.Flat.holds_space x ≡ true → Rattle.page_model.specs.Kernel.has_life (Rattle.page_model.specs.Kernel.life_of x) ≡ true
-    one (Rattle.vm_facts.specs.Flat.Holds s) e = refl
-    one (Rattle.vm_facts.specs.Flat.Lends s c) e = absurd cc
-    one (Rattle.vm_facts.specs.Flat.Zombie s) e = absurd cc
+    one : (x : Rattle.flat_state.specs.Flat.Holding) → Rattle.flat_state.specs.Flat.holds_space x ≡ true → Rattle.kernel_model.specs.Sound.has_life (Rattle.kernel_model.specs.Kernel.life_of x) ≡ true
+    one (Rattle.flat_state.specs.Flat.Holds s) e = refl
+    one (Rattle.flat_state.specs.Flat.Lends s c) e = absurd cc
+    one (Rattle.flat_state.specs.Flat.Zombie s) e = absurd cc
 
     go : (ps : List Process) → holds_some (Rattle.std.specs.Prelude.find (λ (q : Process). q.pid == pid) ps) ≡ true → lives (map kept_of ps) pid ≡ true
     go [] e = absurd cc
     go (q ∷ ps) e = by (q.pid == pid) e (go ps)
       where
         by : (b : Bool) → holds_some (cond b (Some q) (Rattle.std.specs.Prelude.find (λ (q : Process). q.pid == pid) ps)) ≡ true → (holds_some (Rattle.std.specs.Prelude.find (λ (q : Process). q.pid == pid) ps) ≡ true → lives (map kept_of ps) pid ≡ true)
-            → Rattle.page_model.specs.Kernel.lives_in (cond b (Some (kept_of q)) (numbered (λ (x : Rattle.page_model.specs.Kernel.Proc). x.pid) pid (map kept_of ps))) ≡ true
+            → Rattle.kernel_model.specs.Sound.lives_in (cond b (Some (kept_of q)) (numbered (λ (x : Rattle.kernel_model.specs.Kernel.Proc). x.pid) pid (map kept_of ps))) ≡ true
         by true z ih = one q.holding z
         by false z ih = ih z
 
@@ -230,7 +229,7 @@ put_unit : (A : Inputs) (s : State) (pid : ℕ) → s.place.due ≡ [] → s.mar
 unfolding next_unit
 put_unit A s pid d e =
     ap (λ (ds : List Rattle.page_model.specs.Placement.Due). or_else (due_unit s.place ds) (or_else (under A s s.mark) (next_mark A s))) d
-    ∙ ap (λ (m : Rattle.flat_model.specs.declared.mark.Mark.Mark). or_else (under A s m) (next_mark A s)) e
+    ∙ ap (λ (m : Rattle.run_model.specs.declared.mark.Mark.Mark). or_else (under A s m) (next_mark A s)) e
 
 pub put_falls : (A : Inputs) (s : State) (u : Entry) (pid : ℕ) → IsRun A s → AllResident s → s.mark ≡ marks.PutOut pid → next_unit A s ≡ Some u
     → put_rank (after A s u).place pid (space_of_process (process_of s.point.flat pid)) < put_rank s.place pid (space_of_process (process_of s.point.flat pid))

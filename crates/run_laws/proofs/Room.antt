@@ -1,14 +1,14 @@
 -- How few pages an instruction of a run touches, and that there is room beside what is locked.
 use Rattle.std.proofs.Common.{ℕ, ◌≤◌, length, arith}
-use Rattle.page_model.specs.Flat.{Inputs}
+use Rattle.flat_state.specs.Flat.{Inputs}
 use Rattle.page_model.specs.Rank.{HasRoom}
-use Rattle.flat_model.specs.State.{State}
+use Rattle.run_model.specs.State.{State}
 use Rattle.flat_model.specs.Touched.{touched}
-use Rattle.flat_model.specs.Wanted.{locked}
+use Rattle.run_model.specs.Wanted.{locked}
 use Rattle.touch_laws.specs.Whole.{EachWhole}
 use Rattle.touch_laws.proofs.Few.{touched_few}
 use Rattle.touch_laws.proofs.Sized.{sized_whole}
-use Rattle.touch_laws.proofs.Room.{locked_room}
+use Rattle.run_laws.proofs.LockedRoom.{locked_room}
 use Rattle.run_laws.specs.Standing.{Placed}
 use Rattle.run_laws.specs.Running.{IsRun}
 

@@ -1,30 +1,32 @@
 -- What stands of a run stands behind each unit of it.
 use Rattle.std.proofs.Common.{◌≡◌, inl, inr, ℕ, ◌&&◌, Bool, true, false, List, [], ◌∷◌, length, Some, None, refl, sym, ap, ◌∙◌, subst}
-use Rattle.vm_facts.specs.Flat.{Space, Holds, Process, FlatState}
+use Rattle.flat_state.specs.Space.{Space}
+use Rattle.flat_state.specs.Flat.{Holds, Process, FlatState, Inputs, process_of}
 use Rattle.vm_facts.specs.declared.page.Page.{Page}
 use Rattle.vm_facts.specs.declared.entry.Entry.{Entry}
 use Rattle.vm_facts.specs.declared.entry.Entry.TheVariants as entries
-use Rattle.page_model.specs.Flat.{Inputs, process_of}
-use Rattle.page_model.specs.Change.{apply_change, apply_writes}
+use Rattle.flat_state.specs.Change.{apply_change, apply_writes, NamesChild}
 use Rattle.page_model.specs.Placement.{Placement, Start, CopyOf}
 use Rattle.page_model.specs.Place.{space_of_process}
 use Rattle.page_model.specs.Serve.{serve_entry}
 use Rattle.page_model.specs.Swapper.{is_out}
-use Rattle.page_laws.specs.Start.{ImagesFit}
-use Rattle.page_laws.specs.FlatStands.{IsNumbered, LendsStand, MayChange, holds_some}
-use Rattle.page_laws.proofs.KernelSwaps.{found_at}
-use Rattle.page_laws.proofs.FlatNumbers.{writes_numbered}
-use Rattle.page_laws.proofs.FlatLenders.{changes_lent, writes_lent}
-use Rattle.page_laws.proofs.Units.{unit_is}
+use Rattle.kernel_model.specs.Start.{ImagesFit}
+use Rattle.flat_state.specs.Numbers.{IsNumbered}
+use Rattle.flat_state.specs.Lenders.{LendsStand}
+use Rattle.kernel_model.specs.Stands.{holds_some}
+use Rattle.kernel_laws.proofs.Machine.Swaps.{found_at}
+use Rattle.kernel_laws.proofs.Flat.Numbers.{writes_numbered}
+use Rattle.kernel_laws.proofs.Flat.Lenders.{changes_lent, writes_lent}
+use Rattle.page_laws.proofs.Moves.Units.{unit_is}
 use Rattle.touch_laws.specs.Whole.{AllSized}
 use Rattle.touch_laws.proofs.Sized.{step_sized}
 use Rattle.flat_laws.proofs.Few.{images_whole}
 use Rattle.flat_laws.proofs.Numbers.{step_numbered}
 use Rattle.flat_model.specs.Step.{Step}
 use Rattle.flat_model.specs.Run.{Point, is_refused, step_at, process_of_entry}
-use Rattle.flat_model.specs.State.{State}
-use Rattle.flat_model.specs.Wanted.{locked}
-use Rattle.flat_model.specs.After.{after}
+use Rattle.run_model.specs.State.{State}
+use Rattle.run_model.specs.Wanted.{locked}
+use Rattle.run_model.specs.After.{after}
 use Rattle.run_model.specs.Next.{fill_unit, move_unit, begins_write, next_mark, next_unit}
 use Rattle.run_model.specs.Kinds.{Runs, Kind, Fills, Brings, Copies, Serves, Acts, ComesIn, Interrupts, Moves, PutsOut, Notes, Begins}
 use Rattle.run_model.specs.Lawful.{Follows}
@@ -84,11 +86,11 @@ step_kept A s u images execs h k = subst (FlatKept A) (sym (stepped_flat A s u h
     form_after : step.after ≡ apply_change A.images flat1 pid step.regs step.change
     form_after = form.after ∙ ap (λ (n : ℕ). apply_change A.images (apply_writes flat n step.writes) n step.regs step.change) number
 
-    may : MayChange flat1 step.change
-    may = subst (λ (n : ℕ). MayChange (apply_writes flat n step.writes) step.change) number form.may
+    may : NamesChild flat1 step.change
+    may = subst (λ (n : ℕ). NamesChild (apply_writes flat n step.writes) step.change) number form.may
 
     z : Space
-    z = Rattle.page_model.specs.Space.puts x.space step.writes
+    z = Rattle.flat_state.specs.Space.puts x.space step.writes
 
     q1 : Process
     q1 = record x.process { holding = Holds z }

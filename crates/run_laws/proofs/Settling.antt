@@ -1,14 +1,13 @@
 -- A process that waits for its space to settle has a transfer in flight; and a mark begins by a line or a turn.
 use Rattle.std.proofs.Common.{◌≡◌, ℕ, ◌+◌, ◌<◌, Bool, true, false, not, ◌&&◌, nat_lt, List, length, Option, Some, None, refl, sym, subst, arith}
-use Rattle.vm_facts.specs.Flat.{Holding, Holds, Lends, Zombie, Process}
+use Rattle.flat_state.specs.Flat.{Holding, Holds, Lends, Zombie, Process, Inputs, process_of, can_step}
 use Rattle.vm_facts.specs.declared.entry.Entry.{Entry}
 use Rattle.vm_facts.specs.declared.entry.Entry.TheVariants as entries
-use Rattle.page_model.specs.Flat.{Inputs, process_of, can_step}
 use Rattle.page_model.specs.Placement.{Placement, Transfer}
 use Rattle.page_model.specs.Swapper.{is_settled}
-use Rattle.page_laws.proofs.PutOuts.{unsettled_flies}
-use Rattle.flat_model.specs.State.{State}
-use Rattle.flat_model.specs.Act.{settled_in, settled_if, settled, step_loses, must_refuse, must_settle, act_by, act_if, act}
+use Rattle.page_laws.proofs.Swapper.PuttingOut.{unsettled_flies}
+use Rattle.run_model.specs.State.{State}
+use Rattle.run_model.specs.Act.{settled_in, settled_if, settled, step_loses, must_refuse, must_settle, act_by, act_if, act}
 use Rattle.run_model.specs.Next.{when, turn_of, next_turned, last_turned, line_or_turn, next_mark}
 use Rattle.run_laws.proofs.Flows.{steps_own}
 

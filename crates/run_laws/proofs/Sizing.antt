@@ -3,7 +3,8 @@ use Rattle.std.proofs.Common.{◌≡◌, ◌⊎◌, inl, inr, ℕ, suc, ◌+◌,
 use Rattle.std.proofs.lemmas.List.{length-replicate}
 use Rattle.std.proofs.lemmas.Bool.Decides.{nat_tests}
 use Rattle.vm_facts.specs.Answers.{Answers, ByteWrite}
-use Rattle.vm_facts.specs.Flat.{Space, Holding, Holds, Lends, Zombie, Process, FlatState}
+use Rattle.flat_state.specs.Space.{Space, stack_top, stack_reach, spot_by, spot_at, address_in, byte_at, may_write_at, answers_of, puts}
+use Rattle.flat_state.specs.Flat.{Holding, Holds, Lends, Zombie, Process, FlatState, NamedImage, Inputs, image_numbered, process_of, can_step, argument_area, start_page, space_with, start_if, start_processes, start_state, spaces_of, space_held}
 use Rattle.vm_facts.specs.declared.memory.ByteRead.{ByteRead}
 use Rattle.vm_facts.specs.declared.memory.ByteRead.TheVariants as bytes
 use Rattle.vm_facts.specs.declared.memory.MayWrite.{MayWrite}
@@ -15,21 +16,20 @@ use Rattle.user_vax.specs.Effects.{Effect}
 use Rattle.user_vax.specs.Program.{Program, Gives, Refuses, Reads, Tests, ◌>>=◌, run, after_read, after_test}
 use Rattle.user_vax.specs.declared.refused.Refused.{Refused}
 use Rattle.user_vax.specs.declared.refused.Refused.TheVariants.{Miss, Below, Signal}
-use Rattle.page_model.specs.declared.spot.Spot.{Spot}
-use Rattle.page_model.specs.declared.spot.Spot.TheVariants as spots
-use Rattle.page_model.specs.declared.change.Change.{Change}
-use Rattle.page_model.specs.declared.change.Change.TheVariants.{Keep, Resize, Fork, Lend, Exec, Reap, Sleep, End}
-use Rattle.page_model.specs.Space.{stack_top, stack_reach, spot_by, spot_at, address_in, byte_at, may_write_at, answers_of, puts}
-use Rattle.page_model.specs.Flat.{NamedImage, Inputs, image_numbered, process_of, can_step, argument_area, start_page, space_with, start_if, start_processes, start_state}
-use Rattle.page_model.specs.Change.{replaced, replaced_by, with_process, resized, child_of, lends_to, returned, returned_by, given_back, entered, is_zombie_child, without_parent, orphaned, awake, left, changed, changed_by, changed_if, apply_change, wrote_by, wrote_if, apply_writes}
-use Rattle.page_model.specs.Journal.{units_of}
+use Rattle.flat_state.specs.declared.spot.Spot.{Spot}
+use Rattle.flat_state.specs.declared.spot.Spot.TheVariants as spots
+use Rattle.flat_state.specs.declared.change.Change.{Change}
+use Rattle.flat_state.specs.declared.change.Change.TheVariants.{Keep, Resize, Fork, Lend, Exec, Reap, Sleep, End}
+use Rattle.flat_state.specs.Change.{replaced, replaced_by, with_process, resized, child_of, lends_to, returned, returned_by, given_back, entered, is_zombie_child, without_parent, orphaned, awake, left, changed, changed_by, changed_if, apply_change, wrote_by, wrote_if, apply_writes}
+use Rattle.flat_state.specs.Journal.{units_of}
 use Rattle.page_model.specs.Pages.{SpacePages, numbered, data_in, stack_in}
 use Rattle.page_model.specs.Placement.{space_number}
-use Rattle.page_model.specs.Kernel.{Fits, SameTables, DataFits, spaces_of, space_held}
-use Rattle.page_laws.specs.Start.{ImageFits, ImagesFit}
-use Rattle.page_laws.proofs.KernelSizes.{resized_length}
-use Rattle.page_laws.proofs.FlatLists.{sid_of, held}
-use Rattle.page_laws.proofs.Local.{none_some, some_is}
+use Rattle.kernel_model.specs.Coupled.{Fits, SameTables}
+use Rattle.kernel_model.specs.Sound.{DataFits}
+use Rattle.kernel_model.specs.Start.{ImageFits, ImagesFit}
+use Rattle.kernel_laws.proofs.Machine.Breaks.{resized_length}
+use Rattle.kernel_laws.proofs.Flat.Lists.{sid_of, held}
+use Rattle.page_laws.proofs.Lists.Local.{none_some, some_is}
 use Rattle.flat_model.specs.declared.calls.Reply.{Reply}
 use Rattle.flat_model.specs.declared.calls.Reply.TheVariants.{Fails, Does, Writes, Waits, Exits}
 use Rattle.flat_model.specs.declared.calls.SystemCall.{SystemCall}
@@ -38,7 +38,7 @@ use Rattle.flat_model.specs.Calls.{call_of, argument, three_arguments, bytes_fro
 use Rattle.flat_model.specs.Instruction.{instruction_in}
 use Rattle.flat_model.specs.Step.{pages_down_to, data_pages_of as data_pages_in, replied_step, reply_behind, called_step, step_behind, step_of, step_holding, step_if, flat_step, written_process}
 use Rattle.flat_model.specs.Run.{Point, step_at, due_at, act, behind, point_after, same_as, process_of_entry, may_follow, where_so, flat_entry_of, flat_entry_if, flat_entry_by, flat_entry, flat_units, flat_run, start_point}
-use Rattle.flat_model.specs.State.{State}
+use Rattle.run_model.specs.State.{State}
 use Rattle.run_laws.specs.Standing.{EachProcess, ExecFits, Placed, machine_of}
 use Rattle.run_laws.specs.Running.{IsRun, CanRun}
 use Rattle.run_model.specs.Lawful.{Reaches, IsLawful}

@@ -3,19 +3,19 @@
 use Rattle.std.proofs.Common.{◌≡◌, inl, inr, ℕ, true, false, [], Some, None, refl, sym, ap, ◌∙◌, subst}
 use Rattle.vm_facts.specs.declared.entry.Entry.{Entry}
 use Rattle.vm_facts.specs.declared.entry.Entry.TheVariants as entries
-use Rattle.page_model.specs.Flat.{Inputs, process_of}
+use Rattle.flat_state.specs.Flat.{Inputs, process_of}
 use Rattle.page_model.specs.Place.{space_of_process}
 use Rattle.page_model.specs.Serve.{serve_entry}
 use Rattle.page_model.specs.Swapper.{is_out}
-use Rattle.page_laws.specs.FlatStands.{holds_some}
-use Rattle.page_laws.proofs.PutOuts.{unit_case}
-use Rattle.page_laws.proofs.Units.{unit_is}
-use Rattle.flat_model.specs.declared.mark.Mark.{Mark}
-use Rattle.flat_model.specs.declared.mark.Mark.TheVariants as marks
+use Rattle.kernel_model.specs.Stands.{holds_some}
+use Rattle.page_laws.proofs.Swapper.PuttingOut.{unit_case}
+use Rattle.page_laws.proofs.Moves.Units.{unit_is}
+use Rattle.run_model.specs.declared.mark.Mark.{Mark}
+use Rattle.run_model.specs.declared.mark.Mark.TheVariants as marks
 use Rattle.flat_model.specs.Run.{process_of_entry}
-use Rattle.flat_model.specs.State.{State}
-use Rattle.flat_model.specs.Wanted.{wanted, locked}
-use Rattle.flat_model.specs.After.{after}
+use Rattle.run_model.specs.State.{State}
+use Rattle.run_model.specs.Wanted.{wanted, locked}
+use Rattle.run_model.specs.After.{after}
 use Rattle.run_model.specs.Next.{fill_unit, move_unit, owners_entry}
 use Rattle.run_model.specs.Kinds.{Comes, Kind, Fills, Brings, Copies, Serves, Acts, ComesIn, Interrupts, Moves, PutsOut, Notes, Begins}
 use Rattle.run_laws.specs.Standing.{MarkStands}

@@ -2,48 +2,48 @@
 use Rattle.std.proofs.Common.{◌≡◌, ◌⊎◌, inl, inr, ℕ, ◌/◌, ◌<◌, ◌==◌, ◌||◌, ◌&&◌, Bool, true, false, not, nat_lt, List, [], ◌∷◌, length, map, Option, Some, Ok, refl, sym, ap, ap₂, ◌∙◌, subst, arith}
 use Rattle.std.proofs.lemmas.Bool.Decides.{nat_tests}
 use Rattle.vm_facts.specs.Answers.{ByteWrite}
-use Rattle.vm_facts.specs.Flat.{Space, Holding, Holds, Lends, Zombie, Process, FlatState}
+use Rattle.flat_state.specs.Space.{Space, puts}
+use Rattle.flat_state.specs.Flat.{Holding, Holds, Lends, Zombie, Process, FlatState, Inputs, process_of}
 use Rattle.vm_facts.specs.declared.page.Page.{Page}
 use Rattle.vm_facts.specs.declared.entry.Entry.{Entry}
 use Rattle.swap_book.specs.Holdings.{Holdings}
 use Rattle.swap_book.specs.Placing.{place_all}
-use Rattle.page_model.specs.Space.{puts}
-use Rattle.page_model.specs.declared.change.Change.{Change}
-use Rattle.page_model.specs.declared.change.Change.TheVariants.{Keep, Resize, Fork, Lend, Exec, Reap, Sleep, End}
-use Rattle.page_model.specs.Flat.{Inputs, process_of}
-use Rattle.page_model.specs.Change.{replaced, with_process, wrote_by, wrote_if, apply_writes, apply_change}
-use Rattle.page_model.specs.Journal.{append}
+use Rattle.flat_state.specs.declared.change.Change.{Change}
+use Rattle.flat_state.specs.declared.change.Change.TheVariants.{Keep, Resize, Fork, Lend, Exec, Reap, Sleep, End}
+use Rattle.flat_state.specs.Change.{replaced, with_process, wrote_by, wrote_if, apply_writes, apply_change, NamesChild}
+use Rattle.flat_state.specs.Journal.{append}
 use Rattle.page_model.specs.Pages.{numbered}
 use Rattle.page_model.specs.Placement.{Placement, Residence, space_number, image_of, image_in, sharers, slots_of, parts_of}
 use Rattle.page_model.specs.Moves.{touch, touch_all}
 use Rattle.page_model.specs.Place.{is_borrower, place_change, place_step, space_of_holding, space_of_process, data_count, stack_count}
 use Rattle.page_model.specs.Swapper.{is_out, is_settled, residence_of, names_page, is_of_space, is_of_text}
 use Rattle.page_model.specs.Conditions.{LosesPages}
-use Rattle.page_model.specs.Kernel.{Outline, Fits, SameTables, Life, LendsSpace, outline_of, life_of}
-use Rattle.page_laws.specs.Numbers.{SettlesFor}
-use Rattle.page_laws.specs.Start.{ImagesFit}
-use Rattle.page_laws.specs.FlatStands.{IsNumbered, LendsStand, Stands, MayChange}
-use Rattle.page_laws.proofs.Sounds.{touch_transfers}
-use Rattle.page_laws.proofs.Stays.{Steady}
-use Rattle.page_laws.proofs.Sames.{touch_steady}
-use Rattle.page_laws.proofs.KernelShapes.{touch_shaped, image_kept}
-use Rattle.page_laws.proofs.KernelSwaps.{found_at, found_self}
-use Rattle.page_laws.proofs.FlatLists.{found_is, replaced_at}
-use Rattle.page_laws.proofs.FlatNumbers.{writes_numbered}
-use Rattle.page_laws.proofs.FlatLenders.{writes_lent}
+use Rattle.kernel_model.specs.Coupled.{Outline, Fits, SameTables, outline_of}
+use Rattle.kernel_model.specs.Kernel.{Life, LendsSpace, life_of}
+use Rattle.kernel_model.specs.Numbers.{SettlesFor}
+use Rattle.kernel_model.specs.Start.{ImagesFit, kept_of}
+use Rattle.flat_state.specs.Numbers.{IsNumbered}
+use Rattle.flat_state.specs.Lenders.{LendsStand}
+use Rattle.kernel_model.specs.Stands.{Stands}
+use Rattle.kernel_laws.proofs.Sound.Steps.{touch_transfers}
+use Rattle.page_laws.proofs.Moves.Stays.{Steady}
+use Rattle.page_laws.proofs.Bytes.Others.{touch_steady}
+use Rattle.kernel_laws.proofs.Machine.Shapes.{touch_shaped, image_kept}
+use Rattle.kernel_laws.proofs.Machine.Swaps.{found_at, found_self}
+use Rattle.kernel_laws.proofs.Flat.Lists.{found_is, replaced_at}
+use Rattle.kernel_laws.proofs.Flat.Numbers.{writes_numbered}
+use Rattle.kernel_laws.proofs.Flat.Lenders.{writes_lent}
 use Rattle.flat_laws.proofs.Asking.{own_space, data_counted, stack_counted, change_same}
 use Rattle.flat_model.specs.Calls.{stack_pages_of}
 use Rattle.flat_model.specs.Step.{data_pages_of}
-use Rattle.flat_model.specs.Asked.{given_up, change_wanted, wanted_in, wanted_if, asks_by, asks, with_pieces, or_before, held_in, held_if, held_step, without_own}
-use Rattle.flat_model.specs.Asked.{is_borrower as is_borrowing, given_up, change_wanted, without_own}
-use Rattle.flat_model.specs.Act.{loses_pages}
+use Rattle.flat_model.specs.Asked.{given_up, change_wanted, wanted_in, wanted_if, asks_by, asks, with_pieces, or_before, held_in, held_if, held_step, without_own, is_borrower as is_borrowing}
+use Rattle.run_model.specs.Act.{loses_pages}
 use Rattle.run_laws.specs.Standing.{machine_of, Placed, ExecFits, Own}
 use Rattle.run_laws.proofs.Changes.{borrower_same}
 use Rattle.run_laws.proofs.Writing.{SameSpace, puts_same, space_tables, touch_all_placed, writes_placed}
 use Rattle.run_laws.proofs.OwnChanges.{Changing, Changed, own_change}
 use Rattle.run_laws.proofs.Living.{LivedOr, BackTo}
 use Rattle.run_laws.proofs.Bridge.{kept_outlines, lives_same}
-use Rattle.page_laws.specs.Start.{kept_of, ImagesFit}
 use Rattle.run_laws.proofs.BackChanges.{GivesBack, back_change}
 
 -- The flat state and the placement once the bytes are written.
@@ -183,7 +183,7 @@ pub record Making (A : Inputs) (flat : FlatState) (p : Placement) (hs found : Ho
   pub holds : q.holding ≡ Holds s
   pub resident : is_out p pid ≡ false
   pub clear : p.due ≡ []
-  pub may : MayChange (apply_writes flat pid ws) change
+  pub may : NamesChild (apply_writes flat pid ws) change
   pub execs : ExecFits A.images change
   pub pieces : place_all A.swap_blocks hs (change_wanted A.images flat s change) ≡ Ok found
   pub settles : loses_pages s (is_borrower flat.processes pid) change ≡ true → is_settled p s.sid ≡ true
@@ -199,7 +199,7 @@ step_placed A flat p hs found pid regs j e q s ws written change m st = record {
       (subst (λ (b : Bool). Placed A after (place_change A.images p1 pid z.sid b flat1.next_sid at change) (given_up flat1 after pid z change found)) borrows
       made.placed))));
   back = let b : BackTo flat1 after pid change = made.back in record {
-    each = λ n x. subst (λ (y : Bool). Rattle.page_laws.proofs.Askings.IsChild change n ⊎ ((y ≡ true) × Rattle.run_laws.proofs.Living.Lasting change pid n))
+    each = λ n x. subst (λ (y : Bool). Rattle.kernel_laws.proofs.Pieces.Wanted.IsChild change n ⊎ ((y ≡ true) × Rattle.run_laws.proofs.Living.Lasting change pid n))
         (lives_same (map kept_of flat1.processes) (map kept_of flat.processes) (kept_outlines flat1.processes ∙ sym t01.processes ∙ t0.processes ∙ sym (kept_outlines flat.processes)) n) (b.each n x);
   };
 }

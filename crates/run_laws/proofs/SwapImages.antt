@@ -1,7 +1,7 @@
 -- The swap image behind a run's units is the one behind a machine's.
 use Rattle.std.proofs.Common.{◌≡◌, ◌⊎◌, inl, inr, ℕ, ◌*◌, ◌≤◌, Bool, true, false, List, [], ◌∷◌, ◌++◌, length, map, replicate, Option, Some, None, refl, sym, ap, ◌∙◌, subst}
 use Rattle.std.proofs.lemmas.List.{length-replicate}
-use Rattle.vm_facts.specs.Flat.{Process}
+use Rattle.flat_state.specs.Flat.{Process, Inputs, process_of}
 use Rattle.vm_facts.specs.declared.page.Page.{Page}
 use Rattle.vm_facts.specs.declared.page.Page.TheVariants.{Data, Stack}
 use Rattle.vm_facts.specs.declared.page.PageState.TheVariants.{Going, OnSwap}
@@ -10,27 +10,30 @@ use Rattle.vm_facts.specs.declared.entry.Entry.{Entry}
 use Rattle.vm_facts.specs.declared.entry.Entry.TheVariants as entries
 use Rattle.swap_book.specs.declared.Owner.TheVariants as owners
 use Rattle.swap_book.specs.Holdings.{Holdings, block_in}
-use Rattle.page_model.specs.Flat.{Inputs, process_of}
-use Rattle.page_model.specs.Journal.{appended, units_of}
+use Rattle.flat_state.specs.Journal.{appended, units_of}
 use Rattle.page_model.specs.Pages.{frame_of}
 use Rattle.page_model.specs.Placement.{Placement, Transfer, Part, Errand, Writes, Reads, Moving, moving, parts_of, state_of, mark_of, slots_of}
 use Rattle.page_model.specs.Place.{space_of_holding}
 use Rattle.page_model.specs.Swapper.{is_out}
 use Rattle.page_model.specs.Ownership.{Each, IsMoving, OwnsFrames, OneOwner, block_of}
-use Rattle.page_model.specs.Coupled.{bytes_in, IfSaved}
-use Rattle.page_model.specs.Kernel.{Kernel, Proc, Outline, lives, KeepsRegs, AreRegs, Sound, Coupled, SameTables, memory_of, beside_kernel, store_at, store_all, image_after_by, image_after_of, stored, u_page}
-use Rattle.page_model.specs.FlatStep.{space_of_life}
-use Rattle.page_laws.specs.Start.{ImagesFit, start_kernel}
-use Rattle.page_laws.specs.FlatStands.{holds_some}
-use Rattle.page_laws.proofs.Local.{some_is}
-use Rattle.page_laws.proofs.Steps.{page_in}
-use Rattle.page_laws.proofs.Kept.{keeps_at}
-use Rattle.page_laws.proofs.KernelTables.{outline_at, regs_at, space_same}
-use Rattle.page_laws.proofs.KernelSwaps.{found_at}
+use Rattle.page_model.specs.PageBytes.{bytes_in, IfSaved}
+use Rattle.kernel_model.specs.Kernel.{Kernel, Proc, store_all, image_after_by, image_after_of}
+use Rattle.kernel_model.specs.Coupled.{Outline, KeepsRegs, Coupled, SameTables, memory_of, beside_kernel}
+use Rattle.kernel_model.specs.Sound.{lives, Sound}
+use Rattle.kernel_model.specs.UPage.{AreRegs, u_page}
+use Rattle.page_model.specs.Stored.{store_at, stored}
+use Rattle.kernel_model.specs.ChangeStep.{space_of_life}
+use Rattle.kernel_model.specs.Start.{ImagesFit, start_kernel}
+use Rattle.kernel_model.specs.Stands.{holds_some}
+use Rattle.page_laws.proofs.Lists.Local.{some_is}
+use Rattle.page_laws.proofs.Moves.Steps.{page_in}
+use Rattle.page_laws.proofs.Bytes.Pages.{keeps_at}
+use Rattle.kernel_laws.proofs.Machine.Tables.{outline_at, regs_at, space_same}
+use Rattle.kernel_laws.proofs.Machine.Swaps.{found_at}
 use Rattle.flat_model.specs.Run.{process_of_entry}
 use Rattle.flat_model.specs.Asked.{or_before}
-use Rattle.flat_model.specs.State.{State, starting, start}
-use Rattle.flat_model.specs.After.{after}
+use Rattle.run_model.specs.State.{State, starting, start}
+use Rattle.run_model.specs.After.{after}
 use Rattle.run_model.specs.Lawful.{Follows}
 use Rattle.run_model.specs.Swapped.{pages_stored, done_stored, oldest_stored, u_stored, image_behind, swapped_from, swapped}
 use Rattle.run_model.proofs.NextUnits.{kind_of}
@@ -39,7 +42,7 @@ use Rattle.run_laws.specs.Machine.{u_bytes, unit_step, unit_image, IsGiven, Keep
 use Rattle.run_laws.specs.Images.{OutFits, OutsFit, AreFlat, WritesFlat, AllFlat, HasSwapped}
 use Rattle.run_laws.proofs.Wholes.{unit_run}
 use Rattle.run_laws.proofs.Lawful.{all_units}
-use Rattle.page_model.proofs.Joins.{appended_units}
+use Rattle.flat_state.proofs.Joins.{appended_units}
 use Rattle.run_laws.proofs.Beginning.{run_start}
 use Rattle.run_laws.proofs.Sorts.{IsSaying, Sort, Pages, GoesIn, GoesOff, Says, Makes as StepMakes, sort_of}
 use Rattle.run_laws.proofs.MachineUnits.{Leaves, leaves, brought, are_brought}
@@ -265,7 +268,7 @@ on_swap A s k image at q e =
     (keeps_at k.place (beside_kernel k A.images image s.point.flat) q OnSwap c.pages (there k.place q st) st)
   where
     there : (p : Placement) (q : Page) → state_of p q ≡ OnSwap → Rattle.page_model.specs.Placement.IsThere p q
-    there p q e = Rattle.page_laws.proofs.OwnsServe.state_there p q (λ z. absurd (let y : OnSwap ≡ Rattle.vm_facts.specs.declared.page.PageState.TheVariants.Unfilled = sym e ∙ z in cc))
+    there p q e = Rattle.page_laws.proofs.Ownership.Serve.state_there p q (λ z. absurd (let y : OnSwap ≡ Rattle.vm_facts.specs.declared.page.PageState.TheVariants.Unfilled = sym e ∙ z in cc))
 
 -- A whole run, by its journal.
 

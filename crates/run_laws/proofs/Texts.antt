@@ -1,14 +1,13 @@
 -- The text of each space is its image's, through each step.
 use Rattle.std.proofs.Common.{◌≡◌, ℕ, ◌+◌, ◌==◌, Bool, true, false, cond, not, List, [], ◌∷◌, ◌++◌, map, filter, Option, Some, None, refl, sym, ap, ◌∙◌, subst}
 use Rattle.vm_facts.specs.Answers.{ByteWrite}
-use Rattle.vm_facts.specs.Flat.{Space, Holding, Holds, Lends, Zombie, Process, FlatState}
+use Rattle.flat_state.specs.Space.{Space, puts}
+use Rattle.flat_state.specs.Flat.{Holding, Holds, Lends, Zombie, Process, FlatState, NamedImage, Inputs, process_of, image_numbered, start_if, start_processes, start_state}
 use Rattle.vm_facts.specs.declared.regs.Regs.{Regs}
-use Rattle.page_model.specs.Space.{puts}
-use Rattle.page_model.specs.declared.change.Change.{Change}
-use Rattle.page_model.specs.declared.change.Change.TheVariants.{Keep, Resize, Fork, Lend, Exec, Reap, Sleep, End}
-use Rattle.page_model.specs.Flat.{NamedImage, Inputs, process_of, image_numbered, start_if, start_processes, start_state}
-use Rattle.page_model.specs.Change.{replaced, replaced_by, with_process, returned, returned_by, lends_to, changed, left, orphaned, ended, entered, is_zombie_child, without_parent, awake, wrote_by, wrote_if, apply_writes, apply_change}
-use Rattle.page_laws.proofs.KernelSwaps.{applied}
+use Rattle.flat_state.specs.declared.change.Change.{Change}
+use Rattle.flat_state.specs.declared.change.Change.TheVariants.{Keep, Resize, Fork, Lend, Exec, Reap, Sleep, End}
+use Rattle.flat_state.specs.Change.{replaced, replaced_by, with_process, returned, returned_by, lends_to, changed, left, orphaned, ended, entered, is_zombie_child, without_parent, awake, wrote_by, wrote_if, apply_writes, apply_change}
+use Rattle.kernel_laws.proofs.Machine.Swaps.{applied}
 use Rattle.run_laws.specs.Standing.{EachProcess, IsText, HasText, TextsHeld, ExecFits}
 use Rattle.run_laws.proofs.Touching.{found_process}
 use Rattle.run_laws.proofs.Writing.{SameSpace, puts_same}
@@ -60,18 +59,18 @@ left_texts images false F pid parent h = each_mapped (Text images) (awake parent
 
 changed_texts : (images : List NamedImage) (F : FlatState) (p : Process) (s : Space) (change : Change) → ExecFits images change → p.holding ≡ Holds s → IsText images s → TextsHeld images F → TextsHeld images (changed images F p s change)
 changed_texts images F p s Keep x h t e = each_replaced (Text images) F.processes p e (subst (HasText images) (sym h) t)
-changed_texts images F p s (Resize d r) x h t e = each_replaced (Text images) F.processes (record p { holding = Holds (Rattle.page_model.specs.Change.resized s d r) }) e (record { named = t.named; image = t.image; same = t.same })
+changed_texts images F p s (Resize d r) x h t e = each_replaced (Text images) F.processes (record p { holding = Holds (Rattle.flat_state.specs.Change.resized s d r) }) e (record { named = t.named; image = t.image; same = t.same })
 changed_texts images F p s (Fork child) x h t e =
-    each_last (Text images) (replaced F.processes p) (Rattle.page_model.specs.Change.child_of p child (record s { sid = F.next_sid })) (each_replaced (Text images) F.processes p e (subst (HasText images) (sym h) t)) (record { named = t.named; image = t.image; same = t.same })
+    each_last (Text images) (replaced F.processes p) (Rattle.flat_state.specs.Change.child_of p child (record s { sid = F.next_sid })) (each_replaced (Text images) F.processes p e (subst (HasText images) (sym h) t)) (record { named = t.named; image = t.image; same = t.same })
 changed_texts images F p s (Lend child) x h t e =
-    each_last (Text images) (replaced F.processes (record p { holding = Lends s.sid child })) (Rattle.page_model.specs.Change.child_of p child s) (each_replaced (Text images) F.processes (record p { holding = Lends s.sid child }) e tt) t
+    each_last (Text images) (replaced F.processes (record p { holding = Lends s.sid child })) (Rattle.flat_state.specs.Change.child_of p child s) (each_replaced (Text images) F.processes (record p { holding = Lends s.sid child }) e tt) t
 changed_texts images F p s (Exec number top) (named, im, whole) h t e = subst (λ (o : Option NamedImage). TextsHeld images (entered F p s number o top)) (sym im)
-    (text_returned images p.pid s (replaced F.processes (record p { holding = Holds (Rattle.page_model.specs.Flat.space_with F.next_sid number named.image top) })) t
-    (each_replaced (Text images) F.processes (record p { holding = Holds (Rattle.page_model.specs.Flat.space_with F.next_sid number named.image top) }) e (record { named = named; image = im; same = refl })))
+    (text_returned images p.pid s (replaced F.processes (record p { holding = Holds (Rattle.flat_state.specs.Flat.space_with F.next_sid number named.image top) })) t
+    (each_replaced (Text images) F.processes (record p { holding = Holds (Rattle.flat_state.specs.Flat.space_with F.next_sid number named.image top) }) e (record { named = named; image = im; same = refl })))
 changed_texts images F p s (Reap child) x h t e = each_replaced (Text images) (filter (λ q. not (q.pid == child)) F.processes) p (each_left (Text images) (λ q. not (q.pid == child)) F.processes e) (subst (HasText images) (sym h) t)
 changed_texts images F p s Sleep x h t e = each_replaced (Text images) F.processes (record p { asleep = true }) e (subst (HasText images) (sym h) t)
 changed_texts images F p s (End status) x h t e =
-    left_texts images (p.parent == 0) (orphaned (Rattle.page_model.specs.Change.given_back (with_process F record p { holding = Zombie status }) p.pid s) p.pid) p.pid p.parent
+    left_texts images (p.parent == 0) (orphaned (Rattle.flat_state.specs.Change.given_back (with_process F record p { holding = Zombie status }) p.pid s) p.pid) p.pid p.parent
     (each_mapped (Text images) (without_parent p.pid) (filter (λ q. not (is_zombie_child p.pid q)) (returned p.pid s (replaced F.processes (record p { holding = Zombie status })))) (λ q k. k)
     (each_left (Text images) (λ q. not (is_zombie_child p.pid q)) (returned p.pid s (replaced F.processes (record p { holding = Zombie status })))
     (text_returned images p.pid s (replaced F.processes (record p { holding = Zombie status })) t (each_replaced (Text images) F.processes (record p { holding = Zombie status }) e tt))))

@@ -1,22 +1,23 @@
 -- The pages that a process touches are there, and shared.
 use Rattle.std.proofs.Common.{◌≡◌, ℕ, suc, ◌+◌, ◌*◌, ◌/◌, ◌<◌, ◌==◌, Bool, true, false, not, cond, List, [], ◌∷◌, ◌++◌, length, filter, filter_map, find, Option, Some, None, refl, sym, ap, ◌∙◌, subst, arith}
 use Rattle.std.specs.List.{cons_option}
-use Rattle.vm_facts.specs.Flat.{Space, Holding, Holds, Lends, Zombie, Process, FlatState}
+use Rattle.flat_state.specs.Space.{Space, address_in}
+use Rattle.flat_state.specs.Flat.{Holding, Holds, Lends, Zombie, Process, FlatState, NamedImage, Inputs, process_of, is_ready, image_numbered}
 use Rattle.vm_facts.specs.declared.page.Page.{Page}
 use Rattle.vm_facts.specs.declared.page.Page.TheVariants as pages
 use Rattle.user_vax.specs.Program.{Access, ReadOf, TestOf}
 use Rattle.swap_book.specs.Holdings.{Holdings}
-use Rattle.page_model.specs.declared.spot.Spot.{Spot}
-use Rattle.page_model.specs.declared.spot.Spot.TheVariants.{Text, Data, Stack, Below, Outside}
-use Rattle.page_model.specs.Space.{address_in}
-use Rattle.page_model.specs.Writes.{IsWithin}
-use Rattle.page_model.specs.Flat.{NamedImage, Inputs, process_of, is_ready, image_numbered}
-use Rattle.page_model.specs.Pages.{SpacePages, numbered, same_page}
+use Rattle.flat_state.specs.declared.spot.Spot.{Spot}
+use Rattle.flat_state.specs.declared.spot.Spot.TheVariants.{Text, Data, Stack, Below, Outside}
+use Rattle.flat_state.specs.Writes.{IsWithin}
+use Rattle.page_model.specs.Pages.{SpacePages, numbered}
+use Rattle.flat_state.specs.PageNames.{same_page}
 use Rattle.page_model.specs.Placement.{Placement, space_number, slots_of, IsThere, sharers_in}
 use Rattle.page_model.specs.Conditions.{EachPage, IsShared}
-use Rattle.page_model.specs.Kernel.{SameTables, Fits, IsSized, text_of}
-use Rattle.page_model.proofs.SpaceLaws.{IsPaged, spot_within}
-use Rattle.page_laws.specs.FlatStands.{IsNumbered, Stands}
+use Rattle.kernel_model.specs.Coupled.{SameTables, Fits, IsSized, text_of}
+use Rattle.flat_state.proofs.SpaceLaws.{IsPaged, spot_within}
+use Rattle.flat_state.specs.Numbers.{IsNumbered}
+use Rattle.kernel_model.specs.Stands.{Stands}
 use Rattle.flat_laws.proofs.Asking.{own_space}
 use Rattle.flat_model.specs.Touched.{page_read, page_tested, page_of_access, distinct, touched_in, touched_by, touched_if, touched}
 use Rattle.run_laws.specs.Standing.{machine_of, Placed, EachProcess, IsText, HasText, TextsHeld}

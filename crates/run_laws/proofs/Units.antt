@@ -5,27 +5,28 @@ use Rattle.vm_facts.specs.declared.page.PageState.TheVariants.{Unfilled}
 use Rattle.vm_facts.specs.declared.entry.Entry.{Entry}
 use Rattle.vm_facts.specs.declared.entry.Entry.TheVariants as entries
 use Rattle.swap_book.specs.Holdings.{Holdings}
-use Rattle.page_model.specs.Flat.{Inputs, process_of}
+use Rattle.flat_state.specs.Flat.{Inputs, process_of}
 use Rattle.page_model.specs.Placement.{Placement, Due, CopyOf, due_at, state_of}
 use Rattle.page_model.specs.Place.{place_entry, space_of_process}
 use Rattle.page_model.specs.Serve.{serve_entry, serve_unit}
 use Rattle.page_model.specs.Swapper.{put_out_unit, is_out}
 use Rattle.page_model.specs.Conditions.{IsShared}
-use Rattle.page_model.specs.Coupled.{IsWritable}
+use Rattle.page_model.specs.PageBytes.{IsWritable}
 use Rattle.page_model.specs.Dues.{IsDue, HasSource, NotDue}
 use Rattle.page_model.specs.Ownership.{OwnsFrames, OneOwner}
-use Rattle.page_model.specs.Kernel.{Sound, lives}
-use Rattle.page_laws.specs.FlatStands.{IsNumbered, holds_some}
-use Rattle.page_laws.proofs.OwnsServe.{state_there}
-use Rattle.page_laws.proofs.PutOuts.{unit_case, unit_few}
-use Rattle.page_laws.proofs.Transfers.{entry_count, done_count}
-use Rattle.page_laws.proofs.Units.{unit_is}
+use Rattle.kernel_model.specs.Sound.{Sound, lives}
+use Rattle.flat_state.specs.Numbers.{IsNumbered}
+use Rattle.kernel_model.specs.Stands.{holds_some}
+use Rattle.page_laws.proofs.Ownership.Serve.{state_there}
+use Rattle.page_laws.proofs.Swapper.PuttingOut.{unit_case, unit_few}
+use Rattle.page_laws.proofs.Moves.Transfers.{entry_count, done_count}
+use Rattle.page_laws.proofs.Moves.Units.{unit_is}
 use Rattle.flat_model.specs.Run.{process_of_entry}
-use Rattle.flat_model.specs.State.{State}
-use Rattle.flat_model.specs.Wanted.{running, touched_next, wanted, locked, Splits}
-use Rattle.flat_model.specs.After.{place_at, after}
-use Rattle.flat_model.specs.Act.{act}
-use Rattle.flat_model.proofs.Wanting.{wanted_splits}
+use Rattle.run_model.specs.State.{State}
+use Rattle.run_model.specs.Wanted.{running, touched_next, wanted, locked, Splits}
+use Rattle.run_model.specs.After.{place_at, after}
+use Rattle.run_model.specs.Act.{act}
+use Rattle.run_model.proofs.Wanting.{wanted_splits}
 use Rattle.run_model.specs.Next.{fill_unit, move_unit, owners_entry}
 use Rattle.run_model.specs.Kinds.{Kind, Fills, Brings, Copies, Serves, Acts, ComesIn, Interrupts, Moves, PutsOut, Notes, Begins}
 use Rattle.run_laws.specs.Standing.{IsAllowed, machine_of, Placed, MarkStands, TextsHeld}
@@ -136,7 +137,7 @@ kind_good A s u st nums texts m (Copies q parent due e k i) n =
     (fill_few (locked A s) (place_at s (fill_unit s.place (entries.Copy q))) s.place (entries.Copy q) (sixteen A s st) (let l = sixteen A s st in let k = entry_count (locked A s) (place_at s (fill_unit s.place (entries.Copy q))) s.place (entries.Copy q) in omega arith))
 kind_good A s u st nums texts m (Serves pid now q r w i) n =
     let k : Splits s.place (touched_next A s) (locked A s) q = wanted_splits A s q r.clear w in
-    let all = subst (Rattle.page_model.specs.Conditions.EachPage (Present s.place)) (ap (Rattle.flat_model.specs.Wanted.touched_by A s.point.flat) (sym (on_running A s s.mark pid now r.on))) (touched_present A s.point.flat s.place s.holdings pid nums texts st) in
+    let all = subst (Rattle.page_model.specs.Conditions.EachPage (Present s.place)) (ap (Rattle.run_model.specs.Wanted.touched_by A s.point.flat) (sym (on_running A s s.mark pid now r.on))) (touched_present A s.point.flat s.place s.holdings pid nums texts st) in
     let here : Present s.place q = each_split (Present s.place) (locked A s) q k.behind (subst (Rattle.page_model.specs.Conditions.EachPage (Present s.place)) k.whole all) in
     served A s u q now st here (ap (λ (l : List Due). due_at l q) r.clear) i
 kind_good A s u st nums texts m (Acts pid now r w a) n =

@@ -4,17 +4,17 @@ use Rattle.std.proofs.lemmas.Bool.Decides.{nat_tests}
 use Rattle.vm_facts.specs.declared.entry.Entry.{Entry}
 use Rattle.vm_facts.specs.declared.entry.Entry.TheVariants as entries
 use Rattle.swap_book.specs.Holdings.{Holdings}
-use Rattle.page_model.specs.Flat.{Inputs, can_step, is_ready}
+use Rattle.flat_state.specs.Flat.{Inputs, can_step, is_ready}
 use Rattle.page_model.specs.Placement.{Placement}
-use Rattle.page_laws.specs.Start.{ImagesFit}
-use Rattle.page_laws.proofs.Units.{unit_is}
-use Rattle.flat_model.specs.declared.mark.Mark.{Mark}
-use Rattle.flat_model.specs.declared.mark.Mark.TheVariants as marks
+use Rattle.kernel_model.specs.Start.{ImagesFit}
+use Rattle.page_laws.proofs.Moves.Units.{unit_is}
+use Rattle.run_model.specs.declared.mark.Mark.{Mark}
+use Rattle.run_model.specs.declared.mark.Mark.TheVariants as marks
 use Rattle.flat_model.specs.Run.{process_of_entry}
-use Rattle.flat_model.specs.State.{State, start}
-use Rattle.flat_model.specs.Wanted.{running, touched_next, AllValid, wanted, locked}
-use Rattle.flat_model.specs.After.{after}
-use Rattle.flat_model.proofs.Wanting.{wanted_none}
+use Rattle.run_model.specs.State.{State, start}
+use Rattle.run_model.specs.Wanted.{running, touched_next, AllValid, wanted, locked}
+use Rattle.run_model.specs.After.{after}
+use Rattle.run_model.proofs.Wanting.{wanted_none}
 use Rattle.run_model.specs.Next.{turn_instructions, next_unit}
 use Rattle.run_model.specs.Kinds.{GoesOn, Runs, Kind, Fills, Brings, Copies, Serves, Acts, ComesIn, Interrupts, Moves, PutsOut, Notes, Begins}
 use Rattle.run_model.specs.Lawful.{Follows, Reaches, IsLawful}
@@ -97,7 +97,7 @@ unit_ready A s u pid h e = go (kind_of A s u h)
       steps = on_steps A s s.mark p now r.on;
       resident = r.resident;
       clear = r.clear;
-      pages = subst (AllValid s.place) (ap (Rattle.flat_model.specs.Wanted.touched_by A s.point.flat) (on_running A s s.mark p now r.on)) (wanted_none A s r.clear w);
+      pages = subst (AllValid s.place) (ap (Rattle.run_model.specs.Wanted.touched_by A s.point.flat) (on_running A s s.mark p now r.on)) (wanted_none A s r.clear w);
       below = on_below A s s.mark p now r.on;
     })
 
@@ -115,6 +115,6 @@ unit_ready A s u pid h e = go (kind_of A s u h)
     go (ComesIn p e c i) = none (ap process_of_entry i)
     go (Interrupts e j i) = none (ap process_of_entry i)
     go (Moves count e j l w i) = none (ap process_of_entry i ∙ move_flat s.place (locked A s))
-    go (PutsOut p e j i) = none (ap process_of_entry i ∙ put_flat s.place p (Rattle.page_model.specs.Place.space_of_process (Rattle.page_model.specs.Flat.process_of s.point.flat p)))
+    go (PutsOut p e j i) = none (ap process_of_entry i ∙ put_flat s.place p (Rattle.page_model.specs.Place.space_of_process (Rattle.flat_state.specs.Flat.process_of s.point.flat p)))
     go (Notes e j i) = none (ap process_of_entry i)
     go (Begins e j i) = none (mark_flat A s u i)

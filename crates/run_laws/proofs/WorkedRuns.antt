@@ -4,30 +4,25 @@ use Rattle.vm_facts.specs.declared.page.Page.TheVariants.{Data, Stack, Text}
 use Rattle.vm_facts.specs.declared.entry.Entry.{Entry}
 use Rattle.vm_facts.specs.declared.entry.Entry.TheVariants.{Zero, Copy, Get, Reclaim, Done, Event, Turn, Owners, Ran, Out, Call, Grew, Ended}
 use Rattle.user_vax.specs.Frames.{procedure_call, with_frame, push_all, saved, procedure_return, unwound, linkage, restored, arguments_dropped}
-use Rattle.user_vax.specs.Effects.{pop, pop_into}
-use Rattle.flat_model.specs.Calls.{string_from, arguments_from, execve_reply, image_named}
+use Rattle.user_vax.specs.Effects.{pop, pop_into, bytes_at, store_effect, push_onto}
+use Rattle.flat_model.specs.Calls.{string_from, arguments_from, execve_reply, image_named, argument, three_arguments, bytes_from, exit_reply, written_to, write_reply, reply_of}
 use Rattle.resource_map.specs.Room.{lowest_room, lowest as lowest_of, has_room, all_pass}
 use Rattle.vm_facts.specs.declared.event.Event.TheVariants as events
-use Rattle.swap_book.specs.Holdings.{Holdings, fit, is_in, is_held}
+use Rattle.swap_book.specs.Holdings.{Holdings, fit, is_in, is_held, kept}
 use Rattle.swap_dmap.specs.Chunks.{pieces, chunk, chunk_start, lowest, chunks_holding, chunk_reached, counted_from, last_piece, text_pieces}
-use Rattle.flat_model.specs.Asked.{first_held, start_held, or_before}
+use Rattle.flat_model.specs.Asked.{first_held, start_held, or_before, asks, held_step}
 use Rattle.aout_image.specs.declared.Kind.TheVariants.{Paged}
-use Rattle.page_model.specs.Flat.{NamedImage, Inputs}
-use Rattle.flat_model.specs.State.{State, start}
-use Rattle.flat_model.specs.After.{after, state_after}
+use Rattle.flat_state.specs.Flat.{NamedImage, Inputs, argument_area, start_regs}
+use Rattle.run_model.specs.State.{State, start}
+use Rattle.run_model.specs.After.{after, state_after}
 use Rattle.run_model.specs.Next.{next_unit}
-use Rattle.flat_model.specs.Act.{act}
-use Rattle.flat_model.specs.Asked.{asks, held_step}
+use Rattle.run_model.specs.Act.{act}
 use Rattle.flat_model.specs.Step.{flat_step}
 use Rattle.flat_model.specs.Touched.{distinct, step_accesses, touched}
-use Rattle.flat_model.specs.Calls.{argument, three_arguments, bytes_from, exit_reply, written_to, write_reply, reply_of}
-use Rattle.page_model.specs.Change.{replaced, returned, apply_change, apply_writes}
-use Rattle.page_model.specs.Flat.{argument_area, start_regs}
-use Rattle.page_model.specs.Space.{spot_at}
-use Rattle.swap_book.specs.Holdings.{kept}
+use Rattle.flat_state.specs.Change.{replaced, returned, apply_change, apply_writes}
+use Rattle.flat_state.specs.Space.{spot_at}
 use Rattle.swap_book.specs.Placing.{place_all}
 use Rattle.user_vax.specs.Computation.{computation}
-use Rattle.user_vax.specs.Effects.{bytes_at, store_effect, push_onto}
 use Rattle.user_vax.specs.Instruction.{fetch, evaluations, write_tests, tested_effect, execution, execution_by, instruction}
 use Rattle.user_vax.specs.Operands.{number_at, address_of, evaluation_at, evaluation_through, evaluation}
 use Rattle.vax_code.specs.Reading.{byte_at, number_at as number_read, signed_at, displacement_at, base_at, indexed_at, specifier_at, operand_at, counted, place_at, operands_at, instruction_at, decoded}

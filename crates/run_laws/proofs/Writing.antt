@@ -3,33 +3,35 @@ use Rattle.std.proofs.Common.{◌≡◌, ◌≢◌, inl, inr, ℕ, ◌*◌, ◌=
 use Rattle.std.proofs.lemmas.Bool.{cases_eq}
 use Rattle.std.proofs.lemmas.List.{length-set}
 use Rattle.vm_facts.specs.Answers.{ByteWrite}
-use Rattle.vm_facts.specs.Flat.{Space, Holding, Holds, Lends, Zombie, Process, FlatState}
+use Rattle.flat_state.specs.Space.{Space, address_in, put_at, put, puts}
+use Rattle.flat_state.specs.Flat.{Holding, Holds, Lends, Zombie, Process, FlatState, Inputs, process_of, holds_space, spaces_of}
 use Rattle.vm_facts.specs.declared.page.Page.{Page}
 use Rattle.vm_facts.specs.declared.page.Page.TheVariants as pages
 use Rattle.swap_book.specs.Holdings.{Holdings}
-use Rattle.page_model.specs.declared.spot.Spot.{Spot}
-use Rattle.page_model.specs.declared.spot.Spot.TheVariants.{Text, Data, Stack, Below, Outside}
-use Rattle.page_model.specs.Space.{address_in, put_at, put, puts}
-use Rattle.page_model.specs.Flat.{Inputs, process_of, holds_space}
-use Rattle.page_model.specs.Change.{replaced, replaced_by, with_process, wrote_by, wrote_if, apply_writes}
+use Rattle.flat_state.specs.declared.spot.Spot.{Spot}
+use Rattle.flat_state.specs.declared.spot.Spot.TheVariants.{Text, Data, Stack, Below, Outside}
+use Rattle.flat_state.specs.Change.{replaced, replaced_by, with_process, wrote_by, wrote_if, apply_writes}
 use Rattle.page_model.specs.Pages.{numbered}
 use Rattle.page_model.specs.Placement.{Placement, Residence, space_number}
 use Rattle.page_model.specs.Moves.{touch, touch_all}
 use Rattle.page_model.specs.Swapper.{residence_of}
 use Rattle.page_model.specs.Conditions.{HaveParts}
-use Rattle.page_model.specs.Kernel.{Kernel, Fits, AllFit, Outline, outline_of, spaces_of, SameTables, Sound, write_step}
-use Rattle.page_laws.specs.FlatStands.{IsNumbered, Stands, OutHold, holds_some}
-use Rattle.page_laws.proofs.Sounds.{write_sound, touch_transfers}
-use Rattle.page_laws.proofs.Stays.{Steady}
-use Rattle.page_laws.proofs.Sames.{touch_steady}
-use Rattle.page_laws.proofs.Numbers.{write_numbered}
-use Rattle.page_laws.proofs.DueChanges.{touch_due}
-use Rattle.page_laws.proofs.Numbered.{hit, miss, eq_is}
-use Rattle.page_laws.proofs.Local.{some_is}
-use Rattle.page_laws.proofs.FlatLists.{pid_of, sid_of, held, found_is, HeldAt, held_at, held_own, held_other, held_now}
-use Rattle.page_laws.proofs.KernelShapes.{Shaped, sizes_kept, fit_shaped, touch_shaped}
-use Rattle.page_laws.proofs.KernelSwaps.{found_self}
-use Rattle.page_laws.proofs.KernelTables.{tables_of, fit_bytes}
+use Rattle.kernel_model.specs.Kernel.{Kernel, write_step}
+use Rattle.kernel_model.specs.Coupled.{Fits, AllFit, Outline, outline_of, SameTables}
+use Rattle.kernel_model.specs.Sound.{Sound}
+use Rattle.flat_state.specs.Numbers.{IsNumbered}
+use Rattle.kernel_model.specs.Stands.{Stands, OutHold, holds_some}
+use Rattle.kernel_laws.proofs.Sound.Steps.{write_sound, touch_transfers}
+use Rattle.page_laws.proofs.Moves.Stays.{Steady}
+use Rattle.page_laws.proofs.Bytes.Others.{touch_steady}
+use Rattle.kernel_laws.proofs.Sound.NumbersApart.{write_numbered}
+use Rattle.page_laws.proofs.Due.Changes.{touch_due}
+use Rattle.kernel_laws.proofs.Flat.Numbered.{hit, miss, eq_is}
+use Rattle.page_laws.proofs.Lists.Local.{some_is}
+use Rattle.kernel_laws.proofs.Flat.Lists.{pid_of, sid_of, held, found_is, HeldAt, held_at, held_own, held_other, held_now}
+use Rattle.kernel_laws.proofs.Machine.Shapes.{Shaped, sizes_kept, fit_shaped, touch_shaped}
+use Rattle.kernel_laws.proofs.Machine.Swaps.{found_self}
+use Rattle.kernel_laws.proofs.Machine.Tables.{tables_of, fit_bytes}
 use Rattle.run_laws.specs.Standing.{machine_of, EachOnce, Placed}
 use Rattle.run_laws.proofs.Bridge.{from_machine}
 
@@ -101,8 +103,8 @@ space_tables k flat q s z nums f h same t = tables_of k (with_process flat fp) (
     fp = record q { holding = Holds z }
 
     outline : outline_of fp ≡ outline_of q
-    outline = ap (λ (n : ℕ). let o : Outline = record { pid = q.pid; parent = q.parent; life = Rattle.page_model.specs.Kernel.HoldsSpace n; asleep = q.asleep } in o) same.sid
-        ∙ ap (λ (x : Holding). let o : Outline = record { pid = q.pid; parent = q.parent; life = Rattle.page_model.specs.Kernel.life_of x; asleep = q.asleep } in o) (sym h)
+    outline = ap (λ (n : ℕ). let o : Outline = record { pid = q.pid; parent = q.parent; life = Rattle.kernel_model.specs.Kernel.HoldsSpace n; asleep = q.asleep } in o) same.sid
+        ∙ ap (λ (x : Holding). let o : Outline = record { pid = q.pid; parent = q.parent; life = Rattle.kernel_model.specs.Kernel.life_of x; asleep = q.asleep } in o) (sym h)
 
     here : HeldAt flat.processes fp s
     here = held_at flat.processes q fp s f h nums.sids
@@ -119,19 +121,19 @@ space_tables k flat q s z nums f h same t = tables_of k (with_process flat fp) (
 -- who is out still holds a space
 out_same_holders : (p : Placement) (flat after : FlatState) → map outline_of after.processes ≡ map outline_of flat.processes → OutHold p flat → OutHold p after
 out_same_holders p flat after e o n h = holders (process_of flat n) (process_of after n) (o n h)
-    (ap (Rattle.page_laws.proofs.Numbered.image_by outline_of) (found_is flat.processes n) ∙ sym (numbers flat.processes) ∙ ap (numbered (λ (x : Outline). x.pid) n) (sym e) ∙ numbers after.processes ∙ ap (Rattle.page_laws.proofs.Numbered.image_by outline_of) (sym (found_is after.processes n)))
+    (ap (Rattle.kernel_laws.proofs.Flat.Numbered.image_by outline_of) (found_is flat.processes n) ∙ sym (numbers flat.processes) ∙ ap (numbered (λ (x : Outline). x.pid) n) (sym e) ∙ numbers after.processes ∙ ap (Rattle.kernel_laws.proofs.Flat.Numbered.image_by outline_of) (sym (found_is after.processes n)))
   where
-    numbers : (ps : List Process) → numbered (λ (x : Outline). x.pid) n (map outline_of ps) ≡ Rattle.page_laws.proofs.Numbered.image_by outline_of (numbered pid_of n ps)
-    numbers ps = Rattle.page_laws.proofs.Numbered.numbered_image outline_of pid_of (λ (x : Outline). x.pid) (λ x. refl) n ps
+    numbers : (ps : List Process) → numbered (λ (x : Outline). x.pid) n (map outline_of ps) ≡ Rattle.kernel_laws.proofs.Flat.Numbered.image_by outline_of (numbered pid_of n ps)
+    numbers ps = Rattle.kernel_laws.proofs.Flat.Numbered.numbered_image outline_of pid_of (λ (x : Outline). x.pid) (λ x. refl) n ps
 
-    holding : (a b : Holding) → Rattle.page_model.specs.Kernel.life_of a ≡ Rattle.page_model.specs.Kernel.life_of b → holds_space a ≡ true → holds_space b ≡ true
+    holding : (a b : Holding) → Rattle.kernel_model.specs.Kernel.life_of a ≡ Rattle.kernel_model.specs.Kernel.life_of b → holds_space a ≡ true → holds_space b ≡ true
     holding (Holds s) (Holds t) k z = refl
     holding (Holds s) (Lends t c) k z = absurd cc
     holding (Holds s) (Zombie t) k z = absurd cc
     holding (Lends s c) b k z = absurd cc
     holding (Zombie s) b k z = absurd cc
 
-    holders : (a b : Option Process) → holds_some a ≡ true → Rattle.page_laws.proofs.Numbered.image_by outline_of a ≡ Rattle.page_laws.proofs.Numbered.image_by outline_of b → holds_some b ≡ true
+    holders : (a b : Option Process) → holds_some a ≡ true → Rattle.kernel_laws.proofs.Flat.Numbered.image_by outline_of a ≡ Rattle.kernel_laws.proofs.Flat.Numbered.image_by outline_of b → holds_some b ≡ true
     holders None b z k = absurd cc
     holders (Some x) None z k = absurd cc
     holders (Some x) (Some y) z k = holding x.holding y.holding (ap (λ (o : Outline). o.life) (some_is (outline_of x) (outline_of y) k)) z

@@ -2,35 +2,37 @@
 use Rattle.std.proofs.Common.{◌≡◌, ◌≢◌, ◌⊎◌, inl, inr, ℕ, ◌/◌, ◌%◌, ◌==◌, Bool, true, false, List, [], ◌∷◌, length, Option, Some, None, refl, sym, ap, ◌∙◌, subst}
 use Rattle.std.specs.Prelude.{filter_map}
 use Rattle.vm_facts.specs.Answers.{ByteWrite}
-use Rattle.vm_facts.specs.Flat.{Space, Holding, Holds, Process, FlatState}
+use Rattle.flat_state.specs.Space.{Space, spot_at, address_in, put}
+use Rattle.flat_state.specs.Flat.{Holding, Holds, Process, FlatState, Inputs, process_of}
 use Rattle.vm_facts.specs.declared.page.Page.{Page}
 use Rattle.vm_facts.specs.declared.page.Page.TheVariants as pages
 use Rattle.vm_facts.specs.declared.page.PageState.{PageState}
 use Rattle.vm_facts.specs.declared.page.PageState.TheVariants.{Unfilled, Valid, Invalid, Coming, Going, OnSwap}
-use Rattle.page_model.specs.declared.spot.Spot.{Spot}
-use Rattle.page_model.specs.declared.spot.Spot.TheVariants.{Text, Data, Stack, Below, Outside}
-use Rattle.page_model.specs.Space.{spot_at, address_in, put}
-use Rattle.page_model.specs.Flat.{Inputs, process_of}
-use Rattle.page_model.specs.Change.{replaced, replaced_by, with_process, wrote_if, wrote_by, apply_writes}
+use Rattle.flat_state.specs.declared.spot.Spot.{Spot}
+use Rattle.flat_state.specs.declared.spot.Spot.TheVariants.{Text, Data, Stack, Below, Outside}
+use Rattle.flat_state.specs.Change.{replaced, replaced_by, with_process, wrote_if, wrote_by, apply_writes}
 use Rattle.page_model.specs.Pages.{numbered, is_valid, frame_of}
 use Rattle.page_model.specs.Placement.{Placement, Due, state_of}
 use Rattle.page_model.specs.Moves.{touch, touch_to, touch_all}
-use Rattle.page_model.specs.Writes.{IsByteOf}
-use Rattle.page_model.specs.Kernel.{Kernel, Coupled, Sound, write_step}
-use Rattle.page_laws.specs.Numbers.{Numbered}
-use Rattle.page_laws.specs.FlatStands.{IsNumbered, Stands}
-use Rattle.page_laws.proofs.PageLaws.{page_cases, put_state}
-use Rattle.page_laws.proofs.Steps.{page_in, put_other_state}
-use Rattle.page_laws.proofs.Local.{some_is}
-use Rattle.page_laws.proofs.Stays.{Steady}
-use Rattle.page_laws.proofs.Sames.{touch_steady}
-use Rattle.page_laws.proofs.FlatLists.{pid_of}
-use Rattle.page_laws.proofs.FlatNumbers.{writes_numbered}
-use Rattle.page_laws.proofs.KernelSwaps.{found_self}
-use Rattle.page_laws.proofs.KernelWrites.{written, write_coupled, writes_one}
-use Rattle.page_laws.proofs.KernelStandsChanges.{write_stands}
-use Rattle.page_laws.proofs.Sounds.{write_sound}
-use Rattle.page_laws.proofs.Numbers.{write_numbered}
+use Rattle.flat_state.specs.Writes.{IsByteOf}
+use Rattle.kernel_model.specs.Kernel.{Kernel, write_step}
+use Rattle.kernel_model.specs.Coupled.{Coupled}
+use Rattle.kernel_model.specs.Sound.{Sound}
+use Rattle.kernel_model.specs.Numbers.{Numbered}
+use Rattle.flat_state.specs.Numbers.{IsNumbered}
+use Rattle.kernel_model.specs.Stands.{Stands}
+use Rattle.page_laws.proofs.Lists.Pages.{page_cases, put_state}
+use Rattle.page_laws.proofs.Moves.Steps.{page_in, put_other_state}
+use Rattle.page_laws.proofs.Lists.Local.{some_is}
+use Rattle.page_laws.proofs.Moves.Stays.{Steady}
+use Rattle.page_laws.proofs.Bytes.Others.{touch_steady}
+use Rattle.kernel_laws.proofs.Flat.Lists.{pid_of}
+use Rattle.kernel_laws.proofs.Flat.Numbers.{writes_numbered}
+use Rattle.kernel_laws.proofs.Machine.Swaps.{found_self}
+use Rattle.kernel_laws.proofs.Machine.Writes.{written, write_coupled, writes_one}
+use Rattle.kernel_laws.proofs.Stands.Changes.{write_stands}
+use Rattle.kernel_laws.proofs.Sound.Steps.{write_sound}
+use Rattle.kernel_laws.proofs.Sound.NumbersApart.{write_numbered}
 use Rattle.flat_model.specs.Touched.{page_tested}
 use Rattle.run_laws.specs.Machine.{place_in, write_into, write_page, write_byte, write_bytes}
 use Rattle.run_laws.proofs.Writing.{SameSpace, puts_same}

@@ -2,7 +2,7 @@
 use Rattle.std.specs.Prelude.{◌≡◌, ◌⊎◌, ℕ, ◌<◌, ◌≤◌, List, [], ◌∷◌, length, Some, Ok, Err}
 use Rattle.aout_image.specs.Image.{image_of}
 use Rattle.swap_book.specs.Holdings.{Holdings}
-use Rattle.page_model.specs.Flat.{NamedImage, Inputs, image_numbered}
+use Rattle.flat_state.specs.Flat.{NamedImage, Inputs, image_numbered}
 use Rattle.flat_model.specs.Asked.{start_held}
 use Rattle.run_laws.specs.Running.{CanRun}
 

@@ -2,11 +2,11 @@
 use Rattle.std.specs.Prelude.{◌≡◌, ℕ, Bool, [], Option, Some, None}
 use Rattle.vm_facts.specs.declared.entry.Entry.{Entry}
 use Rattle.vm_facts.specs.declared.entry.Entry.TheVariants as entries
-use Rattle.page_model.specs.Flat.{Inputs}
+use Rattle.flat_state.specs.Flat.{Inputs}
 use Rattle.flat_model.specs.Run.{due_at}
-use Rattle.flat_model.specs.State.{State}
-use Rattle.flat_model.specs.Wanted.{wanted}
-use Rattle.flat_model.specs.Act.{LastSays}
+use Rattle.run_model.specs.State.{State}
+use Rattle.run_model.specs.Wanted.{wanted}
+use Rattle.run_model.specs.Act.{LastSays}
 use Rattle.run_model.specs.Kinds.{Runs}
 
 -- the process runs, all its pages are valid, and an entry of its step isn't there yet

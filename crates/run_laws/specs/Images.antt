@@ -1,15 +1,17 @@
 -- The swap image along a run.
 use Rattle.std.specs.Prelude.{◌≡◌, ℕ, List, [], ◌∷◌, Some}
-use Rattle.vm_facts.specs.Flat.{Process}
+use Rattle.flat_state.specs.Flat.{Process, Inputs, process_of}
 use Rattle.vm_facts.specs.declared.page.Page.{Page}
 use Rattle.vm_facts.specs.declared.page.PageState.TheVariants.{OnSwap}
 use Rattle.vm_facts.specs.declared.entry.Entry.{Entry}
 use Rattle.vm_facts.specs.declared.entry.Entry.TheVariants as entries
-use Rattle.page_model.specs.Flat.{Inputs, process_of}
 use Rattle.page_model.specs.Placement.{Transfer, Part, Errand, Writes, Reads, state_of}
-use Rattle.page_model.specs.Kernel.{Kernel, AreRegs, frame_bytes, memory_of, stored}
-use Rattle.flat_model.specs.State.{State}
-use Rattle.flat_model.specs.After.{after}
+use Rattle.kernel_model.specs.Kernel.{Kernel, frame_bytes}
+use Rattle.kernel_model.specs.UPage.{AreRegs}
+use Rattle.kernel_model.specs.Coupled.{memory_of}
+use Rattle.page_model.specs.Stored.{stored}
+use Rattle.run_model.specs.State.{State}
+use Rattle.run_model.specs.After.{after}
 
 -- who goes out has sixteen registers of longwords
 abbrev pub OutFits : State → Entry → Type 0

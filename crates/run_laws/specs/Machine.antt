@@ -1,7 +1,8 @@
 -- What each unit of a run makes of the whole machine with its bytes and of the swap image, and what stands of it then.
 use Rattle.std.specs.Prelude.{◌≡◌, ℕ, ◌*◌, ◌%◌, ◌==◌, ◌≤◌, Bool, true, false, cond, List, [], ◌∷◌, length, Option, Some, None}
 use Rattle.vm_facts.specs.Answers.{ByteWrite}
-use Rattle.vm_facts.specs.Flat.{Space, Holding, Holds, Lends, Zombie, Process, FlatState}
+use Rattle.flat_state.specs.Space.{Space, address_in}
+use Rattle.flat_state.specs.Flat.{Holding, Holds, Lends, Zombie, Process, FlatState, NamedImage, Inputs, process_of}
 use Rattle.vm_facts.specs.declared.page.Page.{Page}
 use Rattle.vm_facts.specs.declared.page.Page.TheVariants.{Data, Stack}
 use Rattle.vm_facts.specs.declared.page.PageState.{PageState}
@@ -12,28 +13,30 @@ use Rattle.vm_facts.specs.declared.entry.Entry.TheVariants as entries
 use Rattle.swap_book.specs.declared.Owner.TheVariants as owners
 use Rattle.swap_book.specs.Holdings.{block_in}
 use Rattle.swap_book.specs.Placing.{Wanted}
-use Rattle.page_model.specs.declared.spot.Spot.{Spot}
-use Rattle.page_model.specs.declared.spot.Spot.TheVariants as spots
-use Rattle.page_model.specs.declared.change.Change.{Change}
-use Rattle.page_model.specs.declared.change.Change.TheVariants.{Lend, Exec, End}
-use Rattle.page_model.specs.Space.{address_in}
-use Rattle.page_model.specs.Flat.{NamedImage, Inputs, process_of}
+use Rattle.flat_state.specs.declared.spot.Spot.{Spot}
+use Rattle.flat_state.specs.declared.spot.Spot.TheVariants as spots
+use Rattle.flat_state.specs.declared.change.Change.{Change}
+use Rattle.flat_state.specs.declared.change.Change.TheVariants.{Lend, Exec, End}
 use Rattle.page_model.specs.Pages.{numbered}
 use Rattle.page_model.specs.Placement.{Placement, slots_of, state_of}
 use Rattle.page_model.specs.Place.{is_borrower}
 use Rattle.page_model.specs.Swapper.{is_out}
-use Rattle.page_model.specs.Kernel.{Kernel, Proc, Life, New, HoldsSpace, LendsSpace, Ended, Sound, Coupled, AreRegs, AreRead, beside_kernel, plain_step, zero_step, copy_step, get_step, reclaim_step, push_step, done_step, write_step, note_step, out_step, in_step, image_after, stored_at, store_at, u_page, regs_in}
-use Rattle.page_model.specs.FlatStep.{flat_step, ran_by, pass_step, space_of_life}
-use Rattle.page_laws.specs.Numbers.{Numbered}
-use Rattle.page_laws.specs.FlatStands.{Stands}
+use Rattle.kernel_model.specs.Kernel.{Kernel, Proc, Life, New, HoldsSpace, LendsSpace, Ended, plain_step, zero_step, copy_step, get_step, reclaim_step, push_step, done_step, write_step, note_step, out_step, in_step, image_after}
+use Rattle.kernel_model.specs.Sound.{Sound}
+use Rattle.kernel_model.specs.Coupled.{Coupled, AreRead, beside_kernel}
+use Rattle.kernel_model.specs.UPage.{AreRegs, u_page, regs_in}
+use Rattle.page_model.specs.Stored.{stored_at, store_at}
+use Rattle.kernel_model.specs.ChangeStep.{change_step, ran_by, pass_step, space_of_life}
+use Rattle.kernel_model.specs.Numbers.{Numbered}
+use Rattle.kernel_model.specs.Stands.{Stands}
 use Rattle.flat_model.specs.Touched.{page_tested}
 use Rattle.flat_model.specs.Run.{step_at}
 use Rattle.flat_model.specs.Asked.{with_pieces, wanted_if}
-use Rattle.flat_model.specs.State.{State}
-use Rattle.flat_model.specs.Wanted.{locked}
-use Rattle.flat_model.specs.After.{after}
+use Rattle.run_model.specs.State.{State}
+use Rattle.run_model.specs.Wanted.{locked}
+use Rattle.run_model.specs.After.{after}
 use Rattle.run_model.specs.Next.{next_unit}
-use Rattle.page_laws.specs.Start.{ImagesFit}
+use Rattle.kernel_model.specs.Start.{ImagesFit}
 use Rattle.run_laws.specs.Running.{IsRun}
 
 -- Bytes that a process writes.
@@ -86,13 +89,13 @@ lender_among (p ∷ ps) pid = cond (lends_life pid p.life) p.pid (lender_among p
 
 -- who has a space of its own, or keeps the one that it borrowed; a space that it lends passes to the child
 abbrev pub keeps_step : List NamedImage → Kernel → ℕ → Regs → Entry → Change → Kernel
-keeps_step images k pid regs e (Lend child) = pass_step (flat_step images k pid regs e (Lend child)) pid child
-keeps_step images k pid regs e change = flat_step images k pid regs e change
+keeps_step images k pid regs e (Lend child) = pass_step (change_step images k pid regs e (Lend child)) pid child
+keeps_step images k pid regs e change = change_step images k pid regs e change
 
 -- who borrowed its space gives it back before a new image and before its end
 abbrev pub back_step : List NamedImage → Kernel → ℕ → Regs → Entry → Change → Kernel
-back_step images k pid regs e (Exec image top) = flat_step images (pass_step k pid (lender_among k.processes pid)) pid regs e (Exec image top)
-back_step images k pid regs e (End status) = flat_step images (pass_step k pid (lender_among k.processes pid)) pid regs e (End status)
+back_step images k pid regs e (Exec image top) = change_step images (pass_step k pid (lender_among k.processes pid)) pid regs e (Exec image top)
+back_step images k pid regs e (End status) = change_step images (pass_step k pid (lender_among k.processes pid)) pid regs e (End status)
 back_step images k pid regs e change = keeps_step images k pid regs e change
 
 -- an entry of a process with its change, by whether the process borrowed its space

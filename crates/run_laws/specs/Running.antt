@@ -1,14 +1,15 @@
 -- What stands behind each unit of a run.
 use Rattle.std.specs.Prelude.{◌≡◌, ℕ, ◌<◌, ◌≤◌, true, false, List, [], ◌∷◌, length, Some, Ok}
 use Rattle.swap_book.specs.Holdings.{Holdings}
-use Rattle.page_model.specs.Flat.{NamedImage, Inputs, image_numbered, can_step}
+use Rattle.flat_state.specs.Flat.{NamedImage, Inputs, image_numbered, can_step}
 use Rattle.page_model.specs.Swapper.{is_out}
-use Rattle.page_laws.specs.Start.{ImagesFit}
-use Rattle.page_laws.specs.FlatStands.{IsNumbered, LendsStand}
+use Rattle.kernel_model.specs.Start.{ImagesFit}
+use Rattle.flat_state.specs.Numbers.{IsNumbered}
+use Rattle.flat_state.specs.Lenders.{LendsStand}
 use Rattle.flat_model.specs.Asked.{start_held}
 use Rattle.flat_model.specs.Touched.{touched}
-use Rattle.flat_model.specs.Wanted.{AllValid}
-use Rattle.flat_model.specs.State.{State}
+use Rattle.run_model.specs.Wanted.{AllValid}
+use Rattle.run_model.specs.State.{State}
 use Rattle.touch_laws.specs.Whole.{AllSized}
 use Rattle.run_laws.specs.Standing.{Placed, TextsHeld, MarkStands}
 use Rattle.run_laws.specs.Flowing.{Flows}

@@ -1,11 +1,11 @@
 -- How large spaces are, and how many processes there are.
 use Rattle.std.specs.Prelude.{◌≡◌, ℕ, ◌*◌, ◌<◌, ◌≤◌, length, Some}
-use Rattle.vm_facts.specs.Flat.{Space, Holding, Holds, Lends, Zombie, FlatState}
+use Rattle.flat_state.specs.Space.{Space}
+use Rattle.flat_state.specs.Flat.{Holding, Holds, Lends, Zombie, FlatState, NamedImage, Inputs, image_numbered}
 use Rattle.vm_facts.specs.declared.page.Page.TheVariants.{Data, Stack}
 use Rattle.aout_image.specs.Image.{data_pages_of}
-use Rattle.page_model.specs.Flat.{NamedImage, Inputs, image_numbered}
-use Rattle.page_model.specs.declared.change.Change.{Change}
-use Rattle.page_model.specs.declared.change.Change.TheVariants.{Resize, Fork, Lend}
+use Rattle.flat_state.specs.declared.change.Change.{Change}
+use Rattle.flat_state.specs.declared.change.Change.TheVariants.{Resize, Fork, Lend}
 use Rattle.page_model.specs.Placement.{Placement, slots_of}
 use Rattle.run_laws.specs.Standing.{EachProcess}
 

@@ -1,25 +1,27 @@
 -- What stands after each unit of a run.
 use Rattle.std.specs.Prelude.{◌≡◌, ℕ, ◌<◌, Bool, true, false, List, [], ◌∷◌, length, map, replicate, Some}
-use Rattle.vm_facts.specs.Flat.{Space, Holding, Holds, Lends, Zombie, Process, FlatState}
+use Rattle.flat_state.specs.Space.{Space}
+use Rattle.flat_state.specs.Flat.{Holding, Holds, Lends, Zombie, Process, FlatState, NamedImage, Inputs, process_of, image_numbered}
 use Rattle.vm_facts.specs.declared.page.PageState.TheVariants.{Unfilled, Invalid}
 use Rattle.vm_facts.specs.declared.entry.Entry.{Entry}
 use Rattle.vm_facts.specs.declared.entry.Entry.TheVariants as entries
 use Rattle.swap_book.specs.Holdings.{Holdings}
-use Rattle.page_model.specs.Flat.{NamedImage, Inputs, process_of, image_numbered}
-use Rattle.page_model.specs.declared.change.Change.{Change}
-use Rattle.page_model.specs.declared.change.Change.TheVariants.{Exec, End}
+use Rattle.flat_state.specs.declared.change.Change.{Change}
+use Rattle.flat_state.specs.declared.change.Change.TheVariants.{Exec, End}
 use Rattle.page_model.specs.Pages.{Zeros}
 use Rattle.page_model.specs.Placement.{Placement, Due, due_page, state_of, filling_of}
 use Rattle.page_model.specs.Swapper.{is_out}
 use Rattle.page_model.specs.Conditions.{CanPlace, CanBegin, EntryShared, HaveParts}
 use Rattle.page_model.specs.Dues.{DueStand, NotDue, LeavesDue}
-use Rattle.page_model.specs.Kernel.{Kernel, SameTables, Sound}
-use Rattle.page_laws.specs.Start.{kept_of}
-use Rattle.page_laws.specs.Numbers.{Numbered}
-use Rattle.page_laws.specs.FlatStands.{Stands, holds_some}
-use Rattle.flat_model.specs.declared.mark.Mark.{Mark}
-use Rattle.flat_model.specs.declared.mark.Mark.TheVariants as marks
-use Rattle.flat_model.specs.State.{State}
+use Rattle.kernel_model.specs.Kernel.{Kernel}
+use Rattle.kernel_model.specs.Coupled.{SameTables}
+use Rattle.kernel_model.specs.Sound.{Sound}
+use Rattle.kernel_model.specs.Start.{kept_of}
+use Rattle.kernel_model.specs.Numbers.{Numbered}
+use Rattle.kernel_model.specs.Stands.{Stands, holds_some}
+use Rattle.run_model.specs.declared.mark.Mark.{Mark}
+use Rattle.run_model.specs.declared.mark.Mark.TheVariants as marks
+use Rattle.run_model.specs.State.{State}
 
 -- What a unit asks of the placement.
 

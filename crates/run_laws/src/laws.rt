@@ -1,17 +1,18 @@
 ghost use Rattle.std.specs.Prelude.{◌≡◌, ◌⊎◌, ℕ, ◌≤◌, Bool, List, length, Some, None};
 ghost use Rattle.vm_facts.specs.declared.entry.Entry.{Entry};
 ghost use Rattle.swap_book.specs.Holdings.{Holdings};
-ghost use Rattle.page_model.specs.Flat.{Inputs};
-ghost use Rattle.page_laws.specs.Start.{ImagesFit};
+ghost use Rattle.flat_state.specs.Flat.{Inputs};
+ghost use Rattle.kernel_model.specs.Start.{ImagesFit};
 ghost use Rattle.flat_model.specs.Run.{process_of_entry};
-ghost use Rattle.flat_model.specs.State.{State, start};
-ghost use Rattle.flat_model.specs.After.{after};
+ghost use Rattle.run_model.specs.State.{State, start};
+ghost use Rattle.run_model.specs.After.{after};
 ghost use Rattle.run_model.specs.Next.{next_unit};
 ghost use Rattle.run_model.specs.Lawful.{Follows, Reaches, IsLawful, IsFinished};
 ghost use Rattle.run_model.specs.Kinds.{Runs};
 ghost use Rattle.page_model.specs.Rank.{HasRoom};
+ghost use Rattle.touch_laws.specs.Whole.{EachWhole};
 ghost use Rattle.flat_model.specs.Touched.{touched};
-ghost use Rattle.flat_model.specs.Wanted.{wanted, locked};
+ghost use Rattle.run_model.specs.Wanted.{wanted, locked};
 ghost use Rattle.run_laws.specs.Standing.{IsAllowed};
 ghost use Rattle.run_laws.specs.Running.{IsRun, CanRun, IsReady, IsIdle};
 
@@ -51,4 +52,5 @@ pub fn runs_end()
 pub fn instructions_have_room()
     ensures few { (A : Inputs) (s : State) (pid : ℕ) → IsRun A s → length (touched A s.point.flat pid) ≤ 28 }
     ensures room { (A : Inputs) (s : State) → IsRun A s → 64 ≤ A.frames → HasRoom s.place (locked A s) }
+    ensures locked { (A : Inputs) (s : State) → EachWhole s.point.flat → 64 ≤ length s.place.holds → HasRoom s.place (locked A s) }
 {}

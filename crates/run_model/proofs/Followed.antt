@@ -1,9 +1,9 @@
 -- Next units lead one way.
 use Rattle.std.proofs.Common.{◌≡◌, ℕ, suc, List, [], ◌∷◌, ◌++◌, length, Some, refl, sym, ap, ◌∙◌, subst}
 use Rattle.vm_facts.specs.declared.entry.Entry.{Entry}
-use Rattle.page_model.specs.Flat.{Inputs}
-use Rattle.flat_model.specs.State.{State}
-use Rattle.flat_model.specs.After.{after}
+use Rattle.flat_state.specs.Flat.{Inputs}
+use Rattle.run_model.specs.State.{State}
+use Rattle.run_model.specs.After.{after}
 use Rattle.run_model.specs.Lawful.{Follows}
 
 same_some : (x y : Entry) → Some x ≡ Some y → x ≡ y

@@ -1,2 +1,7 @@
+pub mod After
+pub mod FlatRuns
+pub mod Acting
 pub mod Followed
 pub mod NextUnits
+pub mod Wanting
+pub mod Worked

@@ -3,17 +3,17 @@ use Rattle.std.specs.Prelude.{◌≡◌, ◌⊎◌, ℕ, ◌+◌, ◌<◌, Bool,
 use Rattle.vm_facts.specs.declared.page.Page.{Page}
 use Rattle.vm_facts.specs.declared.entry.Entry.{Entry}
 use Rattle.vm_facts.specs.declared.entry.Entry.TheVariants as entries
-use Rattle.page_model.specs.Flat.{Inputs, process_of, can_step}
+use Rattle.flat_state.specs.Flat.{Inputs, process_of, can_step}
 use Rattle.page_model.specs.Placement.{Due, Start, CopyOf}
 use Rattle.page_model.specs.Place.{space_of_process}
 use Rattle.page_model.specs.Hands.{wants_moves}
 use Rattle.page_model.specs.Serve.{serve_unit}
 use Rattle.page_model.specs.Swapper.{is_out, put_out_unit}
-use Rattle.flat_model.specs.declared.mark.Mark.{Mark}
-use Rattle.flat_model.specs.declared.mark.Mark.TheVariants as marks
-use Rattle.flat_model.specs.State.{State}
-use Rattle.flat_model.specs.Wanted.{wanted, locked}
-use Rattle.flat_model.specs.Act.{act}
+use Rattle.run_model.specs.declared.mark.Mark.{Mark}
+use Rattle.run_model.specs.declared.mark.Mark.TheVariants as marks
+use Rattle.run_model.specs.State.{State}
+use Rattle.run_model.specs.Wanted.{wanted, locked}
+use Rattle.run_model.specs.Act.{act}
 use Rattle.run_model.specs.Next.{fill_unit, goes_on, turn_instructions, move_unit, owners_entry, under, next_mark}
 
 -- a process goes on under a mark: in a dispatch, where it is in, pages are served without waiting; in a turn with it

@@ -2,12 +2,12 @@
 use Rattle.std.specs.Prelude.{◌≡◌, List, [], ◌∷◌, Some, None, Ok}
 use Rattle.vm_facts.specs.declared.entry.Entry.{Entry}
 use Rattle.swap_book.specs.Holdings.{Holdings}
-use Rattle.page_model.specs.Flat.{Inputs}
-use Rattle.page_model.specs.Journal.{appended, instructions_of}
+use Rattle.flat_state.specs.Flat.{Inputs}
+use Rattle.flat_state.specs.Journal.{appended, instructions_of}
 use Rattle.flat_model.specs.Run.{flat_run}
 use Rattle.flat_model.specs.Asked.{start_held, held}
-use Rattle.flat_model.specs.State.{State, start}
-use Rattle.flat_model.specs.After.{after}
+use Rattle.run_model.specs.State.{State, start}
+use Rattle.run_model.specs.After.{after}
 use Rattle.run_model.specs.Next.{next_unit}
 
 -- each of these units is the next one, and they lead from the first state to the second

@@ -1,25 +1,24 @@
 -- The written policy: which unit comes next of all.
 use Rattle.std.specs.Prelude.{ℕ, zero, ◌+◌, ◌-◌, ◌==◌, Bool, true, false, not, ◌&&◌, nat_lt, List, [], ◌∷◌, find, length, Option, Some, None}
-use Rattle.vm_facts.specs.Flat.{Process, FlatState}
+use Rattle.flat_state.specs.Flat.{Process, FlatState, Inputs, process_of, can_step, is_ready}
 use Rattle.vm_facts.specs.declared.page.Page.{Page}
 use Rattle.vm_facts.specs.declared.page.PageState.{PageState}
 use Rattle.vm_facts.specs.declared.page.PageState.TheVariants.{Invalid}
 use Rattle.vm_facts.specs.declared.entry.Entry.{Entry}
 use Rattle.vm_facts.specs.declared.entry.Entry.TheVariants as entries
 use Rattle.swap_book.specs.Holdings.{Holdings}
-use Rattle.page_model.specs.Flat.{Inputs, process_of, can_step, is_ready}
-use Rattle.page_model.specs.Pages.{is_among}
+use Rattle.flat_state.specs.PageNames.{is_among}
 use Rattle.page_model.specs.Frames.{times}
 use Rattle.page_model.specs.Placement.{Placement, Due, Start, CopyOf, state_of, is_dirty, page_of, parts_of}
 use Rattle.page_model.specs.Place.{space_of_process}
 use Rattle.page_model.specs.Hands.{expire, wants_moves}
 use Rattle.page_model.specs.Serve.{force_entry, is_full, serve_unit}
 use Rattle.page_model.specs.Swapper.{is_out, put_out_unit}
-use Rattle.flat_model.specs.declared.mark.Mark.{Mark}
-use Rattle.flat_model.specs.declared.mark.Mark.TheVariants as marks
-use Rattle.flat_model.specs.State.{State}
-use Rattle.flat_model.specs.Wanted.{wanted, locked}
-use Rattle.flat_model.specs.Act.{act}
+use Rattle.run_model.specs.declared.mark.Mark.{Mark}
+use Rattle.run_model.specs.declared.mark.Mark.TheVariants as marks
+use Rattle.run_model.specs.State.{State}
+use Rattle.run_model.specs.Wanted.{wanted, locked}
+use Rattle.run_model.specs.Act.{act}
 
 abbrev pub when : {A : Type 0} → Bool → Option A → Option A
 when true o = o

@@ -1,20 +1,21 @@
 -- The swap image behind a journal.
 use Rattle.std.specs.Prelude.{ℕ, List, [], ◌∷◌, length, Option, Some, None}
-use Rattle.vm_facts.specs.Flat.{Process}
+use Rattle.flat_state.specs.Flat.{Process, Inputs, process_of}
 use Rattle.vm_facts.specs.declared.page.Page.TheVariants.{Data, Stack}
 use Rattle.vm_facts.specs.declared.entry.Entry.{Entry}
 use Rattle.vm_facts.specs.declared.entry.Entry.TheVariants as entries
 use Rattle.swap_book.specs.declared.Owner.TheVariants as owners
 use Rattle.swap_book.specs.Holdings.{block_in}
-use Rattle.page_model.specs.Flat.{Inputs, process_of}
-use Rattle.page_model.specs.Journal.{units_of}
+use Rattle.flat_state.specs.Journal.{units_of}
 use Rattle.page_model.specs.Placement.{Transfer, Part, Errand, Writes, Reads, slots_of}
 use Rattle.page_model.specs.Place.{space_of_holding}
 use Rattle.page_model.specs.Ownership.{block_of}
-use Rattle.page_model.specs.Kernel.{store_at, u_page, memory_of}
+use Rattle.page_model.specs.Stored.{store_at}
+use Rattle.kernel_model.specs.UPage.{u_page}
+use Rattle.kernel_model.specs.Coupled.{memory_of}
 use Rattle.flat_model.specs.Asked.{start_held, or_before}
-use Rattle.flat_model.specs.State.{State, start}
-use Rattle.flat_model.specs.After.{after}
+use Rattle.run_model.specs.State.{State, start}
+use Rattle.run_model.specs.After.{after}
 
 -- each of these pages, as the flat machine has it, is in its two blocks
 abbrev pub pages_stored : Inputs → State → List Part → List ℕ → List ℕ

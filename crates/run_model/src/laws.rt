@@ -1,7 +1,7 @@
 ghost use Rattle.std.specs.Prelude.{◌≡◌, List, [], ◌∷◌, ◌++◌, length, Some};
 ghost use Rattle.vm_facts.specs.declared.entry.Entry.{Entry};
-ghost use Rattle.page_model.specs.Flat.{Inputs};
-ghost use Rattle.flat_model.specs.State.{State};
+ghost use Rattle.flat_state.specs.Flat.{Inputs};
+ghost use Rattle.run_model.specs.State.{State};
 ghost use Rattle.run_model.specs.Next.{next_unit};
 ghost use Rattle.run_model.specs.Kinds.{Kind};
 ghost use Rattle.run_model.specs.Lawful.{Follows};

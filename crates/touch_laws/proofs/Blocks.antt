@@ -3,15 +3,14 @@ use Rattle.std.proofs.Common.{◌≡◌, ℕ, ◌+◌, ◌-◌, ◌*◌, ◌/◌
 use Rattle.std.specs.List.{cons_option}
 use Rattle.std.proofs.lemmas.Bool.{cases_eq}
 use Rattle.std.proofs.lemmas.Bool.Decides.{nat_tests}
-use Rattle.vm_facts.specs.Flat.{Space}
+use Rattle.flat_state.specs.Space.{Space, spot_by, spot_at, stack_top, address_in}
 use Rattle.vm_facts.specs.declared.page.Page.{Page}
 use Rattle.vm_facts.specs.declared.page.Page.TheVariants as pages
 use Rattle.user_vax.specs.Program.{Access, ReadOf, TestOf}
-use Rattle.page_model.specs.declared.spot.Spot.{Spot}
-use Rattle.page_model.specs.declared.spot.Spot.TheVariants.{Text, Data, Stack, Below, Outside}
-use Rattle.page_model.specs.Pages.{same_page, is_among}
-use Rattle.page_model.specs.Space.{spot_by, spot_at, stack_top, address_in}
-use Rattle.page_model.proofs.Spots.{text_spot, data_spot, stack_spot}
+use Rattle.flat_state.specs.declared.spot.Spot.{Spot}
+use Rattle.flat_state.specs.declared.spot.Spot.TheVariants.{Text, Data, Stack, Below, Outside}
+use Rattle.flat_state.specs.PageNames.{same_page, is_among}
+use Rattle.flat_state.proofs.Spots.{text_spot, data_spot, stack_spot}
 use Rattle.flat_model.specs.Touched.{page_read, page_tested, page_of_access, distinct}
 use Rattle.touch_laws.specs.Whole.{IsWhole}
 use Rattle.touch_laws.proofs.Near.{IsAt, IsNear}

@@ -1,10 +1,10 @@
 -- What the system calls read.
 use Rattle.std.proofs.Common.{ℕ, zero, suc, ◌+◌, ◌*◌, ◌≤◌, ◌==◌, ◌||◌, Bool, true, false, min, List, Option, Some, None, arith}
 use Rattle.vm_facts.specs.Answers.{Answers}
-use Rattle.vm_facts.specs.Flat.{Space, Process, FlatState}
+use Rattle.flat_state.specs.Space.{Space}
+use Rattle.flat_state.specs.Flat.{Process, FlatState, NamedImage}
 use Rattle.vm_facts.specs.declared.regs.Regs.{Regs}
 use Rattle.user_vax.specs.Operands.{register, past, number_at}
-use Rattle.page_model.specs.Flat.{NamedImage}
 use Rattle.flat_model.specs.declared.calls.SystemCall.{SystemCall}
 use Rattle.flat_model.specs.declared.calls.SystemCall.TheVariants as calls
 use Rattle.flat_model.specs.Calls.{write_limit, string_limit, argument_limit, argument, three_arguments, bytes_from, string_after, string_from, string_before, last_pointer, pointer_after, arguments_from, arguments_at, exit_reply, written_to, write_reply, break_reply, path_image, execve_of, execve_reply, reply_of}

@@ -3,7 +3,7 @@ use Rattle.std.proofs.Common.{◌≡◌, ℕ, suc, ◌≤◌, ◌==◌, Bool, tr
 use Rattle.std.proofs.lemmas.Bool.Decides.{nat_tests}
 use Rattle.vm_facts.specs.declared.page.Page.{Page}
 use Rattle.vm_facts.specs.declared.page.Page.TheVariants.{Data, Stack, Text}
-use Rattle.page_model.specs.Pages.{same_page, is_among}
+use Rattle.flat_state.specs.PageNames.{same_page, is_among}
 use Rattle.flat_model.specs.Touched.{distinct}
 
 number_is : (a b : ℕ) → (a == b) ≡ true → a ≡ b

@@ -1,16 +1,15 @@
 -- How many pages the next instruction of a process touches.
 use Rattle.std.proofs.Common.{◌≡◌, ℕ, ◌≤◌, Bool, true, false, List, [], ◌∷◌, ◌++◌, length, Option, Some, None, Result, Ok, Err, ℤ, refl, arith, length-append}
 use Rattle.vm_facts.specs.Answers.{Answers}
-use Rattle.vm_facts.specs.Flat.{Space, Holding, Holds, Lends, Zombie, Process, FlatState}
+use Rattle.flat_state.specs.Space.{Space, answers_of, puts}
+use Rattle.flat_state.specs.Flat.{Holding, Holds, Lends, Zombie, Process, FlatState, NamedImage, Inputs, process_of, is_ready}
 use Rattle.vm_facts.specs.declared.page.Page.{Page}
 use Rattle.user_vax.specs.declared.refused.Refused.{Refused}
 use Rattle.user_vax.specs.Program.{Program, Access, accesses, run}
 use Rattle.user_vax.specs.Operands.{register}
 use Rattle.user_vax.specs.Effects.{Effect}
 use Rattle.user_vax.specs.Instruction.{instruction}
-use Rattle.page_model.specs.Flat.{NamedImage, Inputs, process_of, is_ready}
-use Rattle.page_model.specs.Space.{answers_of, puts}
-use Rattle.page_model.specs.Change.{apply_writes}
+use Rattle.flat_state.specs.Change.{apply_writes}
 use Rattle.page_model.specs.Rank.{HasRoom}
 use Rattle.page_model.specs.Placement.{Placement}
 use Rattle.flat_model.specs.declared.calls.SystemCall.{SystemCall}

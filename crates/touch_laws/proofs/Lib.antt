@@ -9,4 +9,3 @@ pub mod Distinct
 pub mod Blocks
 pub mod Few
 pub mod Sized
-pub mod Room

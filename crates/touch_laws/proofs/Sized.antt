@@ -4,7 +4,8 @@ use Rattle.std.proofs.lemmas.Grind.{common_steps}
 use Rattle.std.proofs.lemmas.List.{length-set}
 use Rattle.std.proofs.lemmas.Bool.Decides.{nat_tests}
 use Rattle.vm_facts.specs.Answers.{Answers, ByteWrite}
-use Rattle.vm_facts.specs.Flat.{Space, Holding, Holds, Lends, Zombie, Process, FlatState}
+use Rattle.flat_state.specs.Space.{Space, address_in, answers_of, put_at, put, puts}
+use Rattle.flat_state.specs.Flat.{Holding, Holds, Lends, Zombie, Process, FlatState, NamedImage, Inputs, image_numbered, process_of, can_step, start_if, start_processes, start_state}
 use Rattle.vm_facts.specs.declared.entry.Entry.{Entry}
 use Rattle.vm_facts.specs.declared.entry.Entry.TheVariants.{Refused}
 use Rattle.vm_facts.specs.declared.regs.Regs.{Regs}
@@ -14,14 +15,12 @@ use Rattle.user_vax.specs.declared.refused.Refused.{Refused as Refusal}
 use Rattle.user_vax.specs.declared.refused.Refused.TheVariants.{Miss, Below, Signal}
 use Rattle.aout_image.specs.Image.{image_of}
 use Rattle.aout_image.proofs.Images.{image_of-is, has_pages}
-use Rattle.page_model.specs.declared.spot.Spot.{Spot}
-use Rattle.page_model.specs.declared.spot.Spot.TheVariants as spots
-use Rattle.page_model.specs.Space.{address_in, answers_of, put_at, put, puts}
-use Rattle.page_model.specs.Flat.{NamedImage, Inputs, image_numbered, process_of, can_step, start_if, start_processes, start_state}
-use Rattle.page_model.specs.declared.change.Change.{Change}
-use Rattle.page_model.specs.declared.change.Change.TheVariants.{Keep, Resize, Fork, Lend, Exec, Reap, Sleep, End}
-use Rattle.page_model.specs.Change.{replaced_by, replaced, with_process, resized_bytes, resized, lends_to, returned_by, returned, given_back, entered, is_zombie_child, without_parent, orphaned, awake, left, ended, changed, changed_by, changed_if, apply_change, wrote_by, wrote_if, apply_writes}
-use Rattle.page_model.specs.Journal.{units_of}
+use Rattle.flat_state.specs.declared.spot.Spot.{Spot}
+use Rattle.flat_state.specs.declared.spot.Spot.TheVariants as spots
+use Rattle.flat_state.specs.declared.change.Change.{Change}
+use Rattle.flat_state.specs.declared.change.Change.TheVariants.{Keep, Resize, Fork, Lend, Exec, Reap, Sleep, End}
+use Rattle.flat_state.specs.Change.{replaced_by, replaced, with_process, resized_bytes, resized, lends_to, returned_by, returned, given_back, entered, is_zombie_child, without_parent, orphaned, awake, left, ended, changed, changed_by, changed_if, apply_change, wrote_by, wrote_if, apply_writes}
+use Rattle.flat_state.specs.Journal.{units_of}
 use Rattle.flat_model.specs.declared.calls.Reply.{Reply}
 use Rattle.flat_model.specs.declared.calls.Reply.TheVariants as replies
 use Rattle.flat_model.specs.declared.calls.SystemCall.{SystemCall}

@@ -1,8 +1,8 @@
 -- Spaces whose segments are whole pages, and the images that they begin with.
 use Rattle.std.specs.Prelude.{◌≡◌, ℕ, ◌+◌, ◌*◌, ◌%◌, ◌^◌, ◌≤◌, List, [], ◌∷◌, length, Some}
-use Rattle.vm_facts.specs.Flat.{Space, Holding, Holds, Lends, Zombie, Process, FlatState}
+use Rattle.flat_state.specs.Space.{Space}
+use Rattle.flat_state.specs.Flat.{Holding, Holds, Lends, Zombie, Process, FlatState, NamedImage, image_numbered, process_of}
 use Rattle.aout_image.specs.Image.{text_pages_of, data_pages_of}
-use Rattle.page_model.specs.Flat.{NamedImage, image_numbered, process_of}
 
 -- text and data are whole pages, and end no higher than addresses do
 pub record IsWhole (s : Space) : Type 0 where

@@ -8,27 +8,23 @@
 #![tactic(auto)]
 
 ghost use Rattle.std.specs.Prelude.{◌≡◌, ℕ, ◌≤◌, Bool, List, length, Some, Ok};
-ghost use Rattle.vm_facts.specs.Flat.{FlatState};
+ghost use Rattle.flat_state.specs.Flat.{FlatState, NamedImage, Inputs, start_state};
 ghost use Rattle.vm_facts.specs.declared.entry.Entry.{Entry};
 ghost use Rattle.vm_facts.specs.declared.page.Page.{Page};
 ghost use Rattle.aout_image.specs.Image.{image_of};
-ghost use Rattle.page_model.specs.Flat.{NamedImage, Inputs, start_state};
 ghost use Rattle.page_model.specs.Placement.{Placement};
 ghost use Rattle.page_model.specs.Rank.{HasRoom};
 ghost use Rattle.flat_model.specs.Run.{Point, flat_run};
 ghost use Rattle.flat_model.specs.Step.{flat_step};
-ghost use Rattle.flat_model.specs.State.{State};
 ghost use Rattle.flat_model.specs.Touched.{touched};
-ghost use Rattle.flat_model.specs.Wanted.{locked};
 ghost use Rattle.touch_laws.specs.Whole.{HoldsWhole, EachWhole, ImageWhole, ImagesWhole, AllSized};
 
 /// The next instruction of a process, with its call where it is one, touches 28 pages at most, where the space that the
 /// process holds has text and data of whole pages below 2 ^ 32. So no list of locked pages that is no longer than 32
-/// leaves too few frames, where there are 64 frames, and neither do the pages that are locked in a run's state.
+/// leaves too few frames, where there are 64 frames.
 pub fn touched_are_few()
     ensures few { (A : Inputs) (F : FlatState) (pid : ℕ) → HoldsWhole F pid → length (touched A F pid) ≤ 28 }
     ensures spare { (place : Placement) (pages : List Page) → length pages ≤ 32 → 64 ≤ length place.holds → HasRoom place pages }
-    ensures locked { (A : Inputs) (s : State) → EachWhole s.point.flat → 64 ≤ length s.place.holds → HasRoom s.place (locked A s) }
 {}
 
 /// Text and data of each space that a process holds are whole pages, 2,048 and 4,096 at most: at the start, behind each

@@ -1,11 +1,10 @@
 // The calls of the devices that complete a transfer, one for each page.
-ghost use Rattle.std.specs.Prelude.{◌≡◌, length};
+ghost use Rattle.std.specs.Prelude.{◌≡◌, length, take, drop, replicate, ◌-◌, ◌<◌, ◌≤◌};
 ghost use Rattle.transfer_ring.specs.Moving.{OnFilled, CountsFile, CountsSwap};
 ghost use Rattle.transfer_ring.specs.Sound.{IsSource, IsThere, AreSources, AreThere, AreBlocks};
 ghost use Rattle.transfer_ring.specs.Parts.{HasRead, IsSamePart, AreSameParts, AreRead, WritesParts, SpoilsParts};
 ghost use Rattle.io_edge.specs.Count.{Counts, OnDone, OnFailed};
 ghost use Rattle.io_edge.specs.FileHolding.{HasRange, HoldsRange};
-ghost use Rattle.std.specs.Prelude.{take, drop, replicate, ◌-◌, ◌<◌, ◌≤◌};
 
 use crate::{Inbound, Outbound, Source};
 use io_edge::{Files, Moved, SwapDev};

@@ -1,7 +1,8 @@
 -- What each answer of an instruction makes of a run.
 use Rattle.std.proofs.Common.{◌≡◌, ℕ, ◌-◌, ◌*◌, ◌<◌, ◌≤◌, Bool, true, false, List, [], ◌∷◌, length, replicate, Option, Some, None, Result, Ok, Err, ℤ, refl, sym, ap, ◌∙◌, subst, arith}
 use Rattle.std.proofs.lemmas.List.{length-append, length-replicate}
-use Rattle.vm_facts.specs.Flat.{Space, Process, FlatState}
+use Rattle.flat_state.specs.Space.{Space, answers_of, puts, stack_top}
+use Rattle.flat_state.specs.Flat.{Process, FlatState}
 use Rattle.vm_facts.specs.declared.regs.Regs.{Regs}
 use Rattle.vm_facts.specs.declared.entry.Entry.TheVariants.{Ran, Grew, Ended}
 use Rattle.io_edge.specs.FileHolding.{NamedFile}
@@ -13,7 +14,6 @@ use Rattle.user_vax.specs.Program.{run}
 use Rattle.user_vax.specs.Effects.{Effect}
 use Rattle.user_vax.specs.Instruction.{instruction, answer_of_call, answer_of, registers_after, writes_of}
 use Rattle.vm_run.specs.InterimInputs.{Inputs}
-use Rattle.page_model.specs.Space.{answers_of, puts, stack_top}
 use Rattle.vm_run.specs.declared.interim_calls.Reply.{Reply}
 use Rattle.vm_run.specs.declared.interim_calls.Reply.TheVariants.{Exits, Fails, Writes}
 use Rattle.vm_run.specs.declared.interim_calls.SystemCall.{SystemCall}

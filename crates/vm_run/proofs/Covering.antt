@@ -1,7 +1,7 @@
 -- Over the filled pages a computation comes to what it comes to in the space, or it misses a page that waits.
 use Rattle.std.proofs.Common.{◌≡◌, ℕ, ◌+◌, ◌-◌, ◌<◌, ◌≤◌, ◌⊎◌, inl, inr, Bool, true, false, ◌&&◌, List, [], length, get_or, Some, Result, Ok, Err, refl, sym, ap, ◌∙◌, subst, arith, ltb, leb}
 use Rattle.std.proofs.lemmas.Bool.Decides.{nat_tests}
-use Rattle.vm_facts.specs.Flat.{Space}
+use Rattle.flat_state.specs.Space.{Space, spot_by, spot_at, stack_top, stack_reach, address_in, byte_at, may_write_at, answers_of}
 use Rattle.vm_facts.specs.declared.memory.ByteRead.{ByteRead}
 use Rattle.vm_facts.specs.declared.memory.ByteRead.TheVariants as reads
 use Rattle.vm_facts.specs.declared.memory.MayWrite.{MayWrite}
@@ -11,9 +11,8 @@ use Rattle.user_vax.specs.declared.refused.Refused.TheVariants.{Miss, Below as F
 use Rattle.user_vax.specs.Program.{Program, run, Access, ReadOf, TestOf}
 use Rattle.user_vax.specs.Laws.{read_refusal, test_refusal, refusal, Covers, SameOrMisses}
 use Rattle.user_vax.proofs.Order.{keeps_order, same_or_misses}
-use Rattle.page_model.specs.declared.spot.Spot.{Spot}
-use Rattle.page_model.specs.declared.spot.Spot.TheVariants.{Text, Data, Stack, Below, Outside}
-use Rattle.page_model.specs.Space.{spot_by, spot_at, stack_top, stack_reach, address_in, byte_at, may_write_at, answers_of}
+use Rattle.flat_state.specs.declared.spot.Spot.{Spot}
+use Rattle.flat_state.specs.declared.spot.Spot.TheVariants.{Text, Data, Stack, Below, Outside}
 use Rattle.aout_image.specs.Image.{Loaded}
 use Rattle.vm_run.specs.Resident.{Segment, Resident, is_filled, byte_of, read_filled, write_filled, resident_spot, resident_read, resident_may_write, resident_answers, IsInside, IsWaiting, SameByte, StandsFor, Stands}
 use Rattle.vm_run.specs.ResidentLaws.{IsPaged, spot_inside}

@@ -5,9 +5,9 @@ use Rattle.vm_facts.specs.declared.entry.Entry.{Entry}
 use Rattle.io_edge.specs.FileHolding.{NamedFile, bytes_at}
 use Rattle.aout_image.specs.declared.Image.{Image}
 use Rattle.aout_image.proofs.Images.{has_pages}
-use Rattle.page_model.specs.Flat.{new_space, start_page, start_regs, argument_area}
+use Rattle.flat_state.specs.Flat.{new_space, start_page, start_regs, argument_area}
 use Rattle.vm_run.specs.InterimInputs.{Inputs}
-use Rattle.page_model.specs.Journal.{appended}
+use Rattle.flat_state.specs.Journal.{appended}
 use Rattle.vm_run.specs.declared.running.Mark.TheVariants.{Unmarked}
 use Rattle.vm_run.specs.declared.running.Halt.{Halt}
 use Rattle.vm_run.specs.declared.running.Halt.TheVariants as halts

@@ -1,7 +1,8 @@
 -- The entries of a step are units of its process.
 use Rattle.std.proofs.Common.{◌≡◌, ℕ, ◌==◌, Bool, true, false, ◌&&◌, List, [], ◌∷◌, ◌++◌, length, find, Option, Some, None, Result, Ok, Err, ℤ, refl, sym, ap, ◌∙◌, subst, arith, eq-eqb, cond}
 use Rattle.std.proofs.lemmas.Bool.Decides.{nat_tests}
-use Rattle.vm_facts.specs.Flat.{Space, Holding, Holds, Lends, Zombie, Process, FlatState}
+use Rattle.flat_state.specs.Space.{Space, answers_of, puts}
+use Rattle.flat_state.specs.Flat.{Holding, Holds, Lends, Zombie, Process, FlatState, process_of}
 use Rattle.vm_facts.specs.declared.regs.Regs.{Regs}
 use Rattle.vm_facts.specs.declared.entry.Entry.{Entry}
 use Rattle.vm_facts.specs.declared.entry.Entry.TheVariants.{Event, Turn, Ran, Out, Grew, Call, Sleeps, Ended, Zero, Get, Copy, Reclaim, Hands, Put, Done, SwapOut, SwapIn, Owners}
@@ -11,15 +12,13 @@ use Rattle.user_vax.specs.Effects.{Effect}
 use Rattle.user_vax.specs.Operands.{register}
 use Rattle.user_vax.specs.declared.refused.Refused.{Refused as Refusal}
 use Rattle.user_vax.specs.declared.refused.Refused.TheVariants.{Miss, Below, Signal}
-use Rattle.page_model.specs.Flat.{process_of}
-use Rattle.page_model.specs.Space.{answers_of, puts}
 use Rattle.vm_run.specs.declared.interim_calls.SystemCall.{SystemCall}
 use Rattle.vm_run.specs.InterimInstruction.{instruction_in}
 use Rattle.vm_run.specs.declared.interim_calls.Reply.{Reply}
 use Rattle.vm_run.specs.declared.interim_calls.Reply.TheVariants.{Exits, Fails, Writes}
 use Rattle.vm_run.specs.InterimCalls.{number_of, reply_of, or_fault, call_of}
 use Rattle.vm_run.specs.InterimStep.{ended, answered, called, went_on, stepped, step_holding, step_process, flat_step, out_entries, call_entry, replied, pages_down_to}
-use Rattle.page_model.specs.Journal.{IsUnit}
+use Rattle.flat_state.specs.Journal.{IsUnit}
 use Rattle.vm_run.specs.InterimRun.{Point, step_at, is_refused, due, due_of, first_if, act, same_bytes, same_carry, same_entry, process_of_entry}
 
 -- a unit of a process, which is the same as itself

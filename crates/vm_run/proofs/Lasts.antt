@@ -2,8 +2,8 @@
 use Rattle.std.proofs.Common.{◌≡◌, ℕ, ◌+◌, ◌-◌, ◌≤◌, List, [], ◌∷◌, ◌++◌, length, get_or, set, Some, None, refl, sym, ap, ◌∙◌, subst, arith}
 use Rattle.vm_facts.specs.declared.entry.Entry.{Entry}
 use Rattle.vm_facts.specs.declared.entry.Entry.TheVariants.{Ran, Done}
-use Rattle.page_model.specs.Journal.{append_joined, instructions_of}
-use Rattle.page_model.proofs.Joins.{raise_last, push_last, last_counted}
+use Rattle.flat_state.specs.Journal.{append_joined, instructions_of}
+use Rattle.flat_state.proofs.Joins.{raise_last, push_last, last_counted}
 use Rattle.vm_run.specs.LastRan.{IsLastRan}
 
 at_end : (e : Entry) (j : List Entry) → length (e ∷ j) - 1 ≡ length j

@@ -3,9 +3,9 @@ use Rattle.std.proofs.Common.{◌≡◌, ℕ, ◌+◌, ltb, Bool, true, false, L
 use Rattle.vm_facts.specs.declared.entry.Entry.{Entry}
 use Rattle.vm_facts.specs.declared.entry.Entry.TheVariants.{Event, Turn, Ran, Out, Grew, Call, Refused, Sleeps, Ended, Zero, Get, Copy, Reclaim, Hands, Put, Done, SwapOut, SwapIn, Owners}
 use Rattle.vm_run.specs.InterimInputs.{Inputs}
-use Rattle.page_model.specs.Journal.{append, appended, units_of, counted, instructions_of, IsUnit, AllUnits}
+use Rattle.flat_state.specs.Journal.{append, appended, units_of, counted, instructions_of, IsUnit, AllUnits}
 use Rattle.vm_run.specs.InterimRun.{Point, act, point_after, same_as, where_same, process_of_entry, flat_entry, flat_units}
-use Rattle.page_model.proofs.Joins.{appended_units, append_counted}
+use Rattle.flat_state.proofs.Joins.{appended_units, append_counted}
 use Rattle.vm_run.proofs.InterimOwn.{IsOwn, OfSome, of_some, act_own}
 use Rattle.vm_run.specs.declared.running.Mark.{Mark}
 use Rattle.vm_run.specs.declared.running.Mark.TheVariants.{Unmarked, Turned}

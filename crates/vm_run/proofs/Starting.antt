@@ -4,8 +4,8 @@ use Rattle.std.proofs.lemmas.Bool.{cases_lt}
 use Rattle.std.proofs.lemmas.List.{append-nil, length-append, length-replicate, get_or-replicate, get_or_past}
 use Rattle.aout_image.specs.declared.Image.{Image}
 use Rattle.aout_image.specs.Image.{Loaded, IsSound, text_pages_of, data_pages_of, word_bytes}
-use Rattle.page_model.specs.Space.{stack_top}
-use Rattle.page_model.specs.Flat.{new_space, start_page, strings_of, in_longwords, argument_area}
+use Rattle.flat_state.specs.Space.{stack_top}
+use Rattle.flat_state.specs.Flat.{new_space, start_page, strings_of, in_longwords, argument_area}
 use Rattle.vm_run.specs.declared.running.Running.{Running}
 use Rattle.vm_run.specs.Resident.{unfilled, started, SameByte, StandsFor, Stands}
 use Rattle.vm_run.specs.Running.{IsFit, is_on, Started}

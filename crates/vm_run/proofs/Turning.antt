@@ -2,18 +2,18 @@
 use Rattle.std.proofs.Common.{◌≡◌, ◌⊎◌, inl, inr, ℕ, ◌+◌, ◌<◌, ◌≤◌, Bool, true, false, ◌&&◌, List, [], ◌∷◌, ◌++◌, length, Option, Some, None, Ok, refl, sym, ap, ◌∙◌, subst, arith, ltb}
 use Rattle.std.proofs.lemmas.Bool.{ltb-true, lt-ltb, cases_eq}
 use Rattle.std.proofs.lemmas.Bool.Decides.{nat_tests}
-use Rattle.vm_facts.specs.Flat.{Space}
+use Rattle.flat_state.specs.Space.{Space}
 use Rattle.vm_facts.specs.declared.regs.Regs.{Regs}
 use Rattle.vm_facts.specs.declared.entry.Entry.{Entry}
 use Rattle.vm_facts.specs.declared.entry.Entry.TheVariants.{Turn}
 use Rattle.io_edge.specs.FileHolding.{NamedFile, bytes_at}
 use Rattle.io_edge.specs.Count.{Rose}
 use Rattle.aout_image.specs.Image.{image_of, file_length_of}
-use Rattle.page_model.specs.Flat.{can_step}
+use Rattle.flat_state.specs.Flat.{can_step}
 use Rattle.vm_run.specs.InterimInputs.{Inputs}
-use Rattle.page_model.specs.Journal.{append, appended}
+use Rattle.flat_state.specs.Journal.{append, appended}
 use Rattle.vm_run.specs.InterimRun.{act}
-use Rattle.page_model.proofs.Joins.{appended_append, append_counted}
+use Rattle.flat_state.proofs.Joins.{appended_append, append_counted}
 use Rattle.vm_run.specs.declared.running.Mark.{Mark}
 use Rattle.vm_run.specs.declared.running.Mark.TheVariants.{Unmarked, Turned}
 use Rattle.vm_run.specs.declared.running.Running.{Running}

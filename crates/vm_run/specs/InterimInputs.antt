@@ -1,8 +1,7 @@
 -- The inputs of the interim machine, which runs one process, and the flat state in which its run starts.
 use Rattle.std.specs.Prelude.{ℕ, List, [], ◌∷◌, false}
-use Rattle.vm_facts.specs.Flat.{Holds, Process, FlatState}
+use Rattle.flat_state.specs.Flat.{Holds, Process, FlatState, start_regs, new_space}
 use Rattle.aout_image.specs.Image.{Loaded}
-use Rattle.page_model.specs.Flat.{start_regs, new_space}
 
 -- What a run is of.
 pub record Inputs : Type 0 where

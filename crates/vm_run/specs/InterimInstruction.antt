@@ -1,12 +1,11 @@
 -- One instruction over the bytes of a space, as the interim machine has it.
 use Rattle.std.specs.Prelude.{Result}
-use Rattle.vm_facts.specs.Flat.{Space}
+use Rattle.flat_state.specs.Space.{Space, answers_of}
 use Rattle.vm_facts.specs.declared.regs.Regs.{Regs}
 use Rattle.user_vax.specs.Program.{run}
 use Rattle.user_vax.specs.Effects.{Effect}
 use Rattle.user_vax.specs.Instruction.{instruction}
 use Rattle.user_vax.specs.declared.refused.Refused.{Refused}
-use Rattle.page_model.specs.Space.{answers_of}
 
 -- what the next instruction comes to; no access can miss here
 abbrev pub instruction_in : Space → Regs → Result Effect Refused

@@ -1,13 +1,12 @@
 -- A run of the interim machine: the fold of its steps over the flat entries of a journal, which is none where an
 -- entry isn't the one that the step of its process gives.
 use Rattle.std.specs.Prelude.{ℕ, ◌==◌, Bool, true, false, ◌&&◌, List, [], ◌∷◌, Option, Some, None}
-use Rattle.vm_facts.specs.Flat.{FlatState}
+use Rattle.flat_state.specs.Flat.{FlatState, can_step}
 use Rattle.vm_facts.specs.declared.entry.Entry.{Entry}
 use Rattle.vm_facts.specs.declared.entry.Entry.TheVariants.{Ran, Out, Grew, Call, Refused, Sleeps, Ended}
-use Rattle.page_model.specs.Flat.{can_step}
 use Rattle.vm_run.specs.InterimInputs.{Inputs, start_state}
 use Rattle.vm_run.specs.InterimStep.{Step, flat_step}
-use Rattle.page_model.specs.Journal.{units_of}
+use Rattle.flat_state.specs.Journal.{units_of}
 
 -- a flat state, and the last flat entry
 pub record Point : Type 0 where

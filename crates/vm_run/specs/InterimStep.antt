@@ -1,6 +1,7 @@
 -- One step of the one process of the interim machine: its entries, and the state after it.
 use Rattle.std.specs.Prelude.{ℕ, ◌+◌, ◌-◌, ◌*◌, ◌/◌, ◌==◌, Bool, true, false, not, List, [], ◌∷◌, ◌++◌, length, map, filter, replicate, Option, Some, None, Result, Ok, Err, ℤ, if◌then◌else◌}
-use Rattle.vm_facts.specs.Flat.{Space, Holding, Holds, Lends, Zombie, Process, FlatState}
+use Rattle.flat_state.specs.Space.{Space, stack_top, answers_of, puts}
+use Rattle.flat_state.specs.Flat.{Holding, Holds, Lends, Zombie, Process, FlatState, process_of}
 use Rattle.vm_facts.specs.declared.regs.Regs.{Regs}
 use Rattle.vm_facts.specs.declared.entry.Entry.{Entry}
 use Rattle.vm_facts.specs.declared.entry.Entry.TheVariants.{Ran, Out, Grew, Call, Ended}
@@ -9,8 +10,6 @@ use Rattle.user_vax.specs.Effects.{Effect}
 use Rattle.user_vax.specs.Operands.{register, with_register}
 use Rattle.user_vax.specs.declared.refused.Refused.{Refused}
 use Rattle.user_vax.specs.declared.refused.Refused.TheVariants.{Miss, Below, Signal}
-use Rattle.page_model.specs.Flat.{process_of}
-use Rattle.page_model.specs.Space.{stack_top, answers_of, puts}
 use Rattle.vm_run.specs.InterimInstruction.{instruction_in}
 use Rattle.vm_run.specs.declared.interim_calls.Reply.{Reply}
 use Rattle.vm_run.specs.declared.interim_calls.Reply.TheVariants.{Exits, Fails, Writes}

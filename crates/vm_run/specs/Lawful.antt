@@ -2,7 +2,7 @@
 use Rattle.std.specs.Prelude.{◌≡◌, List, [], ◌∷◌, Some, None}
 use Rattle.vm_facts.specs.declared.entry.Entry.{Entry}
 use Rattle.vm_run.specs.InterimInputs.{Inputs}
-use Rattle.page_model.specs.Journal.{appended, instructions_of}
+use Rattle.flat_state.specs.Journal.{appended, instructions_of}
 use Rattle.vm_run.specs.InterimRun.{flat_run}
 use Rattle.vm_run.specs.Next.{State, start, next_unit, after}
 

@@ -1,10 +1,9 @@
 -- The written policy: which unit comes next. A turn of the closing phase is of a process that can step, and runs it
 -- until it can't step, so many instructions were counted since, or the limit is reached.
 use Rattle.std.specs.Prelude.{ℕ, ◌+◌, nat_lt, Bool, true, false, ◌&&◌, find, Option, Some, None}
-use Rattle.vm_facts.specs.Flat.{FlatState, Process}
+use Rattle.flat_state.specs.Flat.{FlatState, Process, can_step, is_ready}
 use Rattle.vm_facts.specs.declared.entry.Entry.{Entry}
 use Rattle.vm_facts.specs.declared.entry.Entry.TheVariants.{Turn, Ran, Out, Grew, Call, Sleeps, Ended}
-use Rattle.page_model.specs.Flat.{can_step, is_ready}
 use Rattle.vm_run.specs.InterimInputs.{Inputs}
 use Rattle.vm_run.specs.InterimRun.{Point, start_point, act, point_after}
 use Rattle.vm_run.specs.declared.running.Mark.{Mark}

@@ -1,7 +1,7 @@
 -- The pages of a process that are filled, as a memory: it misses every other page.
 use Rattle.std.specs.Prelude.{◌≡◌, ℕ, ◌+◌, ◌-◌, ◌*◌, ◌/◌, ◌^◌, ◌<◌, ◌≤◌, Bool, true, false, List, [], ◌∷◌, length, slice_index, slice_set, replicate, slice_index_or, take, drop, ◌++◌, Option, Some, None}
 use Rattle.vm_facts.specs.Answers.{Answers, ByteWrite}
-use Rattle.vm_facts.specs.Flat.{Space}
+use Rattle.flat_state.specs.Space.{Space, spot_at}
 use Rattle.aout_image.specs.declared.Image.{Image}
 use Rattle.aout_image.specs.Image.{Loaded, FillsPage, text_pages_of, data_pages_of}
 use Rattle.io_edge.specs.FileHolding.{NamedFile, HoldsRange, bytes_at}
@@ -9,9 +9,8 @@ use Rattle.vm_facts.specs.declared.memory.ByteRead.{ByteRead}
 use Rattle.vm_facts.specs.declared.memory.ByteRead.TheVariants as reads
 use Rattle.vm_facts.specs.declared.memory.MayWrite.{MayWrite}
 use Rattle.vm_facts.specs.declared.memory.MayWrite.TheVariants as tests
-use Rattle.page_model.specs.declared.spot.Spot.{Spot}
-use Rattle.page_model.specs.declared.spot.Spot.TheVariants.{Text, Data, Stack, Below, Outside}
-use Rattle.page_model.specs.Space.{spot_at}
+use Rattle.flat_state.specs.declared.spot.Spot.{Spot}
+use Rattle.flat_state.specs.declared.spot.Spot.TheVariants.{Text, Data, Stack, Below, Outside}
 
 -- a segment as its callers see it: its bytes, page after page, and which of its pages are filled
 pub record Segment : Type 0 where

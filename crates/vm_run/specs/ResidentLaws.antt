@@ -6,10 +6,10 @@ use Rattle.std.proofs.lemmas.List.{length-set, get_or-set_same, get_or-set_other
 use Rattle.vm_facts.specs.Answers.{Answers, ByteWrite, read_by, put, written}
 use Rattle.vm_facts.specs.declared.memory.ByteRead.TheVariants as reads
 use Rattle.vm_facts.specs.declared.memory.MayWrite.TheVariants as tests
-use Rattle.page_model.specs.declared.spot.Spot.{Spot}
-use Rattle.page_model.specs.declared.spot.Spot.TheVariants.{Text, Data, Stack, Below, Outside}
-use Rattle.page_model.specs.Space.{spot_at, stack_top}
-use Rattle.page_model.proofs.Spots.{text_spot, data_spot, stack_spot, OfStack, stack_index_once, stack_index_within}
+use Rattle.flat_state.specs.declared.spot.Spot.{Spot}
+use Rattle.flat_state.specs.declared.spot.Spot.TheVariants.{Text, Data, Stack, Below, Outside}
+use Rattle.flat_state.specs.Space.{spot_at, stack_top}
+use Rattle.flat_state.proofs.Spots.{text_spot, data_spot, stack_spot, OfStack, stack_index_once, stack_index_within}
 use Rattle.vm_run.specs.Resident.{Resident, is_filled, byte_of, read_filled, write_filled, resident_spot, resident_read, resident_may_write, resident_answers, put_byte, resident_put_at, resident_put, IsWithin, IsInside, MayPut, Wrote}
 
 -- an address names the same after a write

@@ -1,16 +1,15 @@
 -- A run in progress, as a state of the policy.
 use Rattle.std.specs.Prelude.{◌≡◌, ℕ, ◌+◌, ◌-◌, ◌<◌, ◌≤◌, nat_lt, ◌&&◌, Bool, true, false, List, [], ◌∷◌, length, Option, Some, None, Result, Ok, Err}
-use Rattle.vm_facts.specs.Flat.{Space, Holds, Process, FlatState}
+use Rattle.flat_state.specs.Space.{Space, answers_of}
+use Rattle.flat_state.specs.Flat.{Holds, Process, FlatState, start_page, start_regs}
 use Rattle.vm_facts.specs.declared.regs.Regs.{Regs}
 use Rattle.vm_facts.specs.declared.entry.Entry.{Entry}
 use Rattle.vm_facts.specs.declared.entry.Entry.TheVariants.{Ran, Out, Grew, Ended, Refused}
 use Rattle.io_edge.specs.FileHolding.{NamedFile, bytes_at}
 use Rattle.aout_image.specs.Image.{IsSound, image_of, file_length_of}
 use Rattle.aout_image.specs.declared.Image.{Image}
-use Rattle.page_model.specs.Flat.{start_page, start_regs}
 use Rattle.vm_run.specs.InterimInputs.{Inputs}
-use Rattle.page_model.specs.Journal.{append, appended, instructions_of}
-use Rattle.page_model.specs.Space.{answers_of}
+use Rattle.flat_state.specs.Journal.{append, appended, instructions_of}
 use Rattle.user_vax.specs.Program.{run}
 use Rattle.vm_run.specs.declared.interim_calls.Reply.{Reply}
 use Rattle.vm_run.specs.declared.interim_calls.Reply.TheVariants.{Exits, Fails, Writes}

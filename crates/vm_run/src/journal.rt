@@ -1,7 +1,7 @@
 ghost use Rattle.std.specs.Prelude.{◌≡◌, ℕ, ◌+◌, ◌^◌, ◌<◌, List, [], ◌∷◌, ◌++◌, OnOk, OnErr};
 ghost use Rattle.vm_facts.specs.declared.entry.Entry.{Entry as Line};
 ghost use Rattle.vm_facts.specs.declared.entry.Entry.TheVariants.{Ran};
-ghost use Rattle.page_model.specs.Journal.{append, instructions_of, IsPlain};
+ghost use Rattle.flat_state.specs.Journal.{append, instructions_of, IsPlain};
 ghost use Rattle.vm_run.specs.LastRan.{IsLastRan};
 
 use std::alloc::Global;

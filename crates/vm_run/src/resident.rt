@@ -1,14 +1,13 @@
 ghost use Rattle.std.specs.Prelude.{◌≡◌, ℕ, ◌+◌, ◌*◌, ◌/◌, ◌^◌, ◌<◌, ◌≤◌, length, refl, IsTrue, ◌↔◌, IfOk, OnOk, OnErr};
 ghost use Rattle.aout_image.specs.Image.{IsSound, file_length_of, pages_of};
 ghost use Rattle.io_edge.specs.Count.{Counts, OnDone};
-ghost use Rattle.vm_run.specs.Resident.{HasBytes, FillsFrom, Filled, AllWhole, IsWaiting, HasSizes, started, longer};
-ghost use Rattle.vm_run.specs.Resident.{Resident as Held, IsFitting, resident_spot, resident_answers, read_filled, write_filled, is_filled, byte_of, Wrote, IsInside};
+ghost use Rattle.vm_run.specs.Resident.{HasBytes, FillsFrom, Filled, AllWhole, IsWaiting, HasSizes, started, longer, Resident as Held, IsFitting, resident_spot, resident_answers, read_filled, write_filled, is_filled, byte_of, Wrote, IsInside};
 ghost use Rattle.vm_run.specs.ResidentLaws.{wrote_more, wrote_answers};
 
 use crate::segment::Segment;
 use aout_image::Image;
 use io_edge::{Files, Moved};
-use page_model::{PAGE, Spot, locate};
+use flat_state::{PAGE, Spot, locate};
 use std::alloc::{AllocError, Global};
 use std::marker::Model;
 use vm_facts::{ByteRead, MayWrite, Memory};

@@ -1,11 +1,10 @@
 ghost use Rattle.std.specs.Prelude.{◌≡◌, ◌≢◌, ℕ, ◌+◌, ◌-◌, ◌*◌, ◌/◌, ◌^◌, ◌<◌, ◌≤◌, nat_lt, ◌&&◌, Bool, true, false, List, [], ◌∷◌, ◌++◌, length, Option, Some, None, Ok, OnOk, OnErr, IfOk};
-ghost use Rattle.page_model.specs.Journal.{append, instructions_of};
+ghost use Rattle.flat_state.specs.Journal.{append, instructions_of};
 ghost use Rattle.io_edge.specs.Count.{Rose};
 ghost use Rattle.vm_run.specs.InterimCalls.{write_limit, call_of};
 ghost use Rattle.vm_run.specs.InterimStep.{replied, call_entry};
 ghost use Rattle.vm_run.specs.Resident.{IsWaiting, resident_spot};
-ghost use Rattle.vm_run.specs.Running.{HasFile, BroughtIn, Advanced, Stopped, TurnSoFar, RunSoFar, RanToEnd, Asked, Called, IsFew, HaltsSo, noted_run, left};
-ghost use Rattle.vm_run.specs.Running.{IsFit, is_on, ran_run, ended_run, grown_run, answered_run, wrote_run};
+ghost use Rattle.vm_run.specs.Running.{HasFile, BroughtIn, Advanced, Stopped, TurnSoFar, RunSoFar, RanToEnd, Asked, Called, IsFew, HaltsSo, noted_run, left, IsFit, is_on, ran_run, ended_run, grown_run, answered_run, wrote_run};
 
 use crate::interim_calls::{EFAULT, Reply, SystemCall};
 use crate::journal::Journal;
@@ -13,7 +12,7 @@ use crate::replies::reply;
 use crate::resident::Resident;
 use aout_image::Image;
 use io_edge::{Files, Moved};
-use page_model::{PAGE, STACK_TOP};
+use flat_state::{PAGE, STACK_TOP};
 use std::alloc::Global;
 use user_vax::{Refused, Stepped, step};
 use vm_facts::{Bytes, Entry, NoMemory, Regs};

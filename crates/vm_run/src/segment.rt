@@ -4,7 +4,7 @@ ghost use Rattle.io_edge.specs.FileHolding.{HasRange, HoldsRange};
 ghost use Rattle.vm_run.specs.Resident.{Segment as Pages, IsWhole, is_filled, byte_of, put_byte, longer, FillsWith};
 
 use io_edge::{Files, Moved};
-use page_model::PAGE;
+use flat_state::PAGE;
 use std::alloc::{AllocError, Global};
 use std::marker::Model;
 

@@ -1,13 +1,13 @@
 ghost use Rattle.std.specs.Prelude.{◌≡◌, ℕ, ◌+◌, ◌-◌, ◌*◌, ◌/◌, ◌%◌, ◌^◌, ◌<◌, ◌≤◌, [], ◌∷◌, ◌++◌, length, true, IfOk, OnOk, OnErr};
 ghost use Rattle.aout_image.specs.Image.{IsSound, word_bytes};
-ghost use Rattle.page_model.specs.Flat.{in_longwords, start_page, start_sp, start_regs};
+ghost use Rattle.flat_state.specs.Flat.{in_longwords, start_page, start_sp, start_regs};
 ghost use Rattle.vm_run.specs.Running.{Started};
 
 use crate::journal::Journal;
 use crate::resident::Resident;
 use crate::running::{Mark, Running};
 use aout_image::Image;
-use page_model::{PAGE, STACK_TOP};
+use flat_state::{PAGE, STACK_TOP};
 use std::alloc::{AllocError, Global};
 use vm_facts::Regs;
 
@@ -32,7 +32,7 @@ fn put_word(page: &mut Vec<u8>, word: u32) -> Result<(), AllocError>
 }
 
 /// Stack page 0 of a process whose one argument is this name.
-#[tactic(auto, unfolding(page_model::specs::Flat::argument_area))]
+#[tactic(auto, unfolding(flat_state::specs::Flat::argument_area))]
 pub fn start_page(alloc: Global, name: &[u8]) -> Result<Vec<u8>, AllocError>
     requires { length name.now < 64 }
     ensures page { IfOk result (λ page. page.items ≡ start_page (name.now ∷ [])) }
@@ -53,7 +53,7 @@ pub fn start_page(alloc: Global, name: &[u8]) -> Result<Vec<u8>, AllocError>
 }
 
 /// The registers of a process that starts: PC is behind the entry mask, and SP at the arguments.
-#[tactic(auto, unfolding(page_model::specs::Flat::start_regs, page_model::specs::Flat::argument_area))]
+#[tactic(auto, unfolding(flat_state::specs::Flat::start_regs, flat_state::specs::Flat::argument_area))]
 pub fn start_regs(entry: u32, name: &[u8]) -> Regs
     requires name { length name.now < 64 }
     requires entry { entry + 2 < 2 ^ 32 }

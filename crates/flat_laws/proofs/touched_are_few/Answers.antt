@@ -1,13 +1,9 @@
 use Rattle.flat_laws.proofs.touched_are_few.Goals as goal
 use Rattle.flat_laws.proofs.Few.{run_whole, run_few}
 use Rattle.touch_laws.proofs.Few.{touched_few}
-use Rattle.touch_laws.proofs.Room.{locked_room}
 
 pub returns-clause-few : goal.returns-clause-few
 returns-clause-few c = λ A F pid w. touched_few A F pid (w pid)
-
-pub returns-clause-room : goal.returns-clause-room
-returns-clause-room c = locked_room
 
 pub returns-clause-whole : goal.returns-clause-whole
 returns-clause-whole c = run_whole

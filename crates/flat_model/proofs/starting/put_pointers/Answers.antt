@@ -1,5 +1,5 @@
 use Rattle.std.proofs.Common.{ℕ, ◌+◌, List, length, drop, ap, arith}
-use Rattle.page_model.specs.Flat.{strings_of}
+use Rattle.flat_state.specs.Flat.{strings_of}
 use Rattle.flat_model.proofs.Strings.{item_more, strings_count, area_short}
 use Rattle.flat_model.proofs.starting.put_pointers.Goals as goal
 

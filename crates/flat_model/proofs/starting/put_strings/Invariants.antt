@@ -1,5 +1,5 @@
 use Rattle.std.proofs.Common.{◌≡◌, ◌++◌, drop}
-use Rattle.page_model.specs.Flat.{strings_of}
+use Rattle.flat_state.specs.Flat.{strings_of}
 use Rattle.flat_model.proofs.starting.put_strings.Given as goal
 
 abbrev pub invariant-loop-argument : goal.invariant-loop-argument

@@ -1,7 +1,7 @@
-use Rattle.page_laws.proofs.AsideSteps.{place_entry_one}
-use Rattle.page_laws.proofs.AsideChanges.{place_change_aside}
-use Rattle.page_laws.proofs.Asides.{places_found}
-use Rattle.page_laws.proofs.Blocks.{pages_apart, image_stores}
+use Rattle.page_laws.proofs.Blocks.Steps.{place_entry_one}
+use Rattle.page_laws.proofs.Blocks.Changes.{place_change_aside}
+use Rattle.page_laws.proofs.Blocks.Aside.{places_found}
+use Rattle.page_laws.proofs.Blocks.Places.{pages_apart, image_stores}
 use Rattle.page_laws.proofs.laws.blocks_kept.Goals as goal
 
 pub returns-clause-entry : goal.returns-clause-entry

@@ -1,6 +1,6 @@
-use Rattle.page_laws.proofs.DueLaws.{entry_due, force_due, serve_due, start_due}
-use Rattle.page_laws.proofs.DueSpaces.{fork_due, enter_due}
-use Rattle.page_laws.proofs.DueChanges.{touch_due, change_due}
+use Rattle.page_laws.proofs.Due.Entries.{entry_due, force_due, serve_due, start_due}
+use Rattle.page_laws.proofs.Due.Spaces.{fork_due, enter_due}
+use Rattle.page_laws.proofs.Due.Changes.{touch_due, change_due}
 use Rattle.page_laws.proofs.laws.due_kept.Goals as goal
 
 pub returns-clause-entry : goal.returns-clause-entry

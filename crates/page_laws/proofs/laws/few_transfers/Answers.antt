@@ -1,5 +1,5 @@
-use Rattle.page_laws.proofs.Transfers.{entry_count, force_few, serve_few}
-use Rattle.page_laws.proofs.PartsKept.{entry_parts, serve_parts}
+use Rattle.page_laws.proofs.Moves.Transfers.{entry_count, force_few, serve_few}
+use Rattle.page_laws.proofs.Moves.Parts.{entry_parts, serve_parts}
 use Rattle.page_laws.proofs.laws.few_transfers.Goals as goal
 
 pub returns-clause-entry : goal.returns-clause-entry

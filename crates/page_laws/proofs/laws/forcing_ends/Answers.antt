@@ -1,8 +1,8 @@
-use Rattle.page_laws.proofs.Ends.{far_bound, move_stands}
-use Rattle.page_laws.proofs.ServeEnds.{force_falls}
-use Rattle.page_laws.proofs.Locks.{force_spares}
-use Rattle.page_laws.proofs.ServeStands.{force_stands}
-use Rattle.page_laws.proofs.Wholes.{force_room, forced}
+use Rattle.page_laws.proofs.Ends.Forcing.{far_bound, move_stands}
+use Rattle.page_laws.proofs.Ends.Serving.{force_falls}
+use Rattle.page_laws.proofs.Moves.Locks.{force_spares}
+use Rattle.page_laws.proofs.Ends.Hands.{force_stands}
+use Rattle.page_laws.proofs.Ends.Wholes.{force_room, forced}
 use Rattle.page_laws.proofs.laws.forcing_ends.Goals as goal
 
 pub returns-clause-falls : goal.returns-clause-falls

@@ -1,5 +1,5 @@
-use Rattle.page_laws.proofs.Kept.{filled_coupled, reclaim_coupled, touch_coupled}
-use Rattle.page_laws.proofs.KeptRuns.{read_coupled, move_coupled, put_step_coupled, done_coupled}
+use Rattle.page_laws.proofs.Bytes.Pages.{filled_coupled, reclaim_coupled, touch_coupled}
+use Rattle.page_laws.proofs.Bytes.Runs.{read_coupled, move_coupled, put_step_coupled, done_coupled}
 use Rattle.page_laws.proofs.laws.memory_kept.Goals as goal
 
 pub returns-clause-fill : goal.returns-clause-fill

@@ -1,5 +1,5 @@
-use Rattle.page_laws.proofs.Stays.{move_stays}
-use Rattle.page_laws.proofs.Sames.{stays_same, filled_same, get_run_same, put_same, reclaim_same, touch_same, done_same}
+use Rattle.page_laws.proofs.Moves.Stays.{move_stays}
+use Rattle.page_laws.proofs.Bytes.Others.{stays_same, filled_same, get_run_same, put_same, reclaim_same, touch_same, done_same}
 use Rattle.page_laws.proofs.laws.others_same.Goals as goal
 
 pub returns-clause-hands : goal.returns-clause-hands

@@ -1,6 +1,6 @@
-use Rattle.page_laws.proofs.OwnsEntries.{place_entry_owner, place_step_owner}
-use Rattle.page_laws.proofs.OwnsServe.{serve_owner}
-use Rattle.page_laws.proofs.Sames.{settled_rests}
+use Rattle.page_laws.proofs.Ownership.Entries.{place_entry_owner, place_step_owner}
+use Rattle.page_laws.proofs.Ownership.Serve.{serve_owner}
+use Rattle.page_laws.proofs.Bytes.Others.{settled_rests}
 use Rattle.page_laws.proofs.laws.ownership_kept.Goals as goal
 
 pub returns-clause-entry : goal.returns-clause-entry

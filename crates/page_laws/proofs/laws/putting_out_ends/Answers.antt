@@ -1,4 +1,4 @@
-use Rattle.page_laws.proofs.PutOuts.{unit_can, unit_owner, unit_few, unit_parts, unit_due, unit_sound, unit_falls, put_out}
+use Rattle.page_laws.proofs.Swapper.PuttingOut.{unit_can, unit_owner, unit_few, unit_parts, unit_due, unit_falls, put_out}
 use Rattle.page_laws.proofs.laws.putting_out_ends.Goals as goal
 
 pub returns-clause-can : goal.returns-clause-can
@@ -9,9 +9,6 @@ returns-clause-owner c = unit_owner
 
 pub returns-clause-few : goal.returns-clause-few
 returns-clause-few c = unit_few
-
-pub returns-clause-sound : goal.returns-clause-sound
-returns-clause-sound c = unit_sound
 
 pub returns-clause-falls : goal.returns-clause-falls
 returns-clause-falls c = unit_falls

@@ -1,4 +1,4 @@
-use Rattle.page_laws.proofs.Residences.{moved_own, moved_others}
+use Rattle.page_laws.proofs.Swapper.Residences.{moved_own, moved_others}
 use Rattle.page_laws.proofs.laws.residence_moves.Goals as goal
 
 pub returns-clause-own : goal.returns-clause-own

@@ -1,7 +1,7 @@
-use Rattle.page_laws.proofs.ServeEnds.{serve_falls}
-use Rattle.page_laws.proofs.Locks.{serve_spares}
-use Rattle.page_laws.proofs.ServeStands.{serve_stands}
-use Rattle.page_laws.proofs.Wholes.{serve_room, serve_sizes, served}
+use Rattle.page_laws.proofs.Ends.Serving.{serve_falls}
+use Rattle.page_laws.proofs.Moves.Locks.{serve_spares}
+use Rattle.page_laws.proofs.Ends.Hands.{serve_stands}
+use Rattle.page_laws.proofs.Ends.Wholes.{serve_room, serve_sizes, served}
 use Rattle.page_laws.proofs.laws.serving_ends.Goals as goal
 
 pub returns-clause-falls : goal.returns-clause-falls

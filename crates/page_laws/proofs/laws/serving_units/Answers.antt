@@ -1,4 +1,4 @@
-use Rattle.page_laws.proofs.Units.{now_unit, unit_is, entry_steps}
+use Rattle.page_laws.proofs.Moves.Units.{now_unit, unit_is, entry_steps}
 use Rattle.page_laws.proofs.laws.serving_units.Goals as goal
 
 pub returns-clause-now : goal.returns-clause-now

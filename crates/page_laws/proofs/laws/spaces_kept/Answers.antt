@@ -1,5 +1,5 @@
-use Rattle.page_laws.proofs.KeptChanges.{resize_coupled, removed_coupled}
-use Rattle.page_laws.proofs.KeptSpaces.{fork_coupled, enter_coupled, leave_text_coupled}
+use Rattle.page_laws.proofs.Bytes.Changes.{resize_coupled, removed_coupled}
+use Rattle.page_laws.proofs.Bytes.Spaces.{fork_coupled, enter_coupled, leave_text_coupled}
 use Rattle.page_laws.proofs.laws.spaces_kept.Goals as goal
 
 pub returns-clause-resize : goal.returns-clause-resize

@@ -1,5 +1,4 @@
 use Rattle.page_laws.proofs.Starts.{start_blank, start_owner, start_hands, start_aside}
-use Rattle.page_laws.proofs.StartAsks.{start_found}
 use Rattle.page_laws.proofs.laws.start_stands.Goals as goal
 
 pub returns-clause-blank : goal.returns-clause-blank
@@ -16,6 +15,3 @@ returns-clause-text c = start_aside
 
 pub returns-clause-owner : goal.returns-clause-owner
 returns-clause-owner c = λ size lives images first frames hs b. record { frames = start_owner images first frames; blocks = b; aside = start_aside images first frames }
-
-pub returns-clause-found : goal.returns-clause-found
-returns-clause-found c = start_found

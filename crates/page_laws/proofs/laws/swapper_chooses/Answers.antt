@@ -1,4 +1,4 @@
-use Rattle.page_laws.proofs.Choices.{chosen_in, chosen_out, chosen_none}
+use Rattle.page_laws.proofs.Swapper.Choices.{chosen_in, chosen_out, chosen_none}
 use Rattle.page_laws.proofs.laws.swapper_chooses.Goals as goal
 
 pub returns-clause-comes : goal.returns-clause-comes

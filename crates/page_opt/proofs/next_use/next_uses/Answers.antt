@@ -1,8 +1,7 @@
 use Rattle.std.proofs.Common.{◌≡◌, ℕ, ◌+◌, ◌-◌, ◌<◌, length, drop, get_or, ap, ◌∙◌, subst, arith, rules}
 use Rattle.std.specs.Ordering.{nat_cmp}
-use Rattle.std.specs.BTreeMap.{get}
+use Rattle.std.specs.BTreeMap.{get, is_at}
 use Rattle.std.specs.Map.{lookup}
-use Rattle.std.specs.BTreeMap.{is_at}
 use Rattle.page_opt.specs.Cache.{next_at}
 use Rattle.page_opt.proofs.Places.{next_at_end, apart, seen_more, AreNext, next_more}
 use Rattle.page_opt.proofs.next_use.next_uses.Goals as goal

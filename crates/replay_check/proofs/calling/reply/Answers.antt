@@ -1,7 +1,7 @@
 use Rattle.std.proofs.Common.{ℕ, ◌==◌, find, sym, ap, ◌∙◌}
 use Rattle.user_vax.specs.Program.{run}
-use Rattle.page_model.specs.Space.{answers_of}
-use Rattle.page_model.specs.Change.{is_zombie_child}
+use Rattle.flat_state.specs.Space.{answers_of}
+use Rattle.flat_state.specs.Change.{is_zombie_child}
 use Rattle.flat_model.specs.Calls.{or_fault, reply_of, wait_by}
 use Rattle.flat_model.specs.declared.calls.SystemCall.{SystemCall}
 use Rattle.replay_check.proofs.Short.{write_can, exit_can}

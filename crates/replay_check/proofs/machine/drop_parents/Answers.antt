@@ -1,5 +1,5 @@
 use Rattle.std.proofs.Common.{arith}
-use Rattle.page_model.specs.Change.{without_parent}
+use Rattle.flat_state.specs.Change.{without_parent}
 use Rattle.replay_check.proofs.Lists.{set_more}
 use Rattle.replay_check.proofs.machine.drop_parents.Goals as goal
 

@@ -1,5 +1,5 @@
 use Rattle.std.proofs.Common.{◌≡◌, map, take, drop, ◌++◌}
-use Rattle.page_model.specs.Change.{without_parent}
+use Rattle.flat_state.specs.Change.{without_parent}
 use Rattle.replay_check.proofs.machine.drop_parents.Given as goal
 
 abbrev pub invariant-loop-place : goal.invariant-loop-place

@@ -1,5 +1,5 @@
 use Rattle.std.proofs.Common.{arith}
-use Rattle.page_model.specs.Change.{awake}
+use Rattle.flat_state.specs.Change.{awake}
 use Rattle.replay_check.proofs.Lists.{set_more}
 use Rattle.replay_check.proofs.machine.wake_all.Goals as goal
 

@@ -1,5 +1,5 @@
 use Rattle.std.proofs.Common.{◌≡◌, map, take, drop, ◌++◌}
-use Rattle.page_model.specs.Change.{awake}
+use Rattle.flat_state.specs.Change.{awake}
 use Rattle.replay_check.proofs.machine.wake_all.Given as goal
 
 abbrev pub invariant-loop-place : goal.invariant-loop-place

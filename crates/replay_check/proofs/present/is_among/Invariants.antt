@@ -1,5 +1,5 @@
 use Rattle.std.proofs.Common.{◌≡◌, drop}
-use Rattle.page_model.specs.Pages.{is_among}
+use Rattle.flat_state.specs.PageNames.{is_among}
 use Rattle.replay_check.proofs.present.is_among.Given as goal
 
 abbrev pub invariant-loop-present : goal.invariant-loop-present

@@ -1,6 +1,6 @@
 use Rattle.std.proofs.Common.{◌≡◌, [], ◌∷◌, length, take, sym, ap, ◌∙◌, rules}
 use Rattle.aout_image.specs.Image.{image_of, loaded}
-use Rattle.page_model.specs.Flat.{NamedImage}
+use Rattle.flat_state.specs.Flat.{NamedImage}
 use Rattle.replay_check.proofs.Loading.{judged_back, judged_so, images_one}
 use Rattle.replay_check.proofs.program.load.Goals as goal
 

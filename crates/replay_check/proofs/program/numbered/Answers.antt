@@ -1,5 +1,5 @@
 use Rattle.std.proofs.Common.{◌≡◌, ℕ, ◌+◌, List, get_or, true, false, refl, sym, ap, ◌∙◌, subst, arith}
-use Rattle.page_model.specs.Flat.{NamedImage}
+use Rattle.flat_state.specs.Flat.{NamedImage}
 use Rattle.std.specs.Prelude.{bytes_eq, Option, IsSome}
 use Rattle.replay_check.specs.Images.{with_number}
 use Rattle.replay_check.proofs.Loading.{search_more, search_found, search_end, numbered_at}

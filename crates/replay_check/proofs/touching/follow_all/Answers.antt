@@ -1,5 +1,5 @@
 use Rattle.std.proofs.Common.{drop, drop_of_length-le, ap}
-use Rattle.page_model.specs.Journal.{units_of}
+use Rattle.flat_state.specs.Journal.{units_of}
 use Rattle.replay_check.proofs.Following.{end_on}
 use Rattle.replay_check.proofs.touching.follow_all.Goals as goal
 

@@ -1,6 +1,6 @@
 use Rattle.std.proofs.Common.{◌≡◌, ℕ, List, length, All, None, refl, sym, ap, ◌∙◌, subst, arith}
 use Rattle.std.specs.Prelude.{IsSome}
-use Rattle.page_model.specs.Flat.{NamedImage, image_numbered}
+use Rattle.flat_state.specs.Flat.{NamedImage, image_numbered}
 use Rattle.replay_check.specs.Images.{images_of}
 use Rattle.replay_check.specs.Verdicts.{references_of}
 use Rattle.replay_check.proofs.Loading.{images_count, first_numbered}

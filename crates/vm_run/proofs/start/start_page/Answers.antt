@@ -1,8 +1,8 @@
 use Rattle.std.proofs.Common.{◌≡◌, ◌+◌, ◌-◌, ◌++◌, ◌∷◌, [], length, replicate, arith, rules}
 use Rattle.std.proofs.lemmas.Grind.{common_steps}
 use Rattle.aout_image.specs.Image.{word_bytes}
-use Rattle.page_model.specs.Space.{stack_top}
-use Rattle.page_model.specs.Flat.{in_longwords}
+use Rattle.flat_state.specs.Space.{stack_top}
+use Rattle.flat_state.specs.Flat.{in_longwords}
 use Rattle.vm_run.proofs.Starting.{page_joined}
 use Rattle.vm_run.proofs.start.start_page.Goals as goal
 

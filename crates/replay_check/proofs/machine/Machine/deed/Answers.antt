@@ -1,8 +1,8 @@
 use Rattle.std.proofs.Common.{◌≡◌, List, Some, rules, sym, ap, ◌∙◌}
-use Rattle.vm_facts.specs.Flat.{Process, FlatState}
+use Rattle.flat_state.specs.Flat.{Process, FlatState}
 use Rattle.user_vax.specs.Instruction.{writes_of, registers_after}
-use Rattle.page_model.specs.Space.{puts}
-use Rattle.page_model.specs.Change.{apply_writes}
+use Rattle.flat_state.specs.Space.{puts}
+use Rattle.flat_state.specs.Change.{apply_writes}
 use Rattle.flat_model.specs.declared.calls.Reply.{Reply}
 use Rattle.flat_model.specs.Calls.{call_of, refused_reply}
 use Rattle.flat_model.specs.Step.{written_process}

@@ -1,6 +1,5 @@
 use Rattle.std.proofs.Common.{◌≡◌, ◌==◌, Some, position, sym, ap, ◌∙◌, rules}
-use Rattle.vm_facts.specs.Flat.{Process}
-use Rattle.page_model.specs.Flat.{is_ready}
+use Rattle.flat_state.specs.Flat.{Process, is_ready}
 use Rattle.replay_check.proofs.Lists.{ready_place, pid_at}
 use Rattle.replay_check.proofs.machine.Machine.ready_place.Goals as goal
 

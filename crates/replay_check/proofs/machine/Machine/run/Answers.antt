@@ -1,5 +1,5 @@
 use Rattle.std.proofs.Common.{◌≡◌, get_or, set, refl, sym, ap, ◌∙◌}
-use Rattle.vm_facts.specs.Flat.{Process, FlatState}
+use Rattle.flat_state.specs.Flat.{Process, FlatState}
 use Rattle.user_vax.specs.Instruction.{answer_of, registers_after, writes_of}
 use Rattle.flat_model.specs.Instruction.{instruction_in}
 use Rattle.flat_model.specs.Step.{written_process}

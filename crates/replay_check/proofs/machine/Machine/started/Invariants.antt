@@ -1,5 +1,5 @@
 use Rattle.std.proofs.Common.{◌≡◌, ◌+◌, ◌++◌, drop}
-use Rattle.page_model.specs.Flat.{start_processes}
+use Rattle.flat_state.specs.Flat.{start_processes}
 use Rattle.replay_check.proofs.machine.Machine.started.Given as goal
 
 abbrev pub invariant-loop-number : goal.invariant-loop-number

@@ -1,7 +1,7 @@
 use Rattle.std.proofs.Common.{◌≡◌, ◌-◌, [], length}
-use Rattle.vm_facts.specs.Flat.{Space, Process, FlatState}
+use Rattle.flat_state.specs.Space.{Space, answers_of}
+use Rattle.flat_state.specs.Flat.{Process, FlatState}
 use Rattle.user_vax.specs.Program.{accesses}
-use Rattle.page_model.specs.Space.{answers_of}
 use Rattle.flat_model.specs.Calls.{reply_of}
 use Rattle.replay_check.specs.Machine.{no_process, no_space}
 use Rattle.replay_check.specs.Present.{pages_of, gathered}

@@ -1,8 +1,8 @@
 use Rattle.std.proofs.Common.{◌≡◌, List, Some, OnOk, rules, sym, subst, ◌∙◌}
 use Rattle.user_vax.specs.Program.{Access}
 use Rattle.user_vax.specs.Instruction.{writes_of}
-use Rattle.page_model.specs.Space.{puts}
-use Rattle.page_model.specs.Change.{apply_writes}
+use Rattle.flat_state.specs.Space.{puts}
+use Rattle.flat_state.specs.Change.{apply_writes}
 use Rattle.flat_model.specs.Calls.{call_of}
 use Rattle.flat_model.specs.Step.{written_process}
 use Rattle.replay_check.specs.Present.{pages_of, gathered}

@@ -1,7 +1,7 @@
 use Rattle.std.proofs.Common.{◌≡◌, ◌-◌, length}
 use Rattle.user_vax.specs.Program.{accesses}
 use Rattle.user_vax.specs.Instruction.{instruction}
-use Rattle.page_model.specs.Space.{answers_of}
+use Rattle.flat_state.specs.Space.{answers_of}
 use Rattle.replay_check.specs.Present.{pages_of, gathered}
 use Rattle.replay_check.proofs.present.Paged.run.Given as goal
 

@@ -1,5 +1,5 @@
 use Rattle.std.proofs.Common.{◌≡◌, rules, sym, ap, ◌∙◌}
-use Rattle.vm_facts.specs.Flat.{Holds, Process}
+use Rattle.flat_state.specs.Flat.{Holds, Process}
 use Rattle.replay_check.proofs.Paging.{touched_held}
 use Rattle.replay_check.proofs.process.Process.run_touching.Goals as goal
 

@@ -1,6 +1,6 @@
 use Rattle.std.proofs.Common.{◌≡◌, ◌==◌, ◌&&◌, Bool, true, false, None, refl, sym, ap, ◌∙◌, subst, arith}
 use Rattle.std.proofs.lemmas.Bool.Decides.{nat_tests}
-use Rattle.vm_facts.specs.Flat.{FlatState}
+use Rattle.flat_state.specs.Flat.{FlatState}
 use Rattle.vm_facts.specs.declared.entry.Entry.TheVariants.{Call}
 use Rattle.flat_model.specs.Step.{call_entry}
 use Rattle.flat_model.specs.Run.{same_entry}

@@ -1,5 +1,5 @@
 use Rattle.std.proofs.Common.{◌≡◌, sym, ◌∙◌, subst}
-use Rattle.vm_facts.specs.Flat.{FlatState}
+use Rattle.flat_state.specs.Flat.{FlatState}
 use Rattle.replay_check.specs.Judging.{IsAt}
 use Rattle.replay_check.proofs.JudgingOutcomes.{ended_at}
 use Rattle.replay_check.proofs.replaying.Judge.ended.Goals as goal

@@ -1,5 +1,5 @@
 use Rattle.std.proofs.Common.{◌≡◌, [], take}
-use Rattle.page_model.specs.Flat.{Inputs}
+use Rattle.flat_state.specs.Flat.{Inputs}
 use Rattle.replay_check.specs.Judging.{HasTaken}
 use Rattle.replay_check.proofs.Verdicts.{AreRuns}
 use Rattle.replay_check.proofs.replaying.Judge.judge_all.Given as goal

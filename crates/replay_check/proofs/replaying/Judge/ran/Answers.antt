@@ -1,6 +1,6 @@
 use Rattle.std.proofs.Common.{◌≡◌, ℕ, ◌+◌, Bool, true, false, [], Some, subst, arith}
 use Rattle.vm_facts.specs.declared.entry.Entry.TheVariants.{Ran}
-use Rattle.page_model.specs.Journal.{units_with}
+use Rattle.flat_state.specs.Journal.{units_with}
 use Rattle.flat_model.specs.Run.{flat_entry, flat_units}
 use Rattle.replay_check.specs.Judging.{IsVerdict}
 use Rattle.replay_check.proofs.Running.{ran_none, ran_next, ran_fails}

@@ -1,7 +1,7 @@
 use Rattle.std.proofs.Common.{◌≡◌, true, [], Some}
 use Rattle.vm_facts.specs.declared.entry.Entry.TheVariants.{Ran}
-use Rattle.page_model.specs.Flat.{Inputs}
-use Rattle.page_model.specs.Journal.{units_with}
+use Rattle.flat_state.specs.Flat.{Inputs}
+use Rattle.flat_state.specs.Journal.{units_with}
 use Rattle.flat_model.specs.Run.{Point, flat_units}
 use Rattle.replay_check.specs.Judging.{IsAt, IsVerdict}
 use Rattle.replay_check.proofs.replaying.Judge.ran.Given as goal

@@ -1,6 +1,6 @@
 use Rattle.std.proofs.Common.{◌≡◌, subst, sym, rules}
-use Rattle.page_model.specs.Space.{address_in}
-use Rattle.page_model.proofs.SpaceLaws.{IsPaged, spot_within}
+use Rattle.flat_state.specs.Space.{address_in}
+use Rattle.flat_state.proofs.SpaceLaws.{IsPaged, spot_within}
 use Rattle.replay_check.proofs.space.FlatSpace.spot.Goals as goal
 
 pub returns-clause-within : goal.returns-clause-within

@@ -1,7 +1,7 @@
 use Rattle.std.proofs.Common.{refl, subst}
 use Rattle.vm_facts.specs.declared.entry.Entry.{Entry}
 use Rattle.vm_facts.specs.declared.entry.Entry.TheVariants.{Call, Ended, Grew, Sleeps}
-use Rattle.page_model.specs.Journal.{units_with}
+use Rattle.flat_state.specs.Journal.{units_with}
 use Rattle.replay_check.specs.Following.{IsOnWay}
 use Rattle.replay_check.proofs.Following.{counted_on, stepped_on, refused_on, out_on, skip_on}
 use Rattle.replay_check.proofs.touching.Follower.follow.Goals as goal

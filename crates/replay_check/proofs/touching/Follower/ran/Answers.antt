@@ -1,8 +1,8 @@
 use Rattle.std.proofs.Common.{◌+◌, ◌-◌, ◌++◌, List, None, refl, sym, ap, ◌∙◌, subst}
-use Rattle.vm_facts.specs.Flat.{FlatState}
+use Rattle.flat_state.specs.Flat.{FlatState}
 use Rattle.vm_facts.specs.declared.entry.Entry.{Entry}
 use Rattle.vm_facts.specs.declared.entry.Entry.TheVariants.{Ran}
-use Rattle.page_model.specs.Journal.{repeated}
+use Rattle.flat_state.specs.Journal.{repeated}
 use Rattle.flat_model.specs.Touched.{touched}
 use Rattle.replay_check.specs.Following.{IsOnWay}
 use Rattle.replay_check.proofs.Following.{step_on, ran_next, ran_all}

@@ -2,8 +2,8 @@ use Rattle.std.proofs.Common.{◌≡◌, ◌-◌, List}
 use Rattle.vm_facts.specs.declared.page.Page.{Page}
 use Rattle.vm_facts.specs.declared.entry.Entry.{Entry}
 use Rattle.vm_facts.specs.declared.entry.Entry.TheVariants.{Ran}
-use Rattle.page_model.specs.Flat.{Inputs}
-use Rattle.page_model.specs.Journal.{repeated}
+use Rattle.flat_state.specs.Flat.{Inputs}
+use Rattle.flat_state.specs.Journal.{repeated}
 use Rattle.replay_check.specs.Following.{IsOnWay}
 use Rattle.replay_check.proofs.touching.Follower.ran.Given as goal
 

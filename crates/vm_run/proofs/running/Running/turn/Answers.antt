@@ -2,7 +2,7 @@ use Rattle.std.proofs.Common.{◌≡◌, List, Option, refl, sym, ◌∙◌, sub
 use Rattle.vm_facts.specs.declared.entry.Entry.{Entry}
 use Rattle.vm_facts.specs.declared.entry.Entry.TheVariants.{Turn}
 use Rattle.io_edge.specs.FileHolding.{NamedFile}
-use Rattle.page_model.specs.Journal.{append}
+use Rattle.flat_state.specs.Journal.{append}
 use Rattle.vm_run.specs.declared.running.Mark.TheVariants.{Turned}
 use Rattle.vm_run.specs.Running.{Advanced, TurnSoFar, HasFile}
 use Rattle.vm_run.proofs.Turning.{turn_begins, turn_more, turn_stops, has_file}

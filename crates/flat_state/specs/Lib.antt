@@ -1,0 +1,8 @@
+pub mod Space
+pub mod Flat
+pub mod Change
+pub mod Journal
+pub mod Lenders
+pub mod Numbers
+pub mod PageNames
+pub mod Writes

@@ -1,0 +1,4 @@
+pub mod Numbered
+pub mod Lists
+pub mod Numbers
+pub mod Lenders

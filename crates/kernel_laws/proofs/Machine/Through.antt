@@ -1,0 +1,781 @@
+-- The tables of the machine are those of the flat state through each change, with no bytes.
+use Rattle.std.proofs.Common.{◌≡◌, ◌≢◌, inl, inr, ℕ, ◌+◌, ◌*◌, ◌<◌, ◌==◌, Bool, true, false, cond, List, [], ◌∷◌, ◌++◌, length, map, Option, Some, None, refl, sym, ap, ◌∙◌, subst, arith, ◌⊎◌, ◌-◌, ◌≤◌, min, take, drop, length-append, ◌||◌, ◌&&◌, not, filter}
+use Rattle.std.proofs.lemmas.Bool.{cases_eq, cases_Bool}
+use Rattle.flat_state.specs.Space.{Space}
+use Rattle.flat_state.specs.Flat.{Holds, Process, FlatState, Lends, Holding, Zombie, NamedImage, process_of, image_numbered, space_with, cleared, spaces_of, space_held}
+use Rattle.vm_facts.specs.declared.page.Page.{Page}
+use Rattle.vm_facts.specs.declared.page.Page.TheVariants.{Data, Stack, Text}
+use Rattle.vm_facts.specs.declared.regs.Regs.{Regs}
+use Rattle.vm_facts.specs.declared.entry.Entry.{Entry}
+use Rattle.aout_image.specs.Image.{page_at, data_given, data_pages_of}
+use Rattle.flat_state.specs.declared.change.Change.TheVariants.{Fork, Lend, Resize, Exec, End, Keep, Reap, Sleep}
+use Rattle.flat_state.specs.Change.{replaced, with_results, child_of, forked, apply_change, lent, with_process, resized_bytes, resized, replaced_by, returned, returned_by, entered, is_zombie, is_zombie_child, without_parent, orphaned, awake, woken, left, ended, without_process, lends_to}
+use Rattle.flat_state.specs.Journal.{append}
+use Rattle.page_model.specs.Pages.{SpacePages, numbered, data_in, stack_in, Zeros, OfImage}
+use Rattle.flat_state.specs.PageNames.{number_of, same_page}
+use Rattle.page_model.specs.Placement.{Placement, Residence, space_number, slots_of, image_in, image_of, IsThere, Due, Start, due_at, sharers, data_filling, new_pages}
+use Rattle.page_model.specs.Place.{child_slot, fork_space, begin_residence, resize, enter_space, enter_image, give_up_unless, place_change, is_borrower, end_residence, space_of_holding}
+use Rattle.page_model.specs.Swapper.{is_out, residence_of}
+use Rattle.page_model.specs.Conditions.{IsNew, IsSettled, MayForget}
+use Rattle.page_model.specs.PageBytes.{SameBytes, Copies, zeros, Bytes, FillsBy, CouplesPages}
+use Rattle.flat_state.specs.Numbers.{IsNumbered, IsAbsent, AllDistinct}
+use Rattle.kernel_model.specs.Stands.{OutHold, holds_some}
+use Rattle.flat_state.specs.Lenders.{IsLender}
+use Rattle.kernel_model.specs.Coupled.{IsSized, Fits, AllFit, Outline, Coupled, SameTables, outline_kept, outline_of, memory_of, file_of, data_of, data_bytes_in, stack_bytes_in, beside_kernel, KeepsRegs}
+use Rattle.kernel_model.specs.Kernel.{Kernel, Proc, Life, HoldsSpace, New, LendsSpace, StartBytes, start_bytes, Ended, life_of}
+use Rattle.page_model.specs.Stored.{stored_at, stored}
+use Rattle.kernel_model.specs.Sound.{Sound, KeepsStarts, DataFits, is_start, has_start, lives}
+use Rattle.kernel_model.specs.ChangeStep.{with_proc, child_proc, change_step, space_of_life, life_of_proc, passed_life, pass_step, given_back_unless, without_proc, is_ended, orphaned_procs, woken_procs, left_procs}
+use Rattle.page_laws.proofs.Lists.Local.{none_some, some_is}
+use Rattle.page_laws.proofs.Ownership.Changes.{added_other, added_same, dropped_pages}
+use Rattle.page_laws.proofs.Bytes.Spaces.{map_length, fork_coupled, apart_page, unfilled_length, enter_coupled}
+use Rattle.page_laws.proofs.Bytes.Runs.{still_coupled}
+use Rattle.kernel_laws.proofs.Flat.Numbered.{absent_none, below_absent, pushed_new, pushed_old, pushed_found, map_pushed, image_by, eq_self, not_eq, none_absent, hit, miss, eq_is, has_number, numbered_map, mapped_some, only_if, numbered_filter, removed_is, removed_not}
+use Rattle.kernel_laws.proofs.Flat.Lists.{pid_of, sid_of, held, found_is, replaced_at, replaced_not, same_held, held-append, held_at, held_own, HeldAt, held_other, held_now, held_new, replaced_pids, held_gain}
+use Rattle.kernel_laws.proofs.Machine.Done.{fit_data, fit_stack}
+use Rattle.kernel_laws.proofs.Machine.Tables.{kept_pid, tables_of, outlines_at, RegsAt, coupled_of, kept_at, outline_at, all_fit, regs_at}
+use Rattle.kernel_laws.proofs.Machine.Swaps.{applied, memory_same}
+use Rattle.kernel_laws.proofs.Machine.Still.{outline_is}
+use Rattle.kernel_laws.proofs.Machine.Processes.{with_at, with_not, with_replaced, holds_there, Stepping, stepping, by_life, step_is, regs_carried, regs_in_record, other_space, not_own_parent, removed_outlines, held_filter, distinct_filter, pids_same}
+use Rattle.kernel_laws.proofs.Machine.Moves.{alike_coupled, u_stored}
+use Rattle.kernel_laws.proofs.Machine.Forks.{next_pid_none, next_in, kept_none, out_begun, next_new, next_sid_none, forked_kernel, fit_image}
+use Rattle.std.specs.Prelude.{replicate, nat_lt}
+use Rattle.std.proofs.lemmas.List.{length-take, length-replicate, take_all, drop-append-le, take-append-le, drop-replicate, take-replicate}
+use Rattle.std.proofs.Math.Seq.{drop-append-add}
+use Rattle.swap_dmap.specs.Chunks.{pieces}
+use Rattle.swap_dmap.proofs.PieceLaws.{spot_chunk}
+use Rattle.swap_book.specs.declared.Owner.{Owner}
+use Rattle.swap_book.specs.Owners.{same_owner, spot_of}
+use Rattle.swap_book.specs.Holdings.{Holdings, block_in, kept}
+use Rattle.swap_book.proofs.OwnerLaws.{same_owner_gives}
+use Rattle.swap_book.proofs.KeptLaws.{of_owner-kept_other, block_in_same, block_in_kept}
+use Rattle.page_model.specs.Moves.{drop_all}
+use Rattle.page_model.specs.Ownership.{block_of, OwnsFrames, OneOwner, TextAside, owner_of}
+use Rattle.page_laws.proofs.Lists.Pages.{mapped, changed_same, changed_other, same_page_self}
+use Rattle.page_laws.proofs.Blocks.Places.{before}
+use Rattle.page_laws.proofs.Bytes.Changes.{cut, length_sized, data_bound, stack_bound, resize_coupled}
+use Rattle.kernel_laws.proofs.Machine.Shapes.{Shaped, fit_shaped, drop_all_shaped, image_kept, sizes_kept, fit_shapes, image_by_shape, sizes_by_shape}
+use Rattle.std.proofs.lemmas.Bool.Decides.{nat_tests}
+use Rattle.aout_image.specs.declared.Image.{Image}
+use Rattle.page_laws.proofs.Ownership.Entries.{enter_image_owner, enter_settled}
+use Rattle.page_laws.proofs.Blocks.Changes.{place_change_aside}
+use Rattle.page_laws.proofs.Bytes.Couples.{NoCopy}
+use Rattle.kernel_laws.proofs.Machine.Gone.{Gone, gone_unless, gone_data, gone_stack, unless_coupled, unless_blocks, unless_u, OtherBytes, other_coupled, AsideText}
+use Rattle.kernel_laws.proofs.Machine.Breaks.{block_kept, fit_cut, resized_own, resized_other}
+use Rattle.kernel_laws.proofs.Machine.Execs.{returned_none, borrower_replaced, exec_kernel, Entering, exec_core}
+use Rattle.kernel_laws.proofs.Machine.Lends.{pass_is, pass_by, passed, passed_list, passed_child}
+use Rattle.kernel_laws.proofs.Machine.Ends.{WasFlat, WasKept, end_was, end_kept, end_held, with_pids, end_kernel, Leaving, end_core, left_flat, left_is, orphans, ended_outlines, out_ended, out_gone}
+use Rattle.kernel_laws.proofs.Machine.Returns.{passes, Borrowing, borrowing, back_kernel, back_proc, Back, back}
+use Rattle.swap_book.specs.declared.Owner.TheVariants as owners
+
+-- Growth and break.
+pub resize_tables : (k : Kernel) (images : List NamedImage) (flat : FlatState) (pid : ℕ) (regs : Regs) (e : Entry) (d t : ℕ) (q : Process) (s : Space) → IsNumbered flat → process_of flat pid ≡ Some q → q.holding ≡ Holds s → SameTables k flat
+    → SameTables (change_step images k pid regs e (Resize d t)) (apply_change images flat pid regs (Resize d t))
+resize_tables k images flat pid regs e d t q s nums f h c =
+    subst (λ (x : Kernel). SameTables x (apply_change images flat pid regs (Resize d t))) (sym (step_is images k pid regs e (Resize d t) g.proc (HoldsSpace s.sid) g.kept g.life))
+    (subst (SameTables l) (sym (applied images flat pid regs (Resize d t) q s f h))
+    (tables_of l after (with_replaced k.processes flat.processes kp fp c.processes nums.pids outline) c.next_pid c.next_sid fits))
+  where
+    g : Stepping k flat pid q s
+    g = stepping k flat pid q s c f h
+
+    kp : Proc
+    kp = record g.proc { regs = regs }
+
+    z : Space
+    z = resized s d t
+
+    fp : Process
+    fp = record q { regs = regs; holding = Holds z }
+
+    after : FlatState
+    after = with_process flat fp
+
+    l : Kernel
+    l = by_life images k kp (HoldsSpace s.sid) e (Resize d t)
+
+    found : numbered pid_of fp.pid flat.processes ≡ Some q
+    found = ap (λ (n : ℕ). numbered pid_of n flat.processes) g.pid_was ∙ g.found
+
+    outline : outline_kept kp ≡ outline_of fp
+    outline = outline_is g.proc.pid q.pid g.proc.parent q.parent g.proc.life (HoldsSpace s.sid) g.proc.asleep q.asleep (g.pid_is ∙ sym g.pid_was) g.parent g.life g.asleep
+
+    held_here : HeldAt flat.processes fp s
+    held_here = held_at flat.processes q fp s found h nums.sids
+
+    own : numbered sid_of s.sid (spaces_of after) ≡ Some z
+    own = held_now flat.processes fp s held_here ∙ hit sid_of s.sid z [] refl
+
+    other : (n : ℕ) → n ≢ s.sid → numbered sid_of n (spaces_of after) ≡ numbered sid_of n (spaces_of flat)
+    other n m = held_other flat.processes fp s n held_here m (miss sid_of n z [] (λ i. m (sym i)))
+
+    was : numbered sid_of s.sid (spaces_of flat) ≡ Some s
+    was = held_own flat.processes fp s held_here
+
+    all : AllFit flat k.place
+    all = c.spaces
+
+    own_fits : Fits (Some s) (numbered space_number s.sid k.place.spaces)
+    own_fits = subst (λ (x : Option Space). Fits x (numbered space_number s.sid k.place.spaces)) was (all s.sid)
+
+    dropped : Placement
+    dropped = drop_all k.place (dropped_pages k.place s.sid d t)
+
+    shaped : Shaped k.place dropped
+    shaped = drop_all_shaped (dropped_pages k.place s.sid d t) k.place
+
+    fits : AllFit after l.place
+    fits n = elim (cases_eq n s.sid) [
+      | inl i ↦ subst (λ (m : ℕ). Fits (numbered sid_of m (spaces_of after)) (numbered space_number m l.place.spaces)) (sym i)
+          (subst (λ (x : Option Space). Fits x (numbered space_number s.sid l.place.spaces)) (sym own)
+          (subst (Fits (Some z)) (sym (resized_own k.place s.sid d t)) (fit_cut s (numbered space_number s.sid dropped.spaces) d t (fit_shaped k.place dropped (Some s) s.sid shaped own_fits))))
+      | inr m ↦ subst (λ (x : Option Space). Fits x (numbered space_number n l.place.spaces)) (sym (other n m))
+          (subst (Fits (numbered sid_of n (spaces_of flat))) (sym (resized_other k.place s.sid d t n m)) (fit_shaped k.place dropped (numbered sid_of n (spaces_of flat)) n shaped (all n)))
+    ]
+
+-- Fork.
+pub fork_tables : (k : Kernel) (images : List NamedImage) (flat : FlatState) (pid : ℕ) (regs : Regs) (e : Entry) (q : Process) (s : Space) → IsNumbered flat → process_of flat pid ≡ Some q → q.holding ≡ Holds s → SameTables k flat
+    → SameTables (change_step images k pid regs e (Fork flat.next_pid)) (apply_change images flat pid regs (Fork flat.next_pid))
+fork_tables k images flat pid regs e q s nums f h c =
+    subst (λ (x : Kernel). SameTables x (apply_change images flat pid regs (Fork flat.next_pid))) (sym (step_is images k pid regs e (Fork flat.next_pid) g.proc (HoldsSpace s.sid) g.kept g.life))
+    (subst (SameTables (by_life images k kp (HoldsSpace s.sid) e (Fork flat.next_pid))) (sym (applied images flat pid regs (Fork flat.next_pid) q s f h))
+    (subst (λ (m : ℕ). SameTables (forked_kernel k kp s.sid flat.next_pid m e) after) (sym c.next_sid)
+    (tables_of l after outlines (ap (λ (m : ℕ). m + 1) c.next_pid) refl fits)))
+  where
+    g : Stepping k flat pid q s
+    g = stepping k flat pid q s c f h
+
+    n : ℕ
+    n = flat.next_sid
+
+    kp : Proc
+    kp = record g.proc { regs = regs }
+
+    fp : Process
+    fp = record q { regs = regs }
+
+    z : Space
+    z = record s { sid = n }
+
+    ch : Process
+    ch = child_of fp flat.next_pid z
+
+    kc : Proc
+    kc = child_proc kp flat.next_pid (HoldsSpace n)
+
+    after : FlatState
+    after = forked flat fp s flat.next_pid
+
+    l : Kernel
+    l = forked_kernel k kp s.sid flat.next_pid n e
+
+    pids : kp.pid ≡ fp.pid
+    pids = g.pid_is ∙ sym g.pid_was
+
+    found : numbered pid_of fp.pid flat.processes ≡ Some q
+    found = ap (λ (m : ℕ). numbered pid_of m flat.processes) g.pid_was ∙ g.found
+
+    outline : outline_kept kp ≡ outline_of fp
+    outline = outline_is g.proc.pid q.pid g.proc.parent q.parent g.proc.life (Rattle.kernel_model.specs.Kernel.life_of q.holding) g.proc.asleep q.asleep pids g.parent (g.life ∙ sym (ap Rattle.kernel_model.specs.Kernel.life_of h)) g.asleep
+
+    child_outline : outline_kept kc ≡ outline_of ch
+    child_outline = outline_is flat.next_pid flat.next_pid kp.pid fp.pid (HoldsSpace n) (HoldsSpace n) false false refl pids refl refl
+
+    outlines : map outline_kept l.processes ≡ map outline_of after.processes
+    outlines = map_pushed outline_kept (with_proc k.processes kp) kc ∙ ap (λ (x : List Outline). x ++ outline_kept kc ∷ []) (with_replaced k.processes flat.processes kp fp c.processes nums.pids outline)
+        ∙ ap (λ (x : Outline). map outline_of (replaced flat.processes fp) ++ x ∷ []) child_outline ∙ sym (map_pushed outline_of (replaced flat.processes fp) ch)
+
+    spaces : spaces_of after ≡ held flat.processes ++ z ∷ []
+    spaces = held-append (replaced flat.processes fp) (ch ∷ []) ∙ ap (λ (xs : List Space). xs ++ z ∷ []) (same_held flat.processes q fp found refl)
+
+    own : numbered sid_of n (spaces_of after) ≡ Some z
+    own = ap (numbered sid_of n) spaces ∙ pushed_new sid_of n (held flat.processes) z (next_sid_none flat nums) refl
+
+    other : (m : ℕ) → m ≢ n → numbered sid_of m (spaces_of after) ≡ numbered sid_of m (spaces_of flat)
+    other m d = ap (numbered sid_of m) spaces ∙ pushed_old sid_of m (held flat.processes) z (λ i. d (sym i))
+
+    was : numbered sid_of s.sid (spaces_of flat) ≡ Some s
+    was = held_own flat.processes fp s (held_at flat.processes q fp s found h nums.sids)
+
+    all : AllFit flat k.place
+    all = c.spaces
+
+    own_fits : Fits (Some s) (numbered space_number s.sid k.place.spaces)
+    own_fits = subst (λ (x : Option Space). Fits x (numbered space_number s.sid k.place.spaces)) was (all s.sid)
+
+    new : IsNew k.place n
+    new = next_new flat k.place nums all
+
+    x : SpacePages
+    x = record { sid = n; image = image_of k.place s.sid; data_pages = map child_slot (slots_of k.place (Data s.sid 0)); stack_pages = map child_slot (slots_of k.place (Stack s.sid 0)) }
+
+    place_own : numbered space_number n l.place.spaces ≡ Some x
+    place_own = added_same n k.place.spaces x refl new
+
+    place_other : (m : ℕ) → m ≢ n → numbered space_number m l.place.spaces ≡ numbered space_number m k.place.spaces
+    place_other m d = added_other m k.place.spaces x (λ i. d (sym i))
+
+    sized : IsSized z x
+    sized = record {
+      image = fit_image s (numbered space_number s.sid k.place.spaces) own_fits;
+      data_size = fit_data (Some s) (numbered space_number s.sid k.place.spaces) own_fits ∙ ap (λ (m : ℕ). 1024 * m) (sym (map_length (slots_of k.place (Data s.sid 0))));
+      stack_size = fit_stack (Some s) (numbered space_number s.sid k.place.spaces) own_fits ∙ ap (λ (m : ℕ). 1024 * m) (sym (map_length (slots_of k.place (Stack s.sid 0))));
+    }
+
+    fits : AllFit after l.place
+    fits m = elim (cases_eq m n) [
+      | inl i ↦ subst (λ (y : ℕ). Fits (numbered sid_of y (spaces_of after)) (numbered space_number y l.place.spaces)) (sym i)
+          (subst (λ (y : Option Space). Fits y (numbered space_number n l.place.spaces)) (sym own) (subst (Fits (Some z)) (sym place_own) sized))
+      | inr d ↦ subst (λ (y : Option Space). Fits y (numbered space_number m l.place.spaces)) (sym (other m d)) (subst (Fits (numbered sid_of m (spaces_of flat))) (sym (place_other m d)) (all m))
+    ]
+
+-- Vfork, with the space that passes.
+pub lend_tables : (k : Kernel) (images : List NamedImage) (flat : FlatState) (pid : ℕ) (regs : Regs) (e : Entry) (q : Process) (s : Space) → IsNumbered flat → process_of flat pid ≡ Some q → q.holding ≡ Holds s → SameTables k flat
+    → SameTables (pass_step (change_step images k pid regs e (Lend flat.next_pid)) pid flat.next_pid) (apply_change images flat pid regs (Lend flat.next_pid))
+lend_tables k images flat pid regs e q s nums f h c =
+    subst (λ (x : Kernel). SameTables (pass_step x pid flat.next_pid) (apply_change images flat pid regs (Lend flat.next_pid))) (sym (step_is images k pid regs e (Lend flat.next_pid) g.proc (HoldsSpace s.sid) g.kept g.life))
+    (subst (SameTables (pass_step k1 pid flat.next_pid)) (sym (applied images flat pid regs (Lend flat.next_pid) q s f h))
+    (subst (λ (x : Kernel). SameTables x after) (sym (pass_is k1 pid flat.next_pid kp kn (HoldsSpace s.sid) New parent_kept g.life child_kept refl))
+    (subst (λ (xs : List Proc). SameTables (record k1 { processes = xs }) after) (sym processes)
+    (tables_of l after outlines (ap (λ (m : ℕ). m + 1) c.next_pid) c.next_sid fits))))
+  where
+    g : Stepping k flat pid q s
+    g = stepping k flat pid q s c f h
+
+    child : ℕ
+    child = flat.next_pid
+
+    kp : Proc
+    kp = record g.proc { regs = regs }
+
+    kn : Proc
+    kn = child_proc kp child New
+
+    kl : Proc
+    kl = record kp { life = LendsSpace s.sid child }
+
+    kc : Proc
+    kc = child_proc kp child (HoldsSpace s.sid)
+
+    fp : Process
+    fp = record q { regs = regs; holding = Lends s.sid child }
+
+    ch : Process
+    ch = child_of (record q { regs = regs }) child s
+
+    after : FlatState
+    after = lent flat (record q { regs = regs }) s child
+
+    k1 : Kernel
+    k1 = by_life images k kp (HoldsSpace s.sid) e (Lend child)
+
+    l : Kernel
+    l = record k1 { processes = with_proc k.processes kl ++ kc ∷ [] }
+
+    pids : kp.pid ≡ fp.pid
+    pids = g.pid_is ∙ sym g.pid_was
+
+    found : numbered pid_of fp.pid flat.processes ≡ Some q
+    found = ap (λ (m : ℕ). numbered pid_of m flat.processes) g.pid_was ∙ g.found
+
+    kept_found : numbered kept_pid kp.pid k.processes ≡ Some g.proc
+    kept_found = ap (λ (m : ℕ). numbered kept_pid m k.processes) g.pid_is ∙ g.kept
+
+    child_other : child ≢ q.pid
+    child_other i = none_some q (sym (next_pid_none flat nums) ∙ ap (λ (m : ℕ). numbered pid_of m flat.processes) (i ∙ g.pid_was) ∙ g.found)
+
+    no_child : numbered kept_pid child k.processes ≡ None
+    no_child = kept_none k flat child c.processes (next_pid_none flat nums)
+
+    parent_kept : numbered kept_pid pid k1.processes ≡ Some kp
+    parent_kept = pushed_found kept_pid pid (with_proc k.processes kp) kn kp (ap (λ (m : ℕ). numbered kept_pid m (with_proc k.processes kp)) (sym g.pid_is) ∙ with_at k.processes kp g.proc kept_found)
+
+    child_kept : numbered kept_pid child k1.processes ≡ Some kn
+    child_kept = pushed_new kept_pid child (with_proc k.processes kp) kn (with_not k.processes kp child (λ i. child_other (i ∙ pids)) ∙ no_child) refl
+
+    processes : map (passed s.sid pid child New) k1.processes ≡ l.processes
+    processes = ap (λ (m : ℕ). map (passed s.sid m child New) k1.processes) (sym g.pid_is) ∙ map_pushed (passed s.sid kp.pid child New) (with_proc k.processes kp) kn
+        ∙ ap (λ (xs : List Proc). xs ++ passed s.sid kp.pid child New kn ∷ []) (passed_list k.processes kp s.sid child (none_absent kept_pid child k.processes no_child))
+        ∙ ap (λ (x : Proc). with_proc k.processes kl ++ x ∷ []) (passed_child kp s.sid child (λ i. child_other (i ∙ pids)))
+
+    outlines : map outline_kept l.processes ≡ map outline_of after.processes
+    outlines = map_pushed outline_kept (with_proc k.processes kl) kc
+        ∙ ap (λ (x : List Outline). x ++ outline_kept kc ∷ []) (with_replaced k.processes flat.processes kl fp c.processes nums.pids
+        (outline_is g.proc.pid q.pid g.proc.parent q.parent (LendsSpace s.sid child) (LendsSpace s.sid child) g.proc.asleep q.asleep pids g.parent refl g.asleep))
+        ∙ ap (λ (x : Outline). map outline_of (replaced flat.processes fp) ++ x ∷ []) (outline_is child child kp.pid fp.pid (HoldsSpace s.sid) (HoldsSpace s.sid) false false refl pids refl refl)
+        ∙ sym (map_pushed outline_of (replaced flat.processes fp) ch)
+
+    held_here : HeldAt flat.processes fp s
+    held_here = held_at flat.processes q fp s found h nums.sids
+
+    list : spaces_of after ≡ held (replaced flat.processes fp) ++ s ∷ []
+    list = held-append (replaced flat.processes fp) (ch ∷ [])
+
+    spaces : (n : ℕ) → numbered sid_of n (spaces_of after) ≡ numbered sid_of n (spaces_of flat)
+    spaces n = elim (cases_eq n s.sid) [
+      | inl i ↦ subst (λ (m : ℕ). numbered sid_of m (spaces_of after) ≡ numbered sid_of m (spaces_of flat)) (sym i)
+          (ap (numbered sid_of s.sid) list ∙ pushed_new sid_of s.sid (held (replaced flat.processes fp)) s (held_now flat.processes fp s held_here) refl ∙ sym (held_own flat.processes fp s held_here))
+      | inr d ↦ ap (numbered sid_of n) list ∙ pushed_old sid_of n (held (replaced flat.processes fp)) s (λ i. d (sym i)) ∙ held_other flat.processes fp s n held_here d refl
+    ]
+
+    all : AllFit flat k.place
+    all = c.spaces
+
+    fits : AllFit after l.place
+    fits n = subst (λ (o : Option Space). Fits o (numbered space_number n k.place.spaces)) (sym (spaces n)) (all n)
+
+-- what is asked of the new image and of the flat state behind it, of the tables alone
+pub record EntersTables (k : Kernel) (flat after : FlatState) (next sid number : ℕ) (borrowed : Bool) (named : NamedImage) (top : List ℕ) : Type 0 where
+  pub new : IsNew k.place next
+  pub apart : borrowed ≡ false → next ≢ sid
+  pub fits : DataFits named.image
+  pub whole : length top ≡ 1024
+  pub own : numbered sid_of next (spaces_of after) ≡ Some (space_with next number named.image top)
+  pub other : (m : ℕ) → m ≢ next → (borrowed ≡ false → m ≢ sid) → numbered sid_of m (spaces_of after) ≡ numbered sid_of m (spaces_of flat)
+  pub gone : borrowed ≡ false → numbered sid_of sid (spaces_of after) ≡ None
+
+-- A new image, where the old space goes unless it was borrowed.
+enter_fits : (k : Kernel) (flat after : FlatState) (next sid number : ℕ) (borrowed : Bool) (named : NamedImage) (top : List ℕ) (ps : List Proc) (journal : List Entry) → EntersTables k flat after next sid number borrowed named top → AllFit flat k.place
+    → AllFit after (exec_kernel k next sid borrowed number (Some named) top ps journal).place
+enter_fits k flat after next sid number borrowed named top ps journal a all = fits
+  where
+    l : Kernel
+    l = exec_kernel k next sid borrowed number (Some named) top ps journal
+
+    facts : Image
+    facts = named.image.facts
+
+    z : Space
+    z = space_with next number named.image top
+
+    x : SpacePages
+    x = new_pages next number facts
+
+    p1 : Placement
+    p1 = enter_space k.place next number facts
+
+    g : Gone p1 l.place borrowed sid
+    g = gone_unless borrowed p1 sid
+
+    place_own : numbered space_number next p1.spaces ≡ Some x
+    place_own = added_same next k.place.spaces x refl a.new
+
+    place_other : (m : ℕ) → m ≢ next → numbered space_number m p1.spaces ≡ numbered space_number m k.place.spaces
+    place_other m d = added_other m k.place.spaces x (λ i. d (sym i))
+
+    sized : IsSized z x
+    sized = record {
+      image = refl;
+      data_size = let f : DataFits named.image = a.fits in f.size ∙ ap (λ (m : ℕ). 1024 * m) (sym (unfilled_length facts 0 (data_pages_of facts)));
+      stack_size = a.whole;
+    }
+
+    kept_fits : (m : ℕ) → m ≢ next → (borrowed ≡ false → m ≢ sid) → Fits (numbered sid_of m (spaces_of after)) (numbered space_number m l.place.spaces)
+    kept_fits m n d = subst (λ (o : Option Space). Fits o (numbered space_number m l.place.spaces)) (sym (a.other m n d))
+        (fit_shapes (numbered sid_of m (spaces_of flat)) (numbered space_number m p1.spaces) (numbered space_number m l.place.spaces) (g.other m d)
+        (subst (Fits (numbered sid_of m (spaces_of flat))) (sym (place_other m n)) (all m)))
+
+    new_fits : Fits (numbered sid_of next (spaces_of after)) (numbered space_number next l.place.spaces)
+    new_fits = subst (λ (o : Option Space). Fits o (numbered space_number next l.place.spaces)) (sym a.own)
+        (fit_shapes (Some z) (numbered space_number next p1.spaces) (numbered space_number next l.place.spaces) (g.other next a.apart) (subst (Fits (Some z)) (sym place_own) sized))
+
+    gone_fits : borrowed ≡ false → Fits (numbered sid_of sid (spaces_of after)) (numbered space_number sid l.place.spaces)
+    gone_fits e = subst (λ (o : Option Space). Fits o (numbered space_number sid l.place.spaces)) (sym (a.gone e)) (subst (Fits None) (sym (g.own e)) tt)
+
+    fits : AllFit after l.place
+    fits m = elim (cases_eq m next) [
+      | inl i ↦ subst (λ (n : ℕ). Fits (numbered sid_of n (spaces_of after)) (numbered space_number n l.place.spaces)) (sym i) new_fits
+      | inr n ↦ elim (cases_Bool borrowed) [
+        | inl t ↦ kept_fits m n (λ e. absurd (let j : true ≡ false = sym t ∙ e in cc))
+        | inr t ↦ elim (cases_eq m sid) [
+          | inl i ↦ subst (λ (n : ℕ). Fits (numbered sid_of n (spaces_of after)) (numbered space_number n l.place.spaces)) (sym i) (gone_fits t)
+          | inr d ↦ kept_fits m n (λ e. d)
+        ]
+      ]
+    ]
+
+-- Execve of a process that holds its own space.
+pub exec_tables : (k : Kernel) (images : List NamedImage) (flat : FlatState) (pid : ℕ) (regs : Regs) (e : Entry) (number : ℕ) (top : List ℕ) (named : NamedImage) (q : Process) (s : Space) → IsNumbered flat → process_of flat pid ≡ Some q → q.holding ≡ Holds s → is_borrower flat.processes pid ≡ false
+    → image_numbered images number ≡ Some named → DataFits named.image → length top ≡ 1024 → SameTables k flat → SameTables (change_step images k pid regs e (Exec number top)) (apply_change images flat pid regs (Exec number top))
+exec_tables k images flat pid regs e number top named q s nums f h own_space im fit whole c =
+    subst (λ (x : Kernel). SameTables x (apply_change images flat pid regs (Exec number top))) (sym (step_is images k pid regs e (Exec number top) g.proc (HoldsSpace s.sid) g.kept g.life))
+    (subst (SameTables (by_life images k (record g.proc { regs = regs }) (HoldsSpace s.sid) e (Exec number top))) (sym (applied images flat pid regs (Exec number top) q s f h))
+    (subst (λ (o : Option NamedImage). SameTables (exec_kernel k k.next_sid s.sid false number o top (with_proc k.processes (record g.proc { regs = regs; life = HoldsSpace k.next_sid })) (append k.journal e)) (entered flat (record q { regs = regs }) s number o top)) (sym im)
+    (subst (λ (m : ℕ). SameTables (exec_kernel k m s.sid false number (Some named) top (with_proc k.processes (record g.proc { regs = regs; life = HoldsSpace m })) (append k.journal e)) (entered flat (record q { regs = regs }) s number (Some named) top)) (sym c.next_sid)
+    (subst (λ (xs : List Process). SameTables l (record flat { processes = xs; next_sid = n + 1 })) (sym (returned_none (replaced flat.processes fp) q.pid s (borrower_replaced flat.processes fp q.pid refl (ap (is_borrower flat.processes) g.pid_was ∙ own_space))))
+    (tables_of l after outlines c.next_pid refl (enter_fits k flat after n s.sid number false named top (with_proc k.processes kp) (append k.journal e) enters c.spaces))))))
+  where
+    g : Stepping k flat pid q s
+    g = stepping k flat pid q s c f h
+
+    n : ℕ
+    n = flat.next_sid
+
+    z : Space
+    z = space_with n number named.image top
+
+    kp : Proc
+    kp = record g.proc { regs = regs; life = HoldsSpace n }
+
+    fp : Process
+    fp = record q { regs = regs; holding = Holds z }
+
+    after : FlatState
+    after = record flat { processes = replaced flat.processes fp; next_sid = n + 1 }
+
+    l : Kernel
+    l = exec_kernel k n s.sid false number (Some named) top (with_proc k.processes kp) (append k.journal e)
+
+    pids : kp.pid ≡ fp.pid
+    pids = g.pid_is ∙ sym g.pid_was
+
+    found : numbered pid_of fp.pid flat.processes ≡ Some q
+    found = ap (λ (m : ℕ). numbered pid_of m flat.processes) g.pid_was ∙ g.found
+
+    outlines : map outline_kept l.processes ≡ map outline_of after.processes
+    outlines = with_replaced k.processes flat.processes kp fp c.processes nums.pids (outline_is g.proc.pid q.pid g.proc.parent q.parent (HoldsSpace n) (HoldsSpace n) g.proc.asleep q.asleep pids g.parent refl g.asleep)
+
+    held_here : HeldAt flat.processes fp s
+    held_here = held_at flat.processes q fp s found h nums.sids
+
+    apart : n ≢ s.sid
+    apart i = holds_there flat.processes q.pid q s found h (ap (λ (m : ℕ). numbered sid_of m (held flat.processes)) (sym i) ∙ next_sid_none flat nums)
+
+    enters : EntersTables k flat after n s.sid number false named top
+    enters = record {
+      new = next_new flat k.place nums c.spaces;
+      apart = λ i. apart;
+      fits = fit;
+      whole = whole;
+      own = held_new flat.processes fp s n held_here (next_sid_none flat nums) ∙ hit sid_of n z [] refl;
+      other = λ m a b. held_other flat.processes fp s m held_here (b refl) (miss sid_of m z [] (λ i. a (sym i)));
+      gone = λ i. held_now flat.processes fp s held_here ∙ miss sid_of s.sid z [] apart;
+    }
+
+-- what is asked of the flat state behind an end, of the tables alone
+pub record LeavesTables (flat after : FlatState) (sid : ℕ) (borrowed : Bool) : Type 0 where
+  pub other : (m : ℕ) → (borrowed ≡ false → m ≢ sid) → numbered sid_of m (spaces_of after) ≡ numbered sid_of m (spaces_of flat)
+  pub gone : borrowed ≡ false → numbered sid_of sid (spaces_of after) ≡ None
+
+-- An end, where the space goes unless it was borrowed.
+leave_fits : (k : Kernel) (flat after : FlatState) (pid sid : ℕ) (borrowed : Bool) (ps : List Proc) (journal : List Entry) → LeavesTables flat after sid borrowed → AllFit flat k.place → AllFit after (end_kernel k pid sid borrowed ps journal).place
+leave_fits k flat after pid sid borrowed ps journal a all = fits
+  where
+    l : Kernel
+    l = end_kernel k pid sid borrowed ps journal
+
+    p1 : Placement
+    p1 = give_up_unless borrowed k.place sid
+
+    g : Gone k.place p1 borrowed sid
+    g = gone_unless borrowed k.place sid
+
+    kept_fits : (m : ℕ) → (borrowed ≡ false → m ≢ sid) → Fits (numbered sid_of m (spaces_of after)) (numbered space_number m l.place.spaces)
+    kept_fits m d = subst (λ (o : Option Space). Fits o (numbered space_number m l.place.spaces)) (sym (a.other m d))
+        (fit_shapes (numbered sid_of m (spaces_of flat)) (numbered space_number m k.place.spaces) (numbered space_number m l.place.spaces) (g.other m d) (all m))
+
+    fits : AllFit after l.place
+    fits m = elim (cases_Bool borrowed) [
+      | inl t ↦ kept_fits m (λ e. absurd (let j : true ≡ false = sym t ∙ e in cc))
+      | inr t ↦ elim (cases_eq m sid) [
+        | inl i ↦ subst (λ (n : ℕ). Fits (numbered sid_of n (spaces_of after)) (numbered space_number n l.place.spaces)) (sym i)
+            (subst (λ (o : Option Space). Fits o (numbered space_number sid l.place.spaces)) (sym (a.gone t)) (subst (Fits None) (sym (g.own t)) tt))
+        | inr d ↦ kept_fits m (λ e. d)
+      ]
+    ]
+
+-- The end of a process that holds its own space.
+pub end_tables : (k : Kernel) (images : List NamedImage) (flat : FlatState) (pid : ℕ) (regs : Regs) (e : Entry) (status : ℕ) (q : Process) (s : Space) → IsNumbered flat → process_of flat pid ≡ Some q → q.holding ≡ Holds s → is_borrower flat.processes pid ≡ false → SameTables k flat
+    → SameTables (change_step images k pid regs e (End status)) (apply_change images flat pid regs (End status))
+end_tables k images flat pid regs e status q s nums f h own_space c =
+    subst (λ (x : Kernel). SameTables x (apply_change images flat pid regs (End status))) (sym (step_is images k pid regs e (End status) g.proc (HoldsSpace s.sid) g.kept g.life))
+    (subst (SameTables (by_life images k kp (HoldsSpace s.sid) e (End status))) (sym (applied images flat pid regs (End status) q s f h))
+    (subst (SameTables l) (sym (left_is (q.parent == 0) (orphaned (Rattle.flat_state.specs.Change.given_back (with_process flat fp) q.pid s) q.pid) q.pid q.parent))
+    (subst (λ (xs : List Process). SameTables l (record flat { processes = left_flat (q.parent == 0) (orphans q.pid xs) q.pid q.parent }))
+    (sym (returned_none (replaced flat.processes fp) q.pid s (borrower_replaced flat.processes fp q.pid refl (ap (is_borrower flat.processes) g.pid_was ∙ own_space))))
+    (tables_of l after outlines c.next_pid c.next_sid (leave_fits k flat after kp.pid s.sid false (left_procs (kp.parent == 0) (orphaned_procs k.processes kp.pid) kp status) (append k.journal e) leaves c.spaces)))))
+  where
+    g : Stepping k flat pid q s
+    g = stepping k flat pid q s c f h
+
+    kp : Proc
+    kp = record g.proc { regs = regs }
+
+    fp : Process
+    fp = record q { regs = regs; holding = Zombie status }
+
+    rs : List Process
+    rs = replaced flat.processes fp
+
+    after : FlatState
+    after = record flat { processes = left_flat (q.parent == 0) (orphans q.pid rs) q.pid q.parent }
+
+    l : Kernel
+    l = end_kernel k kp.pid s.sid false (left_procs (kp.parent == 0) (orphaned_procs k.processes kp.pid) kp status) (append k.journal e)
+
+    pids : kp.pid ≡ q.pid
+    pids = g.pid_is ∙ sym g.pid_was
+
+    found : numbered pid_of fp.pid flat.processes ≡ Some q
+    found = ap (λ (m : ℕ). numbered pid_of m flat.processes) g.pid_was ∙ g.found
+
+    kept_found : numbered kept_pid kp.pid k.processes ≡ Some g.proc
+    kept_found = ap (λ (m : ℕ). numbered kept_pid m k.processes) g.pid_is ∙ g.kept
+
+    lonely_kept : kp.parent ≢ kp.pid
+    lonely_kept i = not_own_parent flat pid q nums f (sym g.parent ∙ i ∙ g.pid_is)
+
+    both : map outline_kept (with_proc k.processes (record kp { life = Ended status })) ≡ map outline_of rs
+    both = with_replaced k.processes flat.processes (record kp { life = Ended status }) fp c.processes nums.pids
+        (outline_is g.proc.pid q.pid g.proc.parent q.parent (Ended status) (Ended status) g.proc.asleep q.asleep pids g.parent refl g.asleep)
+
+    distinct_kept : AllDistinct (map kept_pid k.processes)
+    distinct_kept = subst AllDistinct (sym (pids_same k.processes flat.processes c.processes)) nums.pids
+
+    outlines : map outline_kept l.processes ≡ map outline_of after.processes
+    outlines = ended_outlines k.processes rs kp g.proc status distinct_kept kept_found lonely_kept lonely_kept both
+        ∙ ap (λ (m : ℕ). map outline_of (left_flat (kp.parent == 0) (orphans m rs) m kp.parent)) pids ∙ ap (λ (m : ℕ). map outline_of (left_flat (m == 0) (orphans q.pid rs) q.pid m)) g.parent
+
+    pids_of_both : map pid_of rs ≡ map pid_of flat.processes
+    pids_of_both = sym (pids_same (with_proc k.processes (record kp { life = Ended status })) rs both) ∙ with_pids k.processes (record kp { life = Ended status }) ∙ pids_same k.processes flat.processes c.processes
+
+    distinct : AllDistinct (map pid_of rs)
+    distinct = subst AllDistinct (sym pids_of_both) nums.pids
+
+    spaces : spaces_of after ≡ held rs
+    spaces = end_held (q.parent == 0) rs fp q.pid q.parent distinct (replaced_at flat.processes q fp found) refl
+
+    held_here : HeldAt flat.processes fp s
+    held_here = held_at flat.processes q fp s found h nums.sids
+
+    leaves : LeavesTables flat after s.sid false
+    leaves = record {
+      other = λ m d. ap (numbered sid_of m) spaces ∙ held_other flat.processes fp s m held_here (d refl) refl;
+      gone = λ i. ap (numbered sid_of s.sid) spaces ∙ held_now flat.processes fp s held_here;
+    }
+
+-- Execve of a borrower.
+pub exec_back_tables : (k : Kernel) (images : List NamedImage) (flat : FlatState) (pid : ℕ) (regs : Regs) (e : Entry) (number : ℕ) (top : List ℕ) (named : NamedImage) (q m : Process) (s : Space) → IsNumbered flat → process_of flat pid ≡ Some q → q.holding ≡ Holds s → IsLender flat pid s.sid m
+    → image_numbered images number ≡ Some named → DataFits named.image → length top ≡ 1024 → SameTables k flat → SameTables (change_step images (pass_step k pid m.pid) pid regs e (Exec number top)) (apply_change images flat pid regs (Exec number top))
+exec_back_tables k images flat pid regs e number top named q m s nums f h is im fit whole c =
+    subst (λ (x : Kernel). SameTables (change_step images x pid regs e (Exec number top)) (apply_change images flat pid regs (Exec number top))) (sym (back_kernel k flat pid q m s a))
+    (subst (λ (x : Kernel). SameTables x (apply_change images flat pid regs (Exec number top))) (sym (step_is images k1 pid regs e (Exec number top) (record g.proc { life = New }) New (back_proc k flat pid q m s a) refl))
+    (subst (SameTables (by_life images k1 (record g.proc { regs = regs; life = New }) New e (Exec number top))) (sym (applied images flat pid regs (Exec number top) q s f h))
+    (subst (λ (o : Option NamedImage). SameTables (exec_kernel k k.next_sid 0 true number o top (with_proc k1.processes (record g.proc { regs = regs; life = HoldsSpace k.next_sid })) (append k.journal e)) (entered flat (record q { regs = regs }) s number o top)) (sym im)
+    (subst (λ (y : ℕ). SameTables (exec_kernel k y 0 true number (Some named) top (with_proc k1.processes (record g.proc { regs = regs; life = HoldsSpace y })) (append k.journal e)) (entered flat (record q { regs = regs }) s number (Some named) top)) (sym c.next_sid)
+    (subst (λ (xs : List Process). SameTables l (record flat { processes = xs; next_sid = n + 1 })) (sym b.returned)
+    (tables_of l after b.outlines c.next_pid refl (enter_fits k flat after n 0 number true named top (with_proc k1.processes kp) (append k.journal e) enters c.spaces)))))))
+  where
+    a : Borrowing k flat pid q m s
+    a = borrowing k flat pid q m s c f h is
+
+    g : Stepping k flat pid q s
+    g = a.step
+
+    k1 : Kernel
+    k1 = record k { processes = map (passes s.sid pid m.pid) k.processes }
+
+    n : ℕ
+    n = flat.next_sid
+
+    z : Space
+    z = space_with n number named.image top
+
+    kp : Proc
+    kp = record g.proc { regs = regs; life = HoldsSpace n }
+
+    fp : Process
+    fp = record q { regs = regs; holding = Holds z }
+
+    mp : Process
+    mp = record m { holding = Holds s }
+
+    b : Back k flat pid q m fp kp s
+    b = back k flat pid q m fp kp s nums c is a refl refl refl (outline_is g.proc.pid q.pid g.proc.parent q.parent (HoldsSpace n) (HoldsSpace n) g.proc.asleep q.asleep pids g.parent refl g.asleep)
+      where
+        pids : g.proc.pid ≡ q.pid
+        pids = g.pid_is ∙ sym g.pid_was
+
+    r1 : List Process
+    r1 = replaced flat.processes fp
+
+    after : FlatState
+    after = record flat { processes = replaced r1 mp; next_sid = n + 1 }
+
+    l : Kernel
+    l = exec_kernel k n 0 true number (Some named) top (with_proc k1.processes kp) (append k.journal e)
+
+    pids : kp.pid ≡ fp.pid
+    pids = g.pid_is ∙ sym g.pid_was
+
+    found : numbered pid_of fp.pid flat.processes ≡ Some q
+    found = ap (λ (y : ℕ). numbered pid_of y flat.processes) g.pid_was ∙ g.found
+
+    held_here : HeldAt flat.processes fp s
+    held_here = held_at flat.processes q fp s found h nums.sids
+
+    apart : n ≢ s.sid
+    apart i = holds_there flat.processes q.pid q s found h (ap (λ (y : ℕ). numbered sid_of y (held flat.processes)) (sym i) ∙ next_sid_none flat nums)
+
+    gain : (numbered sid_of s.sid (spaces_of after) ≡ Some s) × ((y : ℕ) → y ≢ s.sid → numbered sid_of y (spaces_of after) ≡ numbered sid_of y (held r1))
+    gain = held_gain r1 m mp s b.lender_found (ap space_held is.holding) refl (held_now flat.processes fp s held_here ∙ miss sid_of s.sid z [] apart)
+
+    enters : EntersTables k flat after n 0 number true named top
+    enters = record {
+      new = next_new flat k.place nums c.spaces;
+      apart = λ i. absurd cc;
+      fits = fit;
+      whole = whole;
+      own = gain.1 n apart ∙ held_new flat.processes fp s n held_here (next_sid_none flat nums) ∙ hit sid_of n z [] refl;
+      other = λ y d _. elim (cases_eq y s.sid) [
+        | inl i ↦ ap (λ (x : ℕ). numbered sid_of x (spaces_of after)) i ∙ gain.0 ∙ sym (held_own flat.processes fp s held_here) ∙ ap (λ (x : ℕ). numbered sid_of x (spaces_of flat)) (sym i)
+        | inr j ↦ gain.1 y j ∙ held_other flat.processes fp s y held_here j (miss sid_of y z [] (λ i. d (sym i)))
+      ];
+      gone = λ i. absurd cc;
+    }
+
+-- The end of a borrower.
+pub end_back_tables : (k : Kernel) (images : List NamedImage) (flat : FlatState) (pid : ℕ) (regs : Regs) (e : Entry) (status : ℕ) (q m : Process) (s : Space) → IsNumbered flat → process_of flat pid ≡ Some q → q.holding ≡ Holds s → IsLender flat pid s.sid m → SameTables k flat
+    → SameTables (change_step images (pass_step k pid m.pid) pid regs e (End status)) (apply_change images flat pid regs (End status))
+end_back_tables k images flat pid regs e status q m s nums f h is c =
+    subst (λ (x : Kernel). SameTables (change_step images x pid regs e (End status)) (apply_change images flat pid regs (End status))) (sym (back_kernel k flat pid q m s a))
+    (subst (λ (x : Kernel). SameTables x (apply_change images flat pid regs (End status))) (sym (step_is images k1 pid regs e (End status) (record g.proc { life = New }) New (back_proc k flat pid q m s a) refl))
+    (subst (SameTables (by_life images k1 kp New e (End status))) (sym (applied images flat pid regs (End status) q s f h))
+    (subst (SameTables l) (sym (left_is (q.parent == 0) (orphaned (Rattle.flat_state.specs.Change.given_back (with_process flat fp) q.pid s) q.pid) q.pid q.parent))
+    (subst (λ (xs : List Process). SameTables l (record flat { processes = left_flat (q.parent == 0) (orphans q.pid xs) q.pid q.parent })) (sym b.returned)
+    (tables_of l after outlines c.next_pid c.next_sid (leave_fits k flat after kp.pid 0 true (left_procs (kp.parent == 0) (orphaned_procs k1.processes kp.pid) kp status) (append k.journal e) leaves c.spaces))))))
+  where
+    a : Borrowing k flat pid q m s
+    a = borrowing k flat pid q m s c f h is
+
+    g : Stepping k flat pid q s
+    g = a.step
+
+    k1 : Kernel
+    k1 = record k { processes = map (passes s.sid pid m.pid) k.processes }
+
+    kp : Proc
+    kp = record g.proc { regs = regs; life = New }
+
+    kz : Proc
+    kz = record kp { life = Ended status }
+
+    fp : Process
+    fp = record q { regs = regs; holding = Zombie status }
+
+    mp : Process
+    mp = record m { holding = Holds s }
+
+    pids : kp.pid ≡ q.pid
+    pids = g.pid_is ∙ sym g.pid_was
+
+    b : Back k flat pid q m fp kz s
+    b = back k flat pid q m fp kz s nums c is a refl refl refl (outline_is g.proc.pid q.pid g.proc.parent q.parent (Ended status) (Ended status) g.proc.asleep q.asleep pids g.parent refl g.asleep)
+
+    r1 : List Process
+    r1 = replaced flat.processes fp
+
+    rs : List Process
+    rs = replaced r1 mp
+
+    after : FlatState
+    after = record flat { processes = left_flat (q.parent == 0) (orphans q.pid rs) q.pid q.parent }
+
+    l : Kernel
+    l = end_kernel k kp.pid 0 true (left_procs (kp.parent == 0) (orphaned_procs k1.processes kp.pid) kp status) (append k.journal e)
+
+    found : numbered pid_of fp.pid flat.processes ≡ Some q
+    found = ap (λ (y : ℕ). numbered pid_of y flat.processes) g.pid_was ∙ g.found
+
+    own_flat : numbered pid_of q.pid rs ≡ Some fp
+    own_flat = replaced_not r1 mp q.pid (λ i. a.apart (sym i)) ∙ replaced_at flat.processes q fp found
+
+    own_kept : numbered kept_pid kp.pid k1.processes ≡ Some (record g.proc { life = New })
+    own_kept = ap (λ (y : ℕ). numbered kept_pid y k1.processes) g.pid_is ∙ back_proc k flat pid q m s a
+
+    passed_pids : (ks : List Proc) → map kept_pid (map (passes s.sid pid m.pid) ks) ≡ map kept_pid ks
+    passed_pids [] = refl
+    passed_pids (x ∷ ks) = ap (λ (y : List ℕ). x.pid ∷ y) (passed_pids ks)
+
+    distinct_kept : AllDistinct (map kept_pid k1.processes)
+    distinct_kept = subst AllDistinct (sym (passed_pids k.processes ∙ pids_same k.processes flat.processes c.processes)) nums.pids
+
+    lonely_kept : kp.parent ≢ kp.pid
+    lonely_kept i = not_own_parent flat pid q nums f (sym g.parent ∙ i ∙ g.pid_is)
+
+    outlines : map outline_kept l.processes ≡ map outline_of after.processes
+    outlines = ended_outlines k1.processes rs kp (record g.proc { life = New }) status distinct_kept own_kept lonely_kept lonely_kept b.outlines
+        ∙ ap (λ (y : ℕ). map outline_of (left_flat (kp.parent == 0) (orphans y rs) y kp.parent)) pids ∙ ap (λ (y : ℕ). map outline_of (left_flat (y == 0) (orphans q.pid rs) q.pid y)) g.parent
+
+    spaces : spaces_of after ≡ held rs
+    spaces = end_held (q.parent == 0) rs fp q.pid q.parent b.distinct_both own_flat refl
+
+    held_here : HeldAt flat.processes fp s
+    held_here = held_at flat.processes q fp s found h nums.sids
+
+    gain : (numbered sid_of s.sid (held rs) ≡ Some s) × ((y : ℕ) → y ≢ s.sid → numbered sid_of y (held rs) ≡ numbered sid_of y (held r1))
+    gain = held_gain r1 m mp s b.lender_found (ap space_held is.holding) refl (held_now flat.processes fp s held_here)
+
+    leaves : LeavesTables flat after 0 true
+    leaves = record {
+      other = λ y _. ap (numbered sid_of y) spaces ∙ elim (cases_eq y s.sid) [
+        | inl i ↦ ap (λ (x : ℕ). numbered sid_of x (held rs)) i ∙ gain.0 ∙ sym (held_own flat.processes fp s held_here) ∙ ap (λ (x : ℕ). numbered sid_of x (spaces_of flat)) (sym i)
+        | inr j ↦ gain.1 y j ∙ held_other flat.processes fp s y held_here j refl
+      ];
+      gone = λ i. absurd cc;
+    }
+
+-- One process gives way to another with the same holding.
+stay_tables : (k : Kernel) (flat : FlatState) (q fp : Process) (kp : Proc) (journal : List Entry) → AllDistinct (map pid_of flat.processes) → numbered pid_of fp.pid flat.processes ≡ Some q → fp.holding ≡ q.holding → outline_kept kp ≡ outline_of fp → SameTables k flat
+    → SameTables (record k { processes = with_proc k.processes kp; journal = journal }) (with_process flat fp)
+stay_tables k flat q fp kp journal d f h o t = tables_of (record k { processes = with_proc k.processes kp; journal = journal }) (with_process flat fp) (with_replaced k.processes flat.processes kp fp t.processes d o) t.next_pid t.next_sid
+    (λ sid. subst (λ (xs : List Space). Fits (numbered sid_of sid xs) (numbered space_number sid k.place.spaces)) (sym (same_held flat.processes q fp f h)) (all_fit k flat t sid))
+
+-- An entry that changes nothing else.
+pub keep_tables : (k : Kernel) (images : List NamedImage) (flat : FlatState) (pid : ℕ) (regs : Regs) (e : Entry) (q : Process) (s : Space) → IsNumbered flat → process_of flat pid ≡ Some q → q.holding ≡ Holds s → SameTables k flat → SameTables (change_step images k pid regs e Keep) (apply_change images flat pid regs Keep)
+keep_tables k images flat pid regs e q s nums f h c =
+    let g : Stepping k flat pid q s = stepping k flat pid q s c f h in
+    subst (λ (x : Kernel). SameTables x (apply_change images flat pid regs Keep)) (sym (step_is images k pid regs e Keep g.proc (HoldsSpace s.sid) g.kept g.life))
+    (subst (SameTables (by_life images k (record g.proc { regs = regs }) (HoldsSpace s.sid) e Keep)) (sym (applied images flat pid regs Keep q s f h))
+    (stay_tables k flat q (record q { regs = regs }) (record g.proc { regs = regs }) (append k.journal e) nums.pids (ap (λ (n : ℕ). numbered pid_of n flat.processes) g.pid_was ∙ g.found) refl
+    (outline_is g.proc.pid q.pid g.proc.parent q.parent g.proc.life (life_of q.holding) g.proc.asleep q.asleep (g.pid_is ∙ sym g.pid_was) g.parent (g.life ∙ sym (ap life_of h)) g.asleep) c))
+
+-- A process falls asleep.
+pub sleep_tables : (k : Kernel) (images : List NamedImage) (flat : FlatState) (pid : ℕ) (regs : Regs) (e : Entry) (q : Process) (s : Space) → IsNumbered flat → process_of flat pid ≡ Some q → q.holding ≡ Holds s → SameTables k flat → SameTables (change_step images k pid regs e Sleep) (apply_change images flat pid regs Sleep)
+sleep_tables k images flat pid regs e q s nums f h c =
+    let g : Stepping k flat pid q s = stepping k flat pid q s c f h in
+    subst (λ (x : Kernel). SameTables x (apply_change images flat pid regs Sleep)) (sym (step_is images k pid regs e Sleep g.proc (HoldsSpace s.sid) g.kept g.life))
+    (subst (SameTables (by_life images k (record g.proc { regs = regs }) (HoldsSpace s.sid) e Sleep)) (sym (applied images flat pid regs Sleep q s f h))
+    (stay_tables k flat q (record q { regs = regs; asleep = true }) (record g.proc { regs = regs; asleep = true }) (append k.journal e) nums.pids (ap (λ (n : ℕ). numbered pid_of n flat.processes) g.pid_was ∙ g.found) refl
+    (outline_is g.proc.pid q.pid g.proc.parent q.parent g.proc.life (life_of q.holding) true true (g.pid_is ∙ sym g.pid_was) g.parent (g.life ∙ sym (ap life_of h)) refl) c))
+
+-- A zombie child goes.
+pub reap_tables : (k : Kernel) (images : List NamedImage) (flat : FlatState) (pid : ℕ) (regs : Regs) (e : Entry) (child status : ℕ) (q z : Process) (s : Space) → IsNumbered flat → process_of flat pid ≡ Some q → q.holding ≡ Holds s → process_of flat child ≡ Some z → z.holding ≡ Zombie status → SameTables k flat
+    → SameTables (change_step images k pid regs e (Reap child)) (apply_change images flat pid regs (Reap child))
+reap_tables k images flat pid regs e child status q z s nums f h fz hz c =
+    let g : Stepping k flat pid q s = stepping k flat pid q s c f h in
+    let at : numbered pid_of child flat.processes ≡ Some z = sym (found_is flat.processes child) ∙ fz in
+    let other : pid ≢ child = λ i. holder (some_is q z (sym g.found ∙ ap (λ (n : ℕ). numbered pid_of n flat.processes) i ∙ at)) in
+    subst (λ (x : Kernel). SameTables x (apply_change images flat pid regs (Reap child))) (sym (step_is images k pid regs e (Reap child) g.proc (HoldsSpace s.sid) g.kept g.life))
+    (subst (SameTables (by_life images k (record g.proc { regs = regs }) (HoldsSpace s.sid) e (Reap child))) (sym (applied images flat pid regs (Reap child) q s f h))
+    (stay_tables (record k { processes = without_proc k.processes child }) (without_process flat child) q (record q { regs = regs }) (record g.proc { regs = regs }) (append k.journal e)
+    (distinct_filter pid_of (λ (x : Process). not (x.pid == child)) flat.processes nums.pids)
+    (removed_not pid_of q.pid child flat.processes (λ i. other (sym g.pid_was ∙ i)) ∙ ap (λ (n : ℕ). numbered pid_of n flat.processes) g.pid_was ∙ g.found) refl
+    (outline_is g.proc.pid q.pid g.proc.parent q.parent g.proc.life (life_of q.holding) g.proc.asleep q.asleep (g.pid_is ∙ sym g.pid_was) g.parent (g.life ∙ sym (ap life_of h)) g.asleep)
+    (gone_tables at)))
+  where
+    holder : q ≡ z → ⊥
+    holder i = let j : Holds s ≡ Zombie status = sym h ∙ ap (λ (x : Process). x.holding) i ∙ hz in cc
+
+    gone_tables : numbered pid_of child flat.processes ≡ Some z → SameTables (record k { processes = without_proc k.processes child }) (without_process flat child)
+    gone_tables at = tables_of (record k { processes = without_proc k.processes child }) (without_process flat child) (removed_outlines k.processes flat.processes child c.processes) c.next_pid c.next_sid
+        (λ sid. subst (λ (xs : List Space). Fits (numbered sid_of sid xs) (numbered space_number sid k.place.spaces)) (sym spaces) (all_fit k flat c sid))
+      where
+        off : (b : Bool) → not b ≡ false → b ≡ true
+        off true e = refl
+        off false e = absurd cc
+
+        spaces : held (filter (λ (x : Process). not (x.pid == child)) flat.processes) ≡ held flat.processes
+        spaces = held_filter (λ (x : Process). not (x.pid == child)) flat.processes nums.pids
+            (λ x e n. let i : x.pid ≡ child = eq_is x.pid child (off (x.pid == child) n) in
+            ap (λ (y : Process). space_held y.holding) (some_is x z (sym e ∙ ap (λ (m : ℕ). numbered pid_of m flat.processes) i ∙ at)) ∙ ap space_held hz)

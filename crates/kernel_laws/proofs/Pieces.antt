@@ -1,0 +1,5 @@
+pub mod GivenBack
+pub mod Sizes
+pub mod Found
+pub mod Wanted
+pub mod Starts

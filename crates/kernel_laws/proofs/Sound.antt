@@ -1,0 +1,4 @@
+pub mod Steps
+pub mod Changes
+pub mod NumbersApart
+pub mod Allowed

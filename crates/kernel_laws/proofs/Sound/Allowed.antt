@@ -1,0 +1,236 @@
+-- What a change asks is so where numbers differ, and the space is there and settled.
+use Rattle.std.proofs.Common.{◌≡◌, ◌≢◌, ℕ, suc, ◌+◌, ◌<◌, ◌≤◌, ◌==◌, Bool, true, false, not, ◌&&◌, cond, List, [], ◌∷◌, ◌++◌, length, map, Option, Some, None, Ok, refl, sym, ap, ◌∙◌, subst, arith}
+use Rattle.std.proofs.lemmas.Bool.Decides.{nat_tests}
+use Rattle.vm_facts.specs.declared.page.Page.TheVariants.{Text}
+use Rattle.vm_facts.specs.declared.regs.Regs.{Regs}
+use Rattle.vm_facts.specs.declared.entry.Entry.{Entry}
+use Rattle.aout_image.specs.declared.Image.{Image}
+use Rattle.swap_book.specs.Holdings.{Holdings}
+use Rattle.swap_book.specs.Placing.{place_all}
+use Rattle.flat_state.specs.declared.change.Change.{Change}
+use Rattle.flat_state.specs.declared.change.Change.TheVariants.{Keep, Resize, Fork, Lend, Exec, Reap, Sleep, End}
+use Rattle.flat_state.specs.Flat.{NamedImage, image_numbered}
+use Rattle.page_model.specs.Pages.{SpacePages, numbered}
+use Rattle.page_model.specs.Frames.{times}
+use Rattle.page_model.specs.Placement.{Placement, Starting, space_number, spaces_from, state_of, sharers, sharers_in, image_of, image_in, parts_of, new_pages, start_placement}
+use Rattle.page_model.specs.Place.{enter_space, enter_image}
+use Rattle.page_model.specs.Conditions.{AtRest, IsNew, CanChange, HasImage, CanForget, MayForget}
+use Rattle.page_model.specs.Ownership.{OwnsFrames, OneOwner}
+use Rattle.page_model.specs.Swapper.{is_of_space, is_of_text, names_page, is_settled}
+use Rattle.kernel_model.specs.Kernel.{Kernel, Proc}
+use Rattle.kernel_model.specs.Sound.{Sound, lives}
+use Rattle.kernel_model.specs.ChangeStep.{space_of_life, life_of_proc, gave_back, change_step}
+use Rattle.kernel_model.specs.Taken.{MayChange}
+use Rattle.kernel_model.specs.Asks.{HasSpace, IsUnused, OneEach, MayAsk, asked, WantsThese}
+use Rattle.kernel_model.specs.Numbers.{EachBelow, AllDiffer, Numbered, TakesNext, ReadySpace, ReadyFor}
+use Rattle.page_laws.proofs.Lists.Runs.{and_both}
+use Rattle.page_laws.proofs.Ownership.Changes.{added_other}
+use Rattle.page_laws.proofs.Blocks.Changes.{rest_of}
+use Rattle.page_laws.proofs.Bytes.Others.{unnamed_rests, settled_rests}
+use Rattle.kernel_laws.proofs.Sound.NumbersApart.{Fine, enter_fine, fine_spaces}
+use Rattle.kernel_laws.proofs.Pieces.Found.{found_sound}
+use Rattle.kernel_laws.proofs.Pieces.Wanted.{asked_for}
+
+equal : (a b : ℕ) → (a == b) ≡ true → a ≡ b
+equal a b e = grind (arith, nat_tests)
+
+differs : (a b : ℕ) → a ≢ b → (a == b) ≡ false
+differs a b n = grind (arith, nat_tests)
+
+same_is : (a b : ℕ) → a ≡ b → (a == b) ≡ true
+same_is a b e = grind (arith, nat_tests)
+
+-- Numbers that nobody has.
+
+below_none : {A : Type 0} (number : A → ℕ) (n : ℕ) (xs : List A) → EachBelow n (map number xs) → numbered number n xs ≡ None
+below_none number n [] b = refl
+below_none {A} number n (x ∷ xs) b = ap (λ (c : Bool). cond c (Some x) (numbered number n xs)) (differs (number x) n (λ e. absurd (let l = b.0 in omega arith))) ∙ below_none number n xs b.1
+
+-- how often a number stands in a list with one more
+head_times : (b : Bool) (n : ℕ) → cond b 1 0 + n ≡ 0 → (b ≡ false) × (n ≡ 0)
+head_times true n e = absurd (omega arith)
+head_times false n e = (refl, omega arith)
+
+absent_none : {A : Type 0} (number : A → ℕ) (n : ℕ) (xs : List A) → times n (map number xs) ≡ 0 → numbered number n xs ≡ None
+absent_none number n [] e = refl
+absent_none {A} number n (x ∷ xs) e =
+    let h = head_times (number x == n) (times n (map number xs)) e in
+    ap (λ (c : Bool). cond c (Some x) (numbered number n xs)) h.0 ∙ absent_none number n xs h.1
+
+one_each : (ps : List Proc) → AllDiffer (map (λ (p : Proc). p.pid) ps) → OneEach ps
+one_each [] d = tt
+one_each (p ∷ ps) d = (absent_none (λ (q : Proc). q.pid) p.pid ps d.0, one_each ps d.1)
+
+-- The image of a space.
+
+absent_image : (sid image : ℕ) (ss : List SpacePages) → times sid (map space_number ss) ≡ 0 → HasImage sid image ss
+absent_image sid image [] e = tt
+absent_image sid image (s ∷ ss) e =
+    let h = head_times (space_number s == sid) (times sid (map space_number ss)) e in
+    ((λ k. absurd (let z : true ≡ false = sym (same_is s.sid sid k) ∙ h.0 in cc)), absent_image sid image ss h.1)
+
+has_image : (sid : ℕ) (ss : List SpacePages) → AllDiffer (map space_number ss) → HasImage sid (image_in (numbered space_number sid ss)) ss
+has_image sid [] d = tt
+has_image sid (s ∷ ss) d = go (s.sid == sid) refl (has_image sid ss d.1)
+  where
+    go : (b : Bool) → (s.sid == sid) ≡ b → HasImage sid (image_in (numbered space_number sid ss)) ss → HasImage sid (image_in (cond b (Some s) (numbered space_number sid ss))) (s ∷ ss)
+    go true e ih = ((λ k. refl), absent_image sid s.image ss (subst (λ (n : ℕ). times n (map space_number ss) ≡ 0) (equal s.sid sid e) d.0))
+    go false e ih = ((λ k. absurd (let z : true ≡ false = sym (same_is s.sid sid k) ∙ e in cc)), ih)
+
+-- The sharers that are left.
+
+absent_rest : (sid j : ℕ) (ss : List SpacePages) → times sid (map space_number ss) ≡ 0 → sharers_in j (rest_of sid ss) ≡ sharers_in j ss
+absent_rest sid j [] e = refl
+absent_rest sid j (s ∷ ss) e =
+    let h = head_times (space_number s == sid) (times sid (map space_number ss)) e in
+    ap (λ (b : Bool). sharers_in j (cond (not b) (s ∷ rest_of sid ss) (rest_of sid ss))) h.0 ∙ ap (λ (n : ℕ). cond (s.image == j) 1 0 + n) (absent_rest sid j ss h.1)
+
+-- a space that is there is one sharer of its image
+one_more : (sid : ℕ) (ss : List SpacePages) → AllDiffer (map space_number ss) → numbered space_number sid ss ≢ None
+    → sharers_in (image_in (numbered space_number sid ss)) ss ≡ 1 + sharers_in (image_in (numbered space_number sid ss)) (rest_of sid ss)
+one_more sid [] d n = absurd (n refl)
+one_more sid (s ∷ ss) d n = go (s.sid == sid) refl n (one_more sid ss d.1)
+  where
+    first : (b : Bool) (n m : ℕ) → b ≡ true → m ≡ n → cond b 1 0 + n ≡ 1 + m
+    first true n m e h = omega arith
+    first false n m e h = absurd cc
+
+    later : (b : Bool) (n m : ℕ) → n ≡ 1 + m → cond b 1 0 + n ≡ 1 + (cond b 1 0 + m)
+    later true n m e = omega arith
+    later false n m e = omega arith
+
+    go : (b : Bool) → (s.sid == sid) ≡ b → (cond b (Some s) (numbered space_number sid ss) ≢ None)
+        → ((numbered space_number sid ss ≢ None) → sharers_in (image_in (numbered space_number sid ss)) ss ≡ 1 + sharers_in (image_in (numbered space_number sid ss)) (rest_of sid ss))
+        → sharers_in (image_in (cond b (Some s) (numbered space_number sid ss))) (s ∷ ss) ≡ 1 + sharers_in (image_in (cond b (Some s) (numbered space_number sid ss))) (cond (not b) (s ∷ rest_of sid ss) (rest_of sid ss))
+    go true e k ih = first (s.image == s.image) (sharers_in s.image ss) (sharers_in s.image (rest_of sid ss)) (same_is s.image s.image refl)
+        (absent_rest sid s.image ss (subst (λ (n : ℕ). times n (map space_number ss) ≡ 0) (equal s.sid sid e) d.0))
+    go false e k ih = later (s.image == image_in (numbered space_number sid ss)) (sharers_in (image_in (numbered space_number sid ss)) ss) (sharers_in (image_in (numbered space_number sid ss)) (rest_of sid ss)) (ih k)
+
+-- a settled space has its text at rest where it is the last sharer
+settled_text : (p : Placement) (sid : ℕ) → OwnsFrames p → AllDiffer (map space_number p.spaces) → HasSpace p sid → is_settled p sid ≡ true → sharers_in (image_of p sid) (rest_of sid p.spaces) ≡ 0 → (v : ℕ) → AtRest (state_of p (Text (image_of p sid) v))
+settled_text p sid o d h e z v = unnamed_rests p (is_of_text (image_of p sid)) (Text (image_of p sid) v) o (same_is (image_of p sid) (image_of p sid) refl) unnamed
+  where
+    last : sharers p (image_of p sid) ≡ 1
+    last = one_more sid p.spaces d h ∙ (let k : 1 + sharers_in (image_of p sid) (rest_of sid p.spaces) ≡ 1 = omega arith in k)
+
+    second : (b c : Bool) → b ≡ true → not (b && c) ≡ true → c ≡ false
+    second true true x y = absurd cc
+    second true false x y = refl
+    second false c x y = absurd cc
+
+    unnamed : names_page (is_of_text (image_of p sid)) (parts_of p.transfers) ≡ false
+    unnamed = second (sharers p (image_of p sid) == 1) (names_page (is_of_text (image_of p sid)) (parts_of p.transfers)) (same_is (sharers p (image_of p sid)) 1 last)
+        (and_both (not (names_page (is_of_space sid) (parts_of p.transfers))) (not ((sharers p (image_of p sid) == 1) && names_page (is_of_text (image_of p sid)) (parts_of p.transfers))) e).1
+
+forgets : (p : Placement) (sid : ℕ) → OwnsFrames p → AllDiffer (map space_number p.spaces) → HasSpace p sid → is_settled p sid ≡ true → CanForget p sid
+forgets p sid o d h e = record { image = has_image sid p.spaces d; text_rests = settled_text p sid o d h e }
+
+rest_more : (sid j : ℕ) (ss rs : List SpacePages) → sharers_in j (rest_of sid ss) ≤ sharers_in j (rest_of sid (ss ++ rs))
+rest_more sid j [] rs = omega arith
+rest_more sid j (s ∷ ss) rs = go (s.sid == sid) (rest_more sid j ss rs)
+  where
+    go : (b : Bool) → sharers_in j (rest_of sid ss) ≤ sharers_in j (rest_of sid (ss ++ rs)) → sharers_in j (cond (not b) (s ∷ rest_of sid ss) (rest_of sid ss)) ≤ sharers_in j (cond (not b) (s ∷ rest_of sid (ss ++ rs)) (rest_of sid (ss ++ rs)))
+    go true l = l
+    go false l = omega arith
+
+-- and so once a new space is there
+exec_forgets : (p : Placement) (next image sid : ℕ) (named : Option NamedImage) → OwnsFrames p → AllDiffer (map space_number p.spaces) → AllDiffer (map space_number (enter_image p next image named).spaces) → HasSpace p sid → next ≢ sid → is_settled p sid ≡ true → CanForget (enter_image p next image named) sid
+exec_forgets p next image sid None o d f h n e = forgets p sid o d h e
+exec_forgets p next image sid (Some named) o d f h n e = record {
+  image = has_image sid q.spaces f;
+  text_rests = λ z v. subst (λ (i : ℕ). AtRest (state_of p (Text i v))) (sym same) (settled_text p sid o d h e (none (subst (λ (i : ℕ). sharers_in i (rest_of sid q.spaces) ≡ 0) same z)) v);
+}
+  where
+    x : SpacePages
+    x = new_pages next image named.image.facts
+
+    q : Placement
+    q = enter_space p next image named.image.facts
+
+    same : image_of q sid ≡ image_of p sid
+    same = ap image_in (added_other sid p.spaces x n)
+
+    none : sharers_in (image_of p sid) (rest_of sid q.spaces) ≡ 0 → sharers_in (image_of p sid) (rest_of sid p.spaces) ≡ 0
+    none z = let l = rest_more sid (image_of p sid) p.spaces (x ∷ []) in omega arith
+
+-- What is asked.
+
+new_number : (k : Kernel) → Numbered k → IsNew k.place k.next_sid
+new_number k n = below_none space_number k.next_sid k.place.spaces n.spaces_below
+
+next_apart : (k : Kernel) (sid : ℕ) → Numbered k → HasSpace k.place sid → k.next_sid ≢ sid
+next_apart k sid n h e = h (subst (IsNew k.place) e (new_number k n))
+
+can_by : (k : Kernel) (sid : ℕ) (borrowed : Bool) (change : Change) → OwnsFrames k.place → Numbered k → ReadySpace k.place sid borrowed change → CanChange k.place sid borrowed k.next_sid change
+can_by k sid borrowed Keep o n r = tt
+can_by k sid borrowed (Resize d s) o n r = λ l. settled_rests k.place sid o (r.1 l)
+can_by k sid borrowed (Fork child) o n r = new_number k n
+can_by k sid borrowed (Lend child) o n r = tt
+can_by k sid borrowed (Exec image top) o n r = (new_number k n, λ e. settled_rests k.place sid o (r e).1)
+can_by k sid borrowed (Reap child) o n r = tt
+can_by k sid borrowed Sleep o n r = tt
+can_by k sid borrowed (End status) o n r = λ e. settled_rests k.place sid o (r e).1
+
+forget_by : (images : List NamedImage) (k : Kernel) (sid : ℕ) (borrowed : Bool) (change : Change) → OwnsFrames k.place → Numbered k → ReadySpace k.place sid borrowed change → MayForget images k.place sid borrowed k.next_sid change
+forget_by images k sid borrowed Keep o n r = tt
+forget_by images k sid borrowed (Resize d s) o n r = tt
+forget_by images k sid borrowed (Fork child) o n r = tt
+forget_by images k sid borrowed (Lend child) o n r = tt
+forget_by images k sid borrowed (Exec image top) o n r = λ e.
+    let f : Fine (k.next_sid + 1) (map space_number (enter_image k.place k.next_sid image (image_numbered images image)).spaces) = enter_fine k.next_sid k.place image (image_numbered images image) (fine_spaces k n) in
+    exec_forgets k.place k.next_sid image sid (image_numbered images image) o n.spaces_differ f.differ (r e).0 (next_apart k sid n (r e).0) (r e).1
+forget_by images k sid borrowed (Reap child) o n r = tt
+forget_by images k sid borrowed Sleep o n r = tt
+forget_by images k sid borrowed (End status) o n r = λ e. forgets k.place sid o n.spaces_differ (r e).0 (r e).1
+
+unused : (k : Kernel) (child : ℕ) → Numbered k → child ≡ k.next_pid → IsUnused k.processes child
+unused k child n e = subst (IsUnused k.processes) (sym e) (below_none (λ (p : Proc). p.pid) k.next_pid k.processes n.pids_below)
+
+ask_by : (k : Kernel) (sid : ℕ) (borrowed : Bool) (change : Change) → Numbered k → TakesNext k change → ReadySpace k.place sid borrowed change → MayAsk k.place k.processes sid borrowed k.next_sid change
+ask_by k sid borrowed Keep n t r = tt
+ask_by k sid borrowed (Resize d s) n t r = r.0
+ask_by k sid borrowed (Fork child) n t r = (r, unused k child n t)
+ask_by k sid borrowed (Lend child) n t r = unused k child n t
+ask_by k sid borrowed (Exec image top) n t r = λ e. next_apart k sid n (r e).0
+ask_by k sid borrowed (Reap child) n t r = tt
+ask_by k sid borrowed Sleep n t r = tt
+ask_by k sid borrowed (End status) n t r = one_each k.processes n.pids_differ
+
+pub may_change : (images : List NamedImage) (k : Kernel) (pid : ℕ) (change : Change) → OwnsFrames k.place → Numbered k → ReadyFor k pid change → MayChange images k pid change
+may_change images k pid change o n r =
+    let life = life_of_proc (numbered (λ (p : Proc). p.pid) pid k.processes) in
+    record { can = can_by k (space_of_life life) (gave_back life) change o n r.space; forgets = forget_by images k (space_of_life life) (gave_back life) change o n r.space; reaps = r.reaps }
+
+pub wants_these : (k : Kernel) (pid : ℕ) (change : Change) → Numbered k → ReadyFor k pid change → WantsThese k pid change
+wants_these k pid change n r =
+    let life = life_of_proc (numbered (λ (p : Proc). p.pid) pid k.processes) in
+    record { alive = r.alive; may = ask_by k (space_of_life life) (gave_back life) change n r.next r.space }
+
+-- A sound machine, a process that is ready, and pieces that were found: the machine is sound behind the change.
+pub ready_sound : (size : ℕ) (images : List NamedImage) (k : Kernel) (before : Holdings) (pid : ℕ) (regs : Regs) (e : Entry) (change : Change)
+    → Sound size (record k { holdings = before }) → Numbered k → ReadyFor k pid change → place_all size before (asked images k pid change) ≡ Ok k.holdings → Sound size (change_step images k pid regs e change)
+ready_sound size images k before pid regs e change s n r f =
+    let o : OneOwner size (lives k.processes) k.place before = s.owner in
+    let m = may_change images k pid change o.frames n r in
+    found_sound size images k before (asked images k pid change) pid regs e change s f (asked_for images k pid regs e change m (wants_these k pid change n r)) m
+
+-- The start.
+
+times_before : (m n : ℕ) (first : List Starting) → m < n → times m (map space_number (spaces_from n first)) ≡ 0
+times_before m n [] l = refl
+times_before m n (a ∷ more) l = ap (λ (b : Bool). cond b 1 0 + times m (map space_number (spaces_from (n + 1) more))) (differs n m (λ e. absurd (omega arith)))
+    ∙ (let h = times_before m (n + 1) more (omega arith) in let k : 0 + times m (map space_number (spaces_from (n + 1) more)) ≡ 0 = omega arith in k)
+
+first_differ : (n : ℕ) (first : List Starting) → AllDiffer (map space_number (spaces_from n first))
+first_differ n [] = tt
+first_differ n (a ∷ more) = (times_before n (n + 1) more (omega arith), first_differ (n + 1) more)
+
+first_below : (n : ℕ) (first : List Starting) → EachBelow (n + length first) (map space_number (spaces_from n first))
+first_below n [] = tt
+first_below n (a ∷ more) = (
+  omega arith,
+  subst (λ (k : ℕ). EachBelow k (map space_number (spaces_from (n + 1) more))) (let e : (n + 1) + length more ≡ n + suc (length more) = omega arith in e) (first_below (n + 1) more),
+)
+
+pub start_numbers : (images : List Image) (first : List Starting) (frames : ℕ) → AllDiffer (map space_number (start_placement images first frames).spaces) × EachBelow (1 + length first) (map space_number (start_placement images first frames).spaces)
+start_numbers images first frames = (first_differ 1 first, first_below 1 first)

@@ -1,0 +1,465 @@
+-- The numbers of spaces and processes stay apart, and below those to come.
+use Rattle.std.proofs.Common.{◌≡◌, ◌≢◌, ◌⊎◌, inl, inr, ℕ, zero, suc, ◌+◌, ◌<◌, ◌≤◌, ◌==◌, Bool, true, false, not, ◌&&◌, cond, List, [], ◌∷◌, ◌++◌, map, filter, Option, Some, None, refl, sym, ap, ◌∙◌, subst, arith}
+use Rattle.std.proofs.lemmas.Bool.Decides.{nat_tests}
+use Rattle.std.proofs.lemmas.List.{map-append}
+use Rattle.vm_facts.specs.declared.page.Page.{Page}
+use Rattle.vm_facts.specs.declared.page.Page.TheVariants.{Data, Stack, Text}
+use Rattle.vm_facts.specs.declared.page.PageState.{PageState}
+use Rattle.vm_facts.specs.declared.page.PageState.TheVariants.{Unfilled, Valid, Invalid, Coming, Going, OnSwap}
+use Rattle.vm_facts.specs.declared.regs.Regs.{Regs}
+use Rattle.vm_facts.specs.declared.entry.Entry.{Entry}
+use Rattle.vm_facts.specs.declared.entry.Entry.TheVariants as entries
+use Rattle.flat_state.specs.declared.change.Change.{Change}
+use Rattle.flat_state.specs.declared.change.Change.TheVariants.{Keep, Resize, Fork, Lend, Exec, Reap, Sleep, End}
+use Rattle.flat_state.specs.Flat.{NamedImage, image_numbered}
+use Rattle.page_model.specs.Pages.{SpacePages, changed, with_data, with_stack, frame_of}
+use Rattle.flat_state.specs.PageNames.{is_among, same_page, pages_from, number_of}
+use Rattle.page_model.specs.Frames.{times}
+use Rattle.page_model.specs.Placement.{Placement, Transfer, Part, Errand, Writes, Reads, Source, Due, space_number, state_of, mark_of, is_dirty, page_of, put, spaces_with, sharers, image_of, new_pages}
+use Rattle.page_model.specs.Moves.{evict, evict_at, fill, fill_at, begin, get_one, get_at, get_all, get_run, launch, launch_to, launch_all, launch_run, land, land_read, land_all, done, done_of, reclaim, reclaim_to, retire, retire_to, touch, touch_to, drop_at, drop_page, drop_all, leave_by, leave_page, leave_all, listed}
+use Rattle.page_model.specs.Runs.{run_out, pages_of_run}
+use Rattle.page_model.specs.Hands.{expire, expire_of, expire_if, expire_to, sweep, sweep_of, sweep_to, sweep_by, hand_move, hand_moves}
+use Rattle.page_model.specs.Place.{filled, put_by, put_step, place_entry, sized, data_count, stack_count, data_from, stack_from, cut_space, resize, fork_space, enter_space, enter_image, remove_space, pages_of_space, pages_of_text, leave_text, leave_text_by, give_up, give_up_unless, place_change}
+use Rattle.page_model.specs.Serve.{read_errand}
+use Rattle.flat_state.specs.Journal.{append}
+use Rattle.kernel_model.specs.Kernel.{New, HoldsSpace, Ended, Kernel, Proc, with_regs, plain_step, zero_step, copy_step, done_step, write_step, note_step, in_step}
+use Rattle.kernel_model.specs.ChangeStep.{with_proc, without_proc, child_proc, is_ended, orphaned_procs, woken_procs, left_procs, procs_after, space_of_life, gave_back, change_by, change_if, change_step, ran_by, pass_step, passed_life, life_of_proc}
+use Rattle.kernel_model.specs.Numbers.{EachBelow, AllDiffer, Numbered, TakesNext}
+use Rattle.page_laws.proofs.Ownership.Changes.{dropped_pages}
+use Rattle.kernel_laws.proofs.Sound.Changes.{find, with_number}
+
+-- The numbers of spaces stay as pages move.
+
+abbrev pub SameSpaces : Placement → Placement → Type 0
+SameSpaces p q = map space_number q.spaces ≡ map space_number p.spaces
+
+changed_numbers : (n : ℕ) (change : SpacePages → SpacePages) → ((s : SpacePages) → space_number (change s) ≡ space_number s) → (ss : List SpacePages) → map space_number (changed space_number n change ss) ≡ map space_number ss
+changed_numbers n change k [] = refl
+changed_numbers n change k (s ∷ ss) = go (space_number s == n) (changed_numbers n change k ss)
+  where
+    go : (b : Bool) → map space_number (changed space_number n change ss) ≡ map space_number ss → map space_number (cond b (change s ∷ ss) (s ∷ changed space_number n change ss)) ≡ map space_number (s ∷ ss)
+    go true ih = ap (λ (m : ℕ). m ∷ map space_number ss) (k s)
+    go false ih = ap (λ (ms : List ℕ). space_number s ∷ ms) ih
+
+put_numbers : (p : Placement) (v : Page) (s : PageState) (m : Bool) → SameSpaces p (put p v s m)
+put_numbers p (Data t v) s m = changed_numbers t (with_data v s m) (λ x. refl) p.spaces
+put_numbers p (Stack t v) s m = changed_numbers t (with_stack v s m) (λ x. refl) p.spaces
+put_numbers p (Text i v) s m = refl
+
+evict_numbers : (p : Placement) (f : ℕ) → SameSpaces p (evict p f)
+evict_numbers p f = go (page_of p f)
+  where
+    go : (h : Option Page) → SameSpaces p (evict_at p f h)
+    go None = refl
+    go (Some v) = put_numbers p v (Rattle.page_model.specs.Pages.left_state v (mark_of p v)) (mark_of p v)
+
+filled_numbers : (p : Placement) (v : Page) → SameSpaces p (filled p v)
+filled_numbers p v = go p.free
+  where
+    go : (fr : List ℕ) → SameSpaces p (fill_at p v fr)
+    go [] = refl
+    go (f ∷ rest) = put_numbers (evict p f) v (Valid f) true ∙ evict_numbers p f
+
+get_numbers : (p : Placement) (e : Errand) (v : Page) → SameSpaces p (get_one p e v)
+get_numbers p e v = go p.free
+  where
+    go : (fr : List ℕ) → SameSpaces p (get_at p e v fr)
+    go [] = refl
+    go (f ∷ rest) = put_numbers (evict p f) v (Coming f) (mark_of p v) ∙ evict_numbers p f
+
+get_all_numbers : (qs : List Page) (p : Placement) (e : Errand) → SameSpaces p (get_all p e qs)
+get_all_numbers [] p e = refl
+get_all_numbers (v ∷ qs) p e = get_all_numbers qs (get_one p e v) e ∙ get_numbers p e v
+
+launch_numbers : (p : Placement) (v : Page) → SameSpaces p (launch p v)
+launch_numbers p v = go (state_of p v)
+  where
+    go : (s : PageState) → SameSpaces p (launch_to p v s)
+    go (Valid f) = put_numbers p v (Going f) (mark_of p v)
+    go (Invalid f) = put_numbers p v (Going f) (mark_of p v)
+    go Unfilled = refl
+    go (Coming f) = refl
+    go (Going f) = refl
+    go OnSwap = refl
+
+launch_all_numbers : (qs : List Page) (p : Placement) → SameSpaces p (launch_all p qs)
+launch_all_numbers [] p = refl
+launch_all_numbers (v ∷ qs) p = launch_all_numbers qs (launch p v) ∙ launch_numbers p v
+
+retire_numbers : (p : Placement) (v : Page) → SameSpaces p (retire p v)
+retire_numbers p v = go (state_of p v)
+  where
+    go : (s : PageState) → SameSpaces p (retire_to p v s)
+    go (Valid f) = put_numbers p v (Invalid f) (mark_of p v)
+    go (Invalid f) = put_numbers p v (Invalid f) (mark_of p v)
+    go Unfilled = refl
+    go (Coming f) = refl
+    go (Going f) = refl
+    go OnSwap = refl
+
+put_step_numbers : (p : Placement) (v : Page) (qs : List Page) → SameSpaces p (put_step p v qs)
+put_step_numbers p v qs = go (is_dirty p v)
+  where
+    go : (b : Bool) → SameSpaces p (put_by p v qs b)
+    go true = launch_all_numbers qs (begin p Writes)
+    go false = retire_numbers p v
+
+land_numbers : (p : Placement) (e : Errand) (x : Part) (rest : List Transfer) → SameSpaces p (land p e x rest)
+land_numbers p Writes x rest = put_numbers p x.page (Invalid x.frame) (Rattle.page_model.specs.Pages.written_mark x.page)
+land_numbers p (Reads source demanded) x rest = go (same_page x.page demanded)
+  where
+    go : (b : Bool) → SameSpaces p (land_read p source x rest b)
+    go true = put_numbers p x.page (Valid x.frame) (Rattle.page_model.specs.Moves.arrived_mark source x.page (mark_of p x.page))
+    go false = put_numbers p x.page (Invalid x.frame) (mark_of p x.page)
+
+land_all_numbers : (xs : List Part) (p : Placement) (e : Errand) (ts : List Transfer) → SameSpaces p (land_all p e xs ts)
+land_all_numbers [] p e ts = refl
+land_all_numbers (x ∷ xs) p e ts = land_all_numbers xs (land p e x (record { errand = e; parts = xs } ∷ ts)) e ts ∙ land_numbers p e x (record { errand = e; parts = xs } ∷ ts)
+
+done_numbers : (p : Placement) → SameSpaces p (done p)
+done_numbers p = go p.transfers
+  where
+    go : (ts : List Transfer) → SameSpaces p (done_of p ts)
+    go [] = refl
+    go (t ∷ ts) = land_all_numbers t.parts p t.errand ts
+
+reclaim_numbers : (p : Placement) (v : Page) → SameSpaces p (reclaim p v)
+reclaim_numbers p v = go (state_of p v)
+  where
+    go : (s : PageState) → SameSpaces p (reclaim_to p v s)
+    go (Invalid f) = put_numbers p v (Valid f) (mark_of p v)
+    go Unfilled = refl
+    go (Valid f) = refl
+    go (Coming f) = refl
+    go (Going f) = refl
+    go OnSwap = refl
+
+touch_numbers : (p : Placement) (v : Page) → SameSpaces p (touch p v)
+touch_numbers p v = go v (state_of p v)
+  where
+    go : (v : Page) (s : PageState) → SameSpaces p (touch_to p v s)
+    go (Data t n) (Valid f) = put_numbers p (Data t n) (Valid f) true
+    go (Data t n) Unfilled = refl
+    go (Data t n) (Invalid f) = refl
+    go (Data t n) (Coming f) = refl
+    go (Data t n) (Going f) = refl
+    go (Data t n) OnSwap = refl
+    go (Stack t n) (Valid f) = put_numbers p (Stack t n) (Valid f) true
+    go (Stack t n) Unfilled = refl
+    go (Stack t n) (Invalid f) = refl
+    go (Stack t n) (Coming f) = refl
+    go (Stack t n) (Going f) = refl
+    go (Stack t n) OnSwap = refl
+    go (Text i n) s = refl
+
+expire_numbers : (p : Placement) (locked : List Page) → SameSpaces p (expire p locked)
+expire_numbers p locked = go (page_of p p.front)
+  where
+    to : (v : Page) (s : PageState) → SameSpaces p (expire_to p v s)
+    to v (Valid f) = put_numbers p v (Invalid f) (mark_of p v)
+    to v Unfilled = refl
+    to v (Invalid f) = refl
+    to v (Coming f) = refl
+    to v (Going f) = refl
+    to v OnSwap = refl
+
+    at : (v : Page) (b : Bool) → SameSpaces p (expire_if p v b)
+    at v true = refl
+    at v false = to v (state_of p v)
+
+    go : (h : Option Page) → SameSpaces p (expire_of p locked h)
+    go None = refl
+    go (Some v) = at v (is_among v locked)
+
+sweep_numbers : (p : Placement) (locked : List Page) → SameSpaces p (sweep p locked)
+sweep_numbers p locked = go (page_of p p.back)
+  where
+    by : (q : Page) (d : Bool) → SameSpaces p (sweep_by p locked q d)
+    by q true = launch_all_numbers (pages_of_run q (run_out p locked q)) (begin p Writes)
+    by q false = retire_numbers p q
+
+    to : (q : Page) (s : PageState) (n : ℕ) (b : Bool) → SameSpaces p (sweep_to p locked q s n b)
+    to q (Invalid f) zero false = by q (is_dirty p q)
+    to q (Invalid f) zero true = refl
+    to q (Invalid f) (suc n) b = refl
+    to q Unfilled n b = refl
+    to q (Valid f) n b = refl
+    to q (Coming f) n b = refl
+    to q (Going f) n b = refl
+    to q OnSwap n b = refl
+
+    go : (h : Option Page) → SameSpaces p (sweep_of p locked p.back h)
+    go None = refl
+    go (Some q) = to q (state_of p q) (times p.back p.free) (is_among q locked)
+
+moves_numbers : (n : ℕ) (p : Placement) (locked : List Page) → SameSpaces p (hand_moves p locked n)
+moves_numbers zero p locked = refl
+moves_numbers (suc n) p locked = moves_numbers n (hand_move p locked) locked ∙ sweep_numbers (expire p locked) locked ∙ expire_numbers p locked
+
+pub entry_numbers : (locked : List Page) (at : ℕ) (p : Placement) (e : Entry) → SameSpaces p (place_entry locked at p e)
+entry_numbers locked at p (entries.Zero q) = filled_numbers p q
+entry_numbers locked at p (entries.Get q lo n) = get_all_numbers (pages_from q lo n) (begin p (read_errand p q)) (read_errand p q)
+entry_numbers locked at p (entries.Copy q) = filled_numbers p q
+entry_numbers locked at p (entries.Reclaim q) = reclaim_numbers p q
+entry_numbers locked at p (entries.Hands n) = moves_numbers n p locked
+entry_numbers locked at p (entries.Put q n) = put_step_numbers p q (pages_from q (number_of q) n)
+entry_numbers locked at p entries.Done = done_numbers p
+entry_numbers locked at p (entries.SwapOut pid) = refl
+entry_numbers locked at p (entries.SwapIn pid) = refl
+entry_numbers locked at p (entries.Event line) = refl
+entry_numbers locked at p (entries.Turn pid) = refl
+entry_numbers locked at p (entries.Ran pid n) = refl
+entry_numbers locked at p (entries.Out pid bytes) = refl
+entry_numbers locked at p (entries.Grew pid pages) = refl
+entry_numbers locked at p (entries.Call pid number carry r0 r1) = refl
+entry_numbers locked at p (entries.Refused pid) = refl
+entry_numbers locked at p (entries.Sleeps pid) = refl
+entry_numbers locked at p (entries.Ended pid status) = refl
+entry_numbers locked at p (entries.Owners x y m h) = refl
+
+drop_numbers : (p : Placement) (v : Page) → SameSpaces p (drop_page p v)
+drop_numbers p v = go (frame_of (state_of p v))
+  where
+    go : (h : Option ℕ) → SameSpaces p (drop_at p v h)
+    go None = put_numbers p v Unfilled false
+    go (Some f) = put_numbers p v Unfilled false
+
+drop_all_numbers : (qs : List Page) (p : Placement) → SameSpaces p (drop_all p qs)
+drop_all_numbers [] p = refl
+drop_all_numbers (v ∷ qs) p = drop_all_numbers qs (drop_page p v) ∙ drop_numbers p v
+
+leave_numbers : (p : Placement) (v : Page) → SameSpaces p (leave_page p v)
+leave_numbers p v = go (state_of p v) (listed p v)
+  where
+    go : (s : PageState) (n : ℕ) → SameSpaces p (leave_by p v s n)
+    go (Valid f) n = put_numbers p v (Invalid f) false
+    go (Invalid f) zero = put_numbers p v (Invalid f) false
+    go (Invalid f) (suc n) = put_numbers p v (Invalid f) false
+    go OnSwap n = put_numbers p v Unfilled false
+    go Unfilled n = put_numbers p v Unfilled false
+    go (Coming f) n = refl
+    go (Going f) n = refl
+
+leave_all_numbers : (qs : List Page) (p : Placement) → SameSpaces p (leave_all p qs)
+leave_all_numbers [] p = refl
+leave_all_numbers (v ∷ qs) p = leave_all_numbers qs (leave_page p v) ∙ leave_numbers p v
+
+-- Numbers that come and go.
+
+differs : (a b : ℕ) → a ≢ b → (a == b) ≡ false
+differs a b n = grind (arith, nat_tests)
+
+equal : (a b : ℕ) → (a == b) ≡ true → a ≡ b
+equal a b e = grind (arith, nat_tests)
+
+none_above : (n : ℕ) (ms : List ℕ) → EachBelow n ms → times n ms ≡ 0
+none_above n [] b = refl
+none_above n (m ∷ ms) b = ap (λ (c : Bool). cond c 1 0 + times n ms) (differs m n (λ e. absurd (let l = b.0 in omega arith))) ∙ (let h = none_above n ms b.1 in let k : 0 + times n ms ≡ 0 = omega arith in k)
+
+times_last : (m n : ℕ) (ms : List ℕ) → m ≢ n → times m (ms ++ n ∷ []) ≡ times m ms
+times_last m n [] d = ap (λ (c : Bool). cond c 1 0 + 0) (differs n m (λ e. d (sym e)))
+times_last m n (x ∷ ms) d = ap (λ (k : ℕ). cond (x == m) 1 0 + k) (times_last m n ms d)
+
+differ_last : (n : ℕ) (ms : List ℕ) → EachBelow n ms → AllDiffer ms → AllDiffer (ms ++ n ∷ [])
+differ_last n [] b d = (refl, tt)
+differ_last n (m ∷ ms) b d = (times_last m n ms (λ e. absurd (let l = b.0 in omega arith)) ∙ d.0, differ_last n ms b.1 d.1)
+
+below_more : (n : ℕ) (ms : List ℕ) → EachBelow n ms → EachBelow (n + 1) ms
+below_more n [] b = tt
+below_more n (m ∷ ms) b = ((let l = b.0 in omega arith), below_more n ms b.1)
+
+below_last : (n : ℕ) (ms : List ℕ) → EachBelow n ms → EachBelow (n + 1) (ms ++ n ∷ [])
+below_last n [] b = (omega arith, tt)
+below_last n (m ∷ ms) b = ((let l = b.0 in omega arith), below_last n ms b.1)
+
+times_filter : {A : Type 0} (number : A → ℕ) (test : A → Bool) (n : ℕ) (xs : List A) → times n (map number (filter test xs)) ≤ times n (map number xs)
+times_filter number test n [] = omega arith
+times_filter {A} number test n (x ∷ xs) = go (test x) (number x == n) (times_filter number test n xs)
+  where
+    go : (b c : Bool) → times n (map number (filter test xs)) ≤ times n (map number xs) → times n (map number (cond b (x ∷ filter test xs) (filter test xs))) ≤ times n (map number (x ∷ xs))
+    go true c l = omega arith
+    go false c l = omega arith
+
+differ_filter : {A : Type 0} (number : A → ℕ) (test : A → Bool) (xs : List A) → AllDiffer (map number xs) → AllDiffer (map number (filter test xs))
+differ_filter number test [] d = d
+differ_filter {A} number test (x ∷ xs) d = go (test x) (differ_filter number test xs d.1)
+  where
+    go : (b : Bool) → AllDiffer (map number (filter test xs)) → AllDiffer (map number (cond b (x ∷ filter test xs) (filter test xs)))
+    go true r = ((let l = times_filter number test (number x) xs in let e = d.0 in omega arith), r)
+    go false r = r
+
+below_filter : {A : Type 0} (number : A → ℕ) (test : A → Bool) (n : ℕ) (xs : List A) → EachBelow n (map number xs) → EachBelow n (map number (filter test xs))
+below_filter number test n [] b = b
+below_filter {A} number test n (x ∷ xs) b = go (test x) (below_filter number test n xs b.1)
+  where
+    go : (c : Bool) → EachBelow n (map number (filter test xs)) → EachBelow n (map number (cond c (x ∷ filter test xs) (filter test xs)))
+    go true r = (b.0, r)
+    go false r = r
+
+pub record Fine (n : ℕ) (ms : List ℕ) : Type 0 where
+  pub differ : AllDiffer ms
+  pub below : EachBelow n ms
+
+fine_as : (n : ℕ) (ms ns : List ℕ) → ns ≡ ms → Fine n ms → Fine n ns
+fine_as n ms ns e f = record { differ = subst AllDiffer (sym e) f.differ; below = subst (EachBelow n) (sym e) f.below }
+
+fine_more : (n : ℕ) (ms : List ℕ) → Fine n ms → Fine (n + 1) ms
+fine_more n ms f = record { differ = f.differ; below = below_more n ms f.below }
+
+fine_last : (n : ℕ) (ms : List ℕ) → Fine n ms → Fine (n + 1) (ms ++ n ∷ [])
+fine_last n ms f = record { differ = differ_last n ms f.below f.differ; below = below_last n ms f.below }
+
+fine_filter : {A : Type 0} (number : A → ℕ) (test : A → Bool) (n : ℕ) (xs : List A) → Fine n (map number xs) → Fine n (map number (filter test xs))
+fine_filter number test n xs f = record { differ = differ_filter number test xs f.differ; below = below_filter number test n xs f.below }
+
+-- Spaces through changes.
+
+abbrev pub FineSpaces : ℕ → Placement → Type 0
+FineSpaces n p = Fine n (map space_number p.spaces)
+
+same_fine : (n : ℕ) (p q : Placement) → SameSpaces p q → FineSpaces n p → FineSpaces n q
+same_fine n p q s f = fine_as n (map space_number p.spaces) (map space_number q.spaces) s f
+
+abbrev cut : ℕ → ℕ → SpacePages → SpacePages
+cut d s x = record x { data_pages = sized d x.data_pages; stack_pages = sized s x.stack_pages }
+
+resize_numbers : (p : Placement) (sid d s : ℕ) → SameSpaces p (resize p sid d s)
+resize_numbers p sid d s = changed_numbers sid (cut d s) (λ x. refl) (drop_all p (dropped_pages p sid d s)).spaces ∙ drop_all_numbers (dropped_pages p sid d s) p
+
+text_numbers : (p : Placement) (image : ℕ) → SameSpaces p (leave_text p image)
+text_numbers p image = go (sharers p image)
+  where
+    go : (n : ℕ) → SameSpaces p (leave_text_by p image n)
+    go zero = leave_all_numbers (pages_of_text p image) p
+    go (suc n) = refl
+
+give_up_fine : (n : ℕ) (p : Placement) (sid : ℕ) → FineSpaces n p → FineSpaces n (give_up p sid)
+give_up_fine n p sid f =
+    let d : Placement = drop_all p (pages_of_space p sid) in
+    same_fine n (remove_space d sid) (give_up p sid) (text_numbers (remove_space d sid) (image_of p sid))
+    (fine_filter space_number (λ (s : SpacePages). not (s.sid == sid)) n d.spaces (same_fine n p d (drop_all_numbers (pages_of_space p sid) p) f))
+
+unless_fine : (borrowed : Bool) (n : ℕ) (p : Placement) (sid : ℕ) → FineSpaces n p → FineSpaces n (give_up_unless borrowed p sid)
+unless_fine true n p sid f = f
+unless_fine false n p sid f = give_up_fine n p sid f
+
+add_fine : (n : ℕ) (p : Placement) (x : SpacePages) → space_number x ≡ n → FineSpaces n p → Fine (n + 1) (map space_number (p.spaces ++ x ∷ []))
+add_fine n p x e f = fine_as (n + 1) (map space_number p.spaces ++ n ∷ []) (map space_number (p.spaces ++ x ∷ []))
+    (map-append space_number p.spaces (x ∷ []) ∙ ap (λ (m : ℕ). map space_number p.spaces ++ m ∷ []) e) (fine_last n (map space_number p.spaces) f)
+
+pub enter_fine : (n : ℕ) (p : Placement) (image : ℕ) (named : Option NamedImage) → FineSpaces n p → FineSpaces (n + 1) (enter_image p n image named)
+enter_fine n p image None f = fine_more n (map space_number p.spaces) f
+enter_fine n p image (Some named) f = add_fine n p (new_pages n image named.image.facts) refl f
+
+pub change_fine : (images : List NamedImage) (p : Placement) (pid sid : ℕ) (borrowed : Bool) (n at : ℕ) (change : Change) → FineSpaces n p → FineSpaces (Rattle.kernel_model.specs.ChangeStep.sid_after n change) (place_change images p pid sid borrowed n at change)
+change_fine images p pid sid borrowed n at Keep f = f
+change_fine images p pid sid borrowed n at (Resize d s) f = same_fine n p (resize p sid d s) (resize_numbers p sid d s) f
+change_fine images p pid sid borrowed n at (Fork child) f = add_fine n p (record {
+  sid = n;
+  image = image_of p sid;
+  data_pages = map Rattle.page_model.specs.Place.child_slot (Rattle.page_model.specs.Placement.slots_of p (Data sid 0));
+  stack_pages = map Rattle.page_model.specs.Place.child_slot (Rattle.page_model.specs.Placement.slots_of p (Stack sid 0));
+}) refl f
+change_fine images p pid sid borrowed n at (Lend child) f = f
+change_fine images p pid sid borrowed n at (Exec image top) f = unless_fine borrowed (n + 1) (enter_image p n image (image_numbered images image)) sid (enter_fine n p image (image_numbered images image) f)
+change_fine images p pid sid borrowed n at (Reap child) f = f
+change_fine images p pid sid borrowed n at Sleep f = f
+change_fine images p pid sid borrowed n at (End status) f = unless_fine borrowed n p sid f
+
+-- Processes.
+
+abbrev pids : List Proc → List ℕ
+pids ps = map (λ (p : Proc). p.pid) ps
+
+map_pids : (f : Proc → Proc) (ps : List Proc) → ((q : Proc) → (f q).pid ≡ q.pid) → pids (map f ps) ≡ pids ps
+map_pids f [] k = refl
+map_pids f (q ∷ qs) k = ap (λ (n : ℕ). n ∷ pids (map f qs)) (k q) ∙ ap (λ (ns : List ℕ). q.pid ∷ ns) (map_pids f qs k)
+
+map_fine : (n : ℕ) (f : Proc → Proc) (ps : List Proc) → ((q : Proc) → (f q).pid ≡ q.pid) → Fine n (pids ps) → Fine n (pids (map f ps))
+map_fine n f ps k h = fine_as n (pids ps) (pids (map f ps)) (map_pids f ps k) h
+
+with_fine : (n : ℕ) (ps : List Proc) (p : Proc) → Fine n (pids ps) → Fine n (pids (with_proc ps p))
+with_fine n ps p f = map_fine n (λ (q : Proc). cond (q.pid == p.pid) p q) ps (with_number p) f
+
+child_fine : (n : ℕ) (ps : List Proc) (c : Proc) → c.pid ≡ n → Fine n (pids ps) → Fine (n + 1) (pids (ps ++ c ∷ []))
+child_fine n ps c e f = fine_as (n + 1) (pids ps ++ n ∷ []) (pids (ps ++ c ∷ [])) (map-append (λ (p : Proc). p.pid) ps (c ∷ []) ∙ ap (λ (m : ℕ). pids ps ++ m ∷ []) e) (fine_last n (pids ps) f)
+
+without_fine : (n : ℕ) (ps : List Proc) (pid : ℕ) → Fine n (pids ps) → Fine n (pids (without_proc ps pid))
+without_fine n ps pid f = fine_filter (λ (p : Proc). p.pid) (λ (q : Proc). not (q.pid == pid)) n ps f
+
+orphan_fine : (n : ℕ) (ps : List Proc) (pid : ℕ) → Fine n (pids ps) → Fine n (pids (orphaned_procs ps pid))
+orphan_fine n ps pid f = map_fine n (λ (q : Proc). record q { parent = cond (q.parent == pid) 0 q.parent }) (filter (λ (q : Proc). not ((q.parent == pid) && is_ended q.life)) ps) (λ q. refl)
+    (fine_filter (λ (p : Proc). p.pid) (λ (q : Proc). not ((q.parent == pid) && is_ended q.life)) n ps f)
+
+left_fine : (n : ℕ) (gone : Bool) (ps : List Proc) (p : Proc) (status : ℕ) → Fine n (pids ps) → Fine n (pids (left_procs gone ps p status))
+left_fine n true ps p status f = without_fine n ps p.pid f
+left_fine n false ps p status f = map_fine n (λ (q : Proc). record q { asleep = cond (q.pid == p.parent) false q.asleep }) (with_proc ps record p { life = Ended status }) (λ q. refl) (with_fine n ps record p { life = Ended status } f)
+
+procs_fine : (n : ℕ) (ps : List Proc) (x : Proc) (next : ℕ) (k : Kernel) (change : Change) → k.next_pid ≡ n → TakesNext k change → Fine n (pids ps) → Fine (Rattle.kernel_model.specs.ChangeStep.pid_after n change) (pids (procs_after ps x next change))
+procs_fine n ps x next k Keep e t f = with_fine n ps x f
+procs_fine n ps x next k (Resize d s) e t f = with_fine n ps x f
+procs_fine n ps x next k (Fork child) e t f = child_fine n (with_proc ps x) (child_proc x child (HoldsSpace next)) (t ∙ e) (with_fine n ps x f)
+procs_fine n ps x next k (Lend child) e t f = child_fine n (with_proc ps x) (child_proc x child New) (t ∙ e) (with_fine n ps x f)
+procs_fine n ps x next k (Exec image top) e t f = with_fine n ps record x { life = HoldsSpace next } f
+procs_fine n ps x next k (Reap child) e t f = with_fine n (without_proc ps child) x (without_fine n ps child f)
+procs_fine n ps x next k Sleep e t f = with_fine n ps record x { asleep = true } f
+procs_fine n ps x next k (End status) e t f = left_fine n (x.parent == 0) (orphaned_procs ps x.pid) x status (orphan_fine n ps x.pid f)
+
+-- Steps of the whole machine.
+
+numbered_from : (k : Kernel) → FineSpaces k.next_sid k.place → Fine k.next_pid (pids k.processes) → Numbered k
+numbered_from k s p = record { spaces_differ = s.differ; spaces_below = s.below; pids_differ = p.differ; pids_below = p.below }
+
+pub fine_spaces : (k : Kernel) → Numbered k → FineSpaces k.next_sid k.place
+fine_spaces k n = record { differ = n.spaces_differ; below = n.spaces_below }
+
+fine_pids : (k : Kernel) → Numbered k → Fine k.next_pid (pids k.processes)
+fine_pids k n = record { differ = n.pids_differ; below = n.pids_below }
+
+pub plain_numbered : (k : Kernel) (locked : List Page) (e : Entry) → Numbered k → Numbered (plain_step k locked e)
+plain_numbered k locked e n =
+    let at = Rattle.std.proofs.Common.length (append k.journal e) in
+    numbered_from (plain_step k locked e) (same_fine k.next_sid k.place (place_entry locked at k.place e) (entry_numbers locked at k.place e) (fine_spaces k n)) (fine_pids k n)
+
+pub zero_numbered : (k : Kernel) (q : Page) → Numbered k → Numbered (zero_step k q)
+zero_numbered k q n = numbered_from (zero_step k q) (same_fine k.next_sid k.place (filled k.place q) (filled_numbers k.place q) (fine_spaces k n)) (fine_pids k n)
+
+pub copy_numbered : (k : Kernel) (q : Page) → Numbered k → Numbered (copy_step k q)
+copy_numbered k q n = numbered_from (copy_step k q) (same_fine k.next_sid k.place (filled k.place q) (filled_numbers k.place q) (fine_spaces k n)) (fine_pids k n)
+
+pub done_numbered : (k : Kernel) (read : List (List ℕ)) → Numbered k → Numbered (done_step k read)
+done_numbered k read n = numbered_from (done_step k read) (same_fine k.next_sid k.place (done k.place) (done_numbers k.place) (fine_spaces k n)) (fine_pids k n)
+
+pub write_numbered : (k : Kernel) (q : Page) (f at byte : ℕ) → Numbered k → Numbered (write_step k q f at byte)
+write_numbered k q f at byte n = numbered_from (write_step k q f at byte) (same_fine k.next_sid k.place (touch k.place q) (touch_numbers k.place q) (fine_spaces k n)) (fine_pids k n)
+
+pub note_numbered : (k : Kernel) (e : Entry) → Numbered k → Numbered (note_step k e)
+note_numbered k e n = numbered_from (note_step k e) (fine_spaces k n) (fine_pids k n)
+
+regs_number : (pid : ℕ) (regs : Regs) (q : Proc) → (with_regs pid regs q).pid ≡ q.pid
+regs_number pid regs q = go (q.pid == pid)
+  where
+    go : (b : Bool) → (cond b (record q { regs = regs }) q).pid ≡ q.pid
+    go true = refl
+    go false = refl
+
+pub in_numbered : (k : Kernel) (pid : ℕ) (regs : Regs) → Numbered k → Numbered (in_step k pid regs)
+in_numbered k pid regs n = numbered_from (in_step k pid regs) (fine_spaces k n) (map_fine k.next_pid (with_regs pid regs) k.processes (regs_number pid regs) (fine_pids k n))
+
+pub ran_numbered : (k : Kernel) (pid : ℕ) (regs : Regs) (e : Entry) → Numbered k → Numbered (ran_by k pid regs e)
+ran_numbered k pid regs e n = numbered_from (ran_by k pid regs e) (fine_spaces k n) (map_fine k.next_pid (with_regs pid regs) k.processes (regs_number pid regs) (fine_pids k n))
+
+pub pass_numbered : (k : Kernel) (from to : ℕ) → Numbered k → Numbered (pass_step k from to)
+pass_numbered k from to n =
+    let sid = space_of_life (life_of_proc (find from k.processes)) in
+    let receiver = life_of_proc (find to k.processes) in
+    numbered_from (pass_step k from to) (fine_spaces k n) (map_fine k.next_pid (λ (q : Proc). record q { life = passed_life sid from to receiver q }) k.processes (λ q. refl) (fine_pids k n))
+
+pub flat_numbered : (images : List NamedImage) (k : Kernel) (pid : ℕ) (regs : Regs) (e : Entry) (change : Change) → TakesNext k change → Numbered k → Numbered (change_step images k pid regs e change)
+flat_numbered images k pid regs e change t n = go (find pid k.processes)
+  where
+    go : (o : Option Proc) → Numbered (change_if images k regs e change o)
+    go None = n
+    go (Some p) = numbered_from (change_by images k (record p { regs = regs }) e change)
+        (change_fine images k.place p.pid (space_of_life p.life) (gave_back p.life) k.next_sid (Rattle.std.proofs.Common.length (append k.journal e)) change (fine_spaces k n))
+        (procs_fine k.next_pid k.processes (record p { regs = regs }) k.next_sid k change refl t (fine_pids k n))

@@ -1,0 +1,149 @@
+-- What an entry of a process with its change does to the whole machine.
+use Rattle.std.specs.Prelude.{ℕ, zero, suc, ◌+◌, ◌*◌, ◌==◌, Bool, true, false, cond, not, ◌&&◌, List, [], ◌∷◌, ◌++◌, length, map, filter, Option, Some, None}
+use Rattle.vm_facts.specs.declared.page.Page.TheVariants.{Stack}
+use Rattle.vm_facts.specs.declared.regs.Regs.{Regs}
+use Rattle.vm_facts.specs.declared.entry.Entry.{Entry}
+use Rattle.swap_dmap.specs.Chunks.{pieces}
+use Rattle.swap_book.specs.declared.Owner.TheVariants as owners
+use Rattle.swap_book.specs.Holdings.{Holdings, kept}
+use Rattle.flat_state.specs.declared.change.Change.{Change}
+use Rattle.flat_state.specs.declared.change.Change.TheVariants.{Keep, Resize, Fork, Lend, Exec, Reap, Sleep, End}
+use Rattle.flat_state.specs.Flat.{NamedImage}
+use Rattle.flat_state.specs.Change.{with_results}
+use Rattle.flat_state.specs.Journal.{append}
+use Rattle.page_model.specs.Pages.{numbered}
+use Rattle.page_model.specs.Placement.{Placement, image_of, sharers}
+use Rattle.page_model.specs.Place.{place_change}
+use Rattle.kernel_model.specs.Kernel.{Life, New, HoldsSpace, LendsSpace, Ended, Proc, StartBytes, Kernel}
+
+-- Records.
+
+abbrev pub with_proc : List Proc → Proc → List Proc
+with_proc ps p = map (λ (q : Proc). cond (q.pid == p.pid) p q) ps
+
+abbrev pub without_proc : List Proc → ℕ → List Proc
+without_proc ps pid = filter (λ (q : Proc). not (q.pid == pid)) ps
+
+-- a child goes on from its parent's registers, with the parent's number in R0 and 1 in R1
+abbrev pub child_proc : Proc → ℕ → Life → Proc
+child_proc p child life = record { pid = child; parent = p.pid; regs = with_results p.regs p.pid 1; life = life; asleep = false }
+
+abbrev pub is_ended : Life → Bool
+is_ended (Ended status) = true
+is_ended _ = false
+
+-- zombie children vanish, and the others have no parent
+abbrev pub orphaned_procs : List Proc → ℕ → List Proc
+orphaned_procs ps pid = map (λ (q : Proc). record q { parent = cond (q.parent == pid) 0 q.parent }) (filter (λ (q : Proc). not ((q.parent == pid) && is_ended q.life)) ps)
+
+abbrev pub woken_procs : List Proc → ℕ → List Proc
+woken_procs ps pid = map (λ (q : Proc). record q { asleep = cond (q.pid == pid) false q.asleep }) ps
+
+-- with no parent the process is gone; else it is a zombie, and its parent sleeps no more
+abbrev pub left_procs : Bool → List Proc → Proc → ℕ → List Proc
+left_procs true ps p status = without_proc ps p.pid
+left_procs false ps p status = woken_procs (with_proc ps record p { life = Ended status }) p.parent
+
+abbrev pub procs_after : List Proc → Proc → ℕ → Change → List Proc
+procs_after ps p next_sid Keep = with_proc ps p
+procs_after ps p next_sid (Resize data_pages stack_pages) = with_proc ps p
+procs_after ps p next_sid (Fork child) = with_proc ps p ++ child_proc p child (HoldsSpace next_sid) ∷ []
+procs_after ps p next_sid (Lend child) = with_proc ps p ++ child_proc p child New ∷ []
+procs_after ps p next_sid (Exec image top) = with_proc ps record p { life = HoldsSpace next_sid }
+procs_after ps p next_sid (Reap child) = with_proc (without_proc ps child) p
+procs_after ps p next_sid Sleep = with_proc ps record p { asleep = true }
+procs_after ps p next_sid (End status) = left_procs (p.parent == 0) (orphaned_procs ps p.pid) p status
+
+abbrev pub pid_after : ℕ → Change → ℕ
+pid_after next (Fork child) = next + 1
+pid_after next (Lend child) = next + 1
+pid_after next _ = next
+
+abbrev pub sid_after : ℕ → Change → ℕ
+sid_after next (Fork child) = next + 1
+sid_after next (Exec image top) = next + 1
+sid_after next _ = next
+
+-- Holdings that go back.
+
+abbrev pub text_given_back : ℕ → Holdings → ℕ → Holdings
+text_given_back zero hs image = kept (owners.Text image) 0 hs
+text_given_back (suc n) hs image = hs
+
+-- the pieces of a space, and with the last sharer those of its text, by the sharers that are left
+abbrev pub space_given_back : Holdings → ℕ → ℕ → ℕ → Holdings
+space_given_back hs sid image left = text_given_back left (kept (owners.Stack sid) 0 (kept (owners.Data sid) 0 hs)) image
+
+abbrev pub given_back_unless : Bool → Holdings → ℕ → ℕ → ℕ → Holdings
+given_back_unless true hs sid image left = hs
+given_back_unless false hs sid image left = space_given_back hs sid image left
+
+-- by the placements before and after
+abbrev pub holdings_after : Holdings → Placement → Placement → ℕ → ℕ → Bool → Change → Holdings
+holdings_after hs p q pid sid borrowed (Resize data_pages stack_pages) =
+    kept (owners.Stack sid) (length (pieces (2 * stack_pages))) (kept (owners.Data sid) (length (pieces (2 * data_pages))) hs)
+holdings_after hs p q pid sid borrowed (Exec image top) = given_back_unless borrowed hs sid (image_of p sid) (sharers q (image_of p sid))
+holdings_after hs p q pid sid borrowed (End status) = kept (owners.U pid) 0 (given_back_unless borrowed hs sid (image_of p sid) (sharers q (image_of p sid)))
+holdings_after hs p q pid sid borrowed _ = hs
+
+abbrev pub starts_with : List StartBytes → ℕ → Change → List StartBytes
+starts_with starts next_sid (Exec image top) = starts ++ record { page = Stack next_sid 0; bytes = top } ∷ []
+starts_with starts next_sid _ = starts
+
+-- Steps.
+
+abbrev pub space_of_life : Life → ℕ
+space_of_life New = 0
+space_of_life (HoldsSpace sid) = sid
+space_of_life (LendsSpace sid child) = sid
+space_of_life (Ended status) = 0
+
+-- a borrower gave its space back before its image or its end, and has none then
+abbrev pub gave_back : Life → Bool
+gave_back New = true
+gave_back _ = false
+
+abbrev pub change_by : List NamedImage → Kernel → Proc → Entry → Change → Kernel
+change_by images k p e change =
+    let sid = space_of_life p.life in
+    let place = place_change images k.place p.pid sid (gave_back p.life) k.next_sid (length (append k.journal e)) change in
+    record k {
+      place = place;
+      holdings = holdings_after k.holdings k.place place p.pid sid (gave_back p.life) change;
+      processes = procs_after k.processes p k.next_sid change;
+      next_pid = pid_after k.next_pid change;
+      next_sid = sid_after k.next_sid change;
+      starts = starts_with k.starts k.next_sid change;
+      journal = append k.journal e;
+    }
+
+abbrev pub change_if : List NamedImage → Kernel → Regs → Entry → Change → Option Proc → Kernel
+change_if images k regs e change None = k
+change_if images k regs e change (Some p) = change_by images k (record p { regs = regs }) e change
+
+-- an entry of a process, which is left with these registers, and its change; the pieces that it takes were found before
+abbrev pub change_step : List NamedImage → Kernel → ℕ → Regs → Entry → Change → Kernel
+change_step images k pid regs e change = change_if images k regs e change (numbered (λ (p : Proc). p.pid) pid k.processes)
+
+-- one instruction ran, and left these registers; its writes were made before
+abbrev pub ran_by : Kernel → ℕ → Regs → Entry → Kernel
+ran_by k pid regs e = record k { processes = map (λ (p : Proc). cond (p.pid == pid) (record p { regs = regs }) p) k.processes; journal = append k.journal e }
+
+-- a space goes from one process to another, with no entry: the giver then lends it to a new child, or, where it goes
+-- back to the lender, has none
+abbrev pub pass_from : ℕ → ℕ → Life → Life
+pass_from sid to New = LendsSpace sid to
+pass_from sid to _ = New
+
+abbrev pub passed_life : ℕ → ℕ → ℕ → Life → Proc → Life
+passed_life sid from to receiver q = cond (q.pid == from) (pass_from sid to receiver) (cond (q.pid == to) (HoldsSpace sid) q.life)
+
+abbrev pub life_of_proc : Option Proc → Life
+life_of_proc None = New
+life_of_proc (Some p) = p.life
+
+abbrev pub pass_step : Kernel → ℕ → ℕ → Kernel
+pass_step k from to =
+    let giver = life_of_proc (numbered (λ (p : Proc). p.pid) from k.processes) in
+    let receiver = life_of_proc (numbered (λ (p : Proc). p.pid) to k.processes) in
+    record k { processes = map (λ (q : Proc). record q { life = passed_life (space_of_life giver) from to receiver q }) k.processes }

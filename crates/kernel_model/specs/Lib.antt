@@ -1,0 +1,10 @@
+pub mod Kernel
+pub mod ChangeStep
+pub mod UPage
+pub mod Coupled
+pub mod Sound
+pub mod Asks
+pub mod Taken
+pub mod Numbers
+pub mod Stands
+pub mod Start

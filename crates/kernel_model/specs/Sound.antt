@@ -1,0 +1,59 @@
+-- What is so of each machine that has not stopped.
+use Rattle.std.specs.Prelude.{◌≡◌, ℕ, ◌+◌, ◌*◌, ◌≤◌, ◌==◌, Bool, true, false, ◌||◌, List, [], ◌∷◌, ◌++◌, length, Option, Some, None, ◌/◌, ◌%◌, ◌^◌, ◌<◌}
+use Rattle.vm_facts.specs.declared.page.Page.{Page}
+use Rattle.vm_facts.specs.declared.page.Page.TheVariants.{Text}
+use Rattle.aout_image.specs.Image.{Loaded, data_given, data_pages_of, page_at}
+use Rattle.flat_state.specs.Flat.{NamedImage, image_numbered}
+use Rattle.page_model.specs.Pages.{numbered}
+use Rattle.flat_state.specs.PageNames.{same_page}
+use Rattle.page_model.specs.Placement.{Placement, Due, Start, CopyOf, due_at, slots_of}
+use Rattle.page_model.specs.Rank.{HandsStand}
+use Rattle.page_model.specs.Ownership.{OneOwner}
+use Rattle.page_model.specs.PageBytes.{zeros}
+use Rattle.kernel_model.specs.Kernel.{Life, Ended, Proc, StartBytes, Kernel}
+use Rattle.kernel_model.specs.Coupled.{text_of}
+
+-- What is so of each machine that hasn't stopped.
+
+abbrev pub has_life : Life → Bool
+has_life (Ended status) = false
+has_life _ = true
+
+abbrev pub lives_in : Option Proc → Bool
+lives_in None = false
+lives_in (Some p) = has_life p.life
+
+-- the process is there, and no zombie
+abbrev pub lives : List Proc → ℕ → Bool
+lives ps pid = lives_in (numbered (λ (x : Proc). x.pid) pid ps)
+
+pub record Sound (size : ℕ) (k : Kernel) : Type 0 where
+  pub owner : OneOwner size (lives k.processes) k.place k.holdings
+  pub tokens : length k.frames ≡ length k.place.holds
+  pub hands : HandsStand k.place
+  pub few_transfers : length k.place.transfers ≤ 16
+
+abbrev pub IsSound : ℕ → Kernel → Type 0
+IsSound size k = k.stopped ≡ false → Sound size k
+
+abbrev pub has_start : List StartBytes → Page → Bool
+has_start [] q = false
+has_start (s ∷ ss) q = same_page s.page q || has_start ss q
+
+abbrev pub is_start : Option Due → Bool
+is_start None = false
+is_start (Some (Start q)) = true
+is_start (Some (CopyOf q parent)) = false
+
+-- bytes are kept for no page but one that is due with them
+abbrev pub KeepsStarts : Kernel → Type 0
+KeepsStarts k = (q : Page) → is_start (due_at k.place.due q) ≡ false → has_start k.starts q ≡ false
+
+-- the data of an image is as long as its pages, and zeros behind what its file gives
+pub record DataFits (image : Loaded) : Type 0 where
+  pub size : length image.data ≡ 1024 * data_pages_of image.facts
+  pub rest : (v : ℕ) → data_given image.facts ≤ 1024 * v → v < data_pages_of image.facts → page_at v image.data ≡ zeros
+
+-- the text of each image is as long as its pages
+abbrev pub TextFits : List NamedImage → Placement → Type 0
+TextFits images p = (image : ℕ) → length (text_of (image_numbered images image)) ≡ 1024 * length (slots_of p (Text image 0))

@@ -1,0 +1,48 @@
+-- The whole machine at the start of a run.
+use Rattle.std.specs.Prelude.{◌≡◌, ℕ, ◌*◌, ◌≤◌, false, List, [], ◌∷◌, length, map, Some}
+use Rattle.flat_state.specs.Space.{Space}
+use Rattle.flat_state.specs.Flat.{Process, NamedImage, Inputs, image_numbered, argument_area, start_state, spaces_of}
+use Rattle.vm_facts.specs.declared.page.Page.TheVariants.{Stack}
+use Rattle.aout_image.specs.Image.{IsSound, text_pages_of}
+use Rattle.swap_book.specs.Holdings.{Holdings}
+use Rattle.page_model.specs.Placement.{Starting, start_placement}
+use Rattle.kernel_model.specs.Kernel.{Proc, StartBytes, Kernel, life_of}
+use Rattle.kernel_model.specs.Sound.{DataFits}
+
+abbrev pub kept_of : Process → Proc
+kept_of q = record { pid = q.pid; parent = q.parent; regs = q.regs; life = life_of q.holding; asleep = q.asleep }
+
+-- the stack page 0 with which a space begins
+abbrev pub start_of : Space → StartBytes
+start_of s = record { page = Stack s.sid 0; bytes = s.stack_bytes }
+
+-- with the first processes' images, their holdings, and some bytes in each frame
+abbrev pub start_kernel : Inputs → List Starting → Holdings → List (List ℕ) → Kernel
+start_kernel A first hs frames = record {
+  place = start_placement (map (λ (named : NamedImage). named.image.facts) A.images) first A.frames;
+  holdings = hs;
+  processes = map kept_of (start_state A).processes;
+  next_pid = (start_state A).next_pid;
+  next_sid = (start_state A).next_sid;
+  starts = map start_of (spaces_of (start_state A));
+  frames = frames;
+  journal = [];
+  stopped = false;
+}
+
+-- each first process starts in the image of its number
+abbrev pub AreStarting : List NamedImage → List ℕ → List Starting → Type 0
+AreStarting images [] [] = Unit {0}
+AreStarting images (n ∷ ns) (a ∷ more) = (named : NamedImage) × (image_numbered images n ≡ Some named) × (a.image ≡ n) × (a.facts ≡ named.image.facts) × AreStarting images ns more
+AreStarting images _ _ = ⊥
+
+-- an image's text and data are those of its pages, of which there are no more than may be; and its name finds room in
+-- stack page 0
+pub record ImageFits (named : NamedImage) : Type 0 where
+  pub text : length named.image.text ≡ 1024 * text_pages_of named.image.facts
+  pub «data» : DataFits named.image
+  pub sound : IsSound named.image.facts
+  pub name : length (argument_area (named.name ∷ [])) ≤ 1024
+
+abbrev pub ImagesFit : List NamedImage → Type 0
+ImagesFit images = (number : ℕ) (named : NamedImage) → image_numbered images number ≡ Some named → ImageFits named

@@ -1,0 +1,6 @@
+pub mod Couples
+pub mod Changes
+pub mod Others
+pub mod Pages
+pub mod Runs
+pub mod Spaces

@@ -1,0 +1,5 @@
+pub mod Frames
+pub mod Pages
+pub mod Local
+pub mod Parts
+pub mod Runs

@@ -1,0 +1,8 @@
+pub mod Hands
+pub mod Steps
+pub mod Stays
+pub mod Transfers
+pub mod KeptHands
+pub mod Locks
+pub mod Parts
+pub mod Units

@@ -1,0 +1,235 @@
+-- Each transfer has a page.
+use Rattle.std.proofs.Common.{◌≡◌, inl, inr, ℕ, zero, suc, ◌+◌, ◌<◌, Bool, true, false, List, [], ◌∷◌, ◌++◌, length, Option, Some, None, refl, sym, ap, ◌∙◌, subst, arith}
+use Rattle.std.proofs.lemmas.List.{length-append}
+use Rattle.vm_facts.specs.declared.page.Page.{Page}
+use Rattle.vm_facts.specs.declared.page.Page.TheVariants.{Data, Stack, Text}
+use Rattle.vm_facts.specs.declared.page.PageState.{PageState}
+use Rattle.vm_facts.specs.declared.page.PageState.TheVariants.{Unfilled, Valid, Invalid, Coming, Going, OnSwap}
+use Rattle.vm_facts.specs.declared.entry.Entry.{Entry}
+use Rattle.vm_facts.specs.declared.entry.Entry.TheVariants as entries
+use Rattle.page_model.specs.Pages.{Filling, Zeros, OfImage, frame_of}
+use Rattle.flat_state.specs.PageNames.{is_among, beside, pages_from, number_of}
+use Rattle.page_model.specs.Frames.{times}
+use Rattle.page_model.specs.Placement.{Placement, Transfer, Part, Errand, Writes, state_of, filling_of, is_dirty, page_of}
+use Rattle.page_model.specs.Moves.{fill, fill_at, begin, join_last, get_one, get_at, get_all, get_run, launch, launch_to, launch_all, launch_run, done, done_of, reclaim, reclaim_to, retire, retire_to}
+use Rattle.page_model.specs.Runs.{run_in, run_in_by, run_out, spare_frames}
+use Rattle.page_model.specs.Hands.{expire, sweep, sweep_of, sweep_to, sweep_by, hand_move, hand_moves}
+use Rattle.page_model.specs.Place.{put_step, put_by, place_entry}
+use Rattle.page_model.specs.Serve.{force, force_by, read_errand, read_if, bring_by, feed_by, serve_by, serve_step, is_full}
+use Rattle.page_model.specs.Conditions.{EachPage, IsSeated, HasSeat, CanPlace, HaveParts, CanBegin}
+use Rattle.page_model.specs.Ownership.{OwnsFrames}
+use Rattle.page_laws.proofs.Lists.Local.{some_is}
+use Rattle.page_laws.proofs.Ownership.Pages.{expire_owner}
+use Rattle.page_laws.proofs.Ownership.Hands.{run_out_seats, move_owner}
+use Rattle.page_laws.proofs.Moves.Stays.{expire_transfers}
+use Rattle.page_laws.proofs.Moves.Transfers.{land_all_rest}
+
+-- a part joins the youngest transfer, also one that has none yet
+joined : (ts : List Transfer) (e : Errand) (x : Part) → HaveParts ts → HaveParts (join_last ts e x)
+joined [] e x h = (omega arith, tt)
+joined (t ∷ []) e x h = ((let k = length-append t.parts (x ∷ []) in omega arith), tt)
+joined (t ∷ u ∷ us) e x h = (h.0, joined (u ∷ us) e x h.1)
+
+begun : (ts : List Transfer) (d e : Errand) (x : Part) → HaveParts ts → HaveParts (join_last (ts ++ record { errand = d; parts = [] } ∷ []) e x)
+begun [] d e x h = (omega arith, tt)
+begun (t ∷ []) d e x h = (h.0, begun [] d e x tt)
+begun (t ∷ u ∷ us) d e x h = (h.0, begun (u ∷ us) d e x h.1)
+
+get_parts : (p : Placement) (e : Errand) (v : Page) → HaveParts p.transfers → HaveParts (get_one p e v).transfers
+get_parts p e v h = go p.free
+  where
+    go : (fr : List ℕ) → HaveParts (get_at p e v fr).transfers
+    go [] = h
+    go (f ∷ rest) = joined p.transfers e (record { page = v; frame = f }) h
+
+get_all_parts : (qs : List Page) (p : Placement) (e : Errand) → HaveParts p.transfers → HaveParts (get_all p e qs).transfers
+get_all_parts [] p e h = h
+get_all_parts (v ∷ qs) p e h = get_all_parts qs (get_one p e v) e (get_parts p e v h)
+
+get_first : (p : Placement) (e : Errand) (v : Page) → 0 < length p.free → HaveParts p.transfers → HaveParts (get_one (begin p e) e v).transfers
+get_first p e v l h = go p.free l
+  where
+    go : (fr : List ℕ) → 0 < length fr → HaveParts (get_at (begin p e) e v fr).transfers
+    go [] m = absurd (omega arith)
+    go (f ∷ rest) m = begun p.transfers e e (record { page = v; frame = f }) h
+
+get_run_parts : (p : Placement) (e : Errand) (q : Page) (lo n : ℕ) → 0 < n → 0 < length p.free → HaveParts p.transfers → HaveParts (get_run p e (pages_from q lo n)).transfers
+get_run_parts p e q lo zero m l h = absurd (omega arith)
+get_run_parts p e q lo (suc n) m l h = get_all_parts (pages_from q (lo + 1) n) (get_one (begin p e) e (beside q lo)) e (get_first p e (beside q lo) l h)
+
+launch_parts : (p : Placement) (v : Page) → HaveParts p.transfers → HaveParts (launch p v).transfers
+launch_parts p v h = go (state_of p v)
+  where
+    go : (s : PageState) → HaveParts (launch_to p v s).transfers
+    go (Valid f) = joined p.transfers Writes (record { page = v; frame = f }) h
+    go (Invalid f) = joined p.transfers Writes (record { page = v; frame = f }) h
+    go Unfilled = h
+    go (Coming f) = h
+    go (Going f) = h
+    go OnSwap = h
+
+launch_all_parts : (qs : List Page) (p : Placement) → HaveParts p.transfers → HaveParts (launch_all p qs).transfers
+launch_all_parts [] p h = h
+launch_all_parts (v ∷ qs) p h = launch_all_parts qs (launch p v) (launch_parts p v h)
+
+launch_first : (p : Placement) (v : Page) → HasSeat p v → HaveParts p.transfers → HaveParts (launch (begin p Writes) v).transfers
+launch_first p v c h = let k : IsSeated p v c.frame = c.seat in elim k.state [
+  | inl e ↦ subst (λ (s : PageState). HaveParts (launch_to (begin p Writes) v s).transfers) (sym e) (begun p.transfers Writes Writes (record { page = v; frame = c.frame }) h)
+  | inr e ↦ subst (λ (s : PageState). HaveParts (launch_to (begin p Writes) v s).transfers) (sym e.0) (begun p.transfers Writes Writes (record { page = v; frame = c.frame }) h)
+]
+
+launch_run_parts : (p : Placement) (q : Page) (lo n : ℕ) → 0 < n → EachPage (HasSeat p) (pages_from q lo n) → HaveParts p.transfers → HaveParts (launch_run p (pages_from q lo n)).transfers
+launch_run_parts p q lo zero m c h = absurd (omega arith)
+launch_run_parts p q lo (suc n) m c h = launch_all_parts (pages_from q (lo + 1) n) (launch (begin p Writes) (beside q lo)) (launch_first p (beside q lo) c.0 h)
+
+retire_parts : (p : Placement) (v : Page) → HaveParts p.transfers → HaveParts (retire p v).transfers
+retire_parts p v h = go (state_of p v)
+  where
+    go : (s : PageState) → HaveParts (retire_to p v s).transfers
+    go (Valid f) = h
+    go (Invalid f) = h
+    go Unfilled = h
+    go (Coming f) = h
+    go (Going f) = h
+    go OnSwap = h
+
+reclaim_parts : (p : Placement) (v : Page) → HaveParts p.transfers → HaveParts (reclaim p v).transfers
+reclaim_parts p v h = go (state_of p v)
+  where
+    go : (s : PageState) → HaveParts (reclaim_to p v s).transfers
+    go (Valid f) = h
+    go (Invalid f) = h
+    go Unfilled = h
+    go (Coming f) = h
+    go (Going f) = h
+    go OnSwap = h
+
+fill_parts : (p : Placement) (v : Page) → HaveParts p.transfers → HaveParts (fill p v).transfers
+fill_parts p v h = go p.free
+  where
+    go : (fr : List ℕ) → HaveParts (fill_at p v fr).transfers
+    go [] = h
+    go (f ∷ rest) = h
+
+done_parts : (p : Placement) → HaveParts p.transfers → HaveParts (done p).transfers
+done_parts p h = go p.transfers h
+  where
+    go : (ts : List Transfer) → HaveParts ts → HaveParts (done_of p ts).transfers
+    go [] k = h
+    go (t ∷ ts) k = subst HaveParts (sym (land_all_rest t.parts p t.errand ts)) k.1
+
+sweep_parts : (p : Placement) (locked : List Page) → OwnsFrames p → HaveParts p.transfers → HaveParts (sweep p locked).transfers
+sweep_parts p locked o a = go (page_of p p.back) refl
+  where
+    by : (q : Page) (d : Bool) → HasSeat p q → HaveParts (sweep_by p locked q d).transfers
+    by q true c = launch_run_parts p q (run_out p locked q).lo (run_out p locked q).n (omega arith) (run_out_seats p locked q c) a
+    by q false c = retire_parts p q a
+
+    seat : (q : Page) (f : ℕ) → page_of p p.back ≡ Some q → state_of p q ≡ Invalid f → times p.back p.free ≡ zero → HasSeat p q
+    seat q f h e z =
+        let same : f ≡ p.back = some_is f p.back (sym (ap frame_of e) ∙ o.named p.back q h) in
+        record { frame = f; seat = record { state = inr (e, ap (λ (g : ℕ). times g p.free) same ∙ z) } }
+
+    to : (q : Page) (s : PageState) (n : ℕ) (b : Bool) → page_of p p.back ≡ Some q → state_of p q ≡ s → times p.back p.free ≡ n → HaveParts (sweep_to p locked q s n b).transfers
+    to q (Invalid f) zero false h e z = by q (is_dirty p q) (seat q f h e z)
+    to q (Invalid f) zero true h e z = a
+    to q (Invalid f) (suc n) b h e z = a
+    to q Unfilled n b h e z = a
+    to q (Valid f) n b h e z = a
+    to q (Coming f) n b h e z = a
+    to q (Going f) n b h e z = a
+    to q OnSwap n b h e z = a
+
+    go : (h : Option Page) → page_of p p.back ≡ h → HaveParts (sweep_of p locked p.back h).transfers
+    go None h = a
+    go (Some q) h = to q (state_of p q) (times p.back p.free) (is_among q locked) h refl refl
+
+move_parts : (p : Placement) (locked : List Page) → OwnsFrames p → HaveParts p.transfers → HaveParts (hand_move p locked).transfers
+move_parts p locked o h = sweep_parts (expire p locked) locked (expire_owner p locked o) (subst HaveParts (sym (expire_transfers p locked)) h)
+
+moves_parts : (n : ℕ) (p : Placement) (locked : List Page) → OwnsFrames p → HaveParts p.transfers → HaveParts (hand_moves p locked n).transfers
+moves_parts zero p locked o h = h
+moves_parts (suc n) p locked o h = moves_parts n (hand_move p locked) locked (move_owner p locked o) (move_parts p locked o h)
+
+put_parts : (p : Placement) (q : Page) (n : ℕ) → 0 < n → EachPage (HasSeat p) (pages_from q (number_of q) n) → HaveParts p.transfers → HaveParts (put_step p q (pages_from q (number_of q) n)).transfers
+put_parts p q n l c h = go (is_dirty p q)
+  where
+    go : (d : Bool) → HaveParts (put_by p q (pages_from q (number_of q) n) d).transfers
+    go true = launch_run_parts p q (number_of q) n l c h
+    go false = retire_parts p q h
+
+pub entry_parts : (locked : List Page) (at : ℕ) (p : Placement) (e : Entry) → OwnsFrames p → CanPlace p e → CanBegin p e → HaveParts p.transfers → HaveParts (place_entry locked at p e).transfers
+entry_parts locked at p (entries.Zero q) o c b h = fill_parts p q h
+entry_parts locked at p (entries.Get q lo n) o c b h = get_run_parts p (read_errand p q) q lo n b.0 b.1 h
+entry_parts locked at p (entries.Copy q) o c b h = fill_parts p q h
+entry_parts locked at p (entries.Reclaim q) o c b h = reclaim_parts p q h
+entry_parts locked at p (entries.Hands n) o c b h = moves_parts n p locked o h
+entry_parts locked at p (entries.Put q n) o c b h = put_parts p q n b c.1 h
+entry_parts locked at p entries.Done o c b h = done_parts p h
+entry_parts locked at p (entries.SwapOut pid) o c b h = h
+entry_parts locked at p (entries.SwapIn pid) o c b h = h
+entry_parts locked at p (entries.Event line) o c b h = h
+entry_parts locked at p (entries.Turn pid) o c b h = h
+entry_parts locked at p (entries.Ran pid n) o c b h = h
+entry_parts locked at p (entries.Out pid bytes) o c b h = h
+entry_parts locked at p (entries.Grew pid pages) o c b h = h
+entry_parts locked at p (entries.Call pid number carry r0 r1) o c b h = h
+entry_parts locked at p (entries.Refused pid) o c b h = h
+entry_parts locked at p (entries.Sleeps pid) o c b h = h
+entry_parts locked at p (entries.Ended pid status) o c b h = h
+entry_parts locked at p (entries.Owners x y m k) o c b h = h
+
+force_parts : (p : Placement) (locked : List Page) → OwnsFrames p → HaveParts p.transfers → HaveParts (force p locked).transfers
+force_parts p locked o h = go p.transfers
+  where
+    go : (ts : List Transfer) → HaveParts (force_by p locked ts).transfers
+    go [] = move_parts p locked o h
+    go (t ∷ ts) = done_parts p h
+
+pub run_some : (p : Placement) (q : Page) (s : PageState) (spare : ℕ) → 0 < (run_in_by p q s spare).n
+run_some p (Text image v) OnSwap spare = omega arith
+run_some p (Text image v) Unfilled spare = omega arith
+run_some p (Text image v) (Valid f) spare = omega arith
+run_some p (Text image v) (Invalid f) spare = omega arith
+run_some p (Text image v) (Coming f) spare = omega arith
+run_some p (Text image v) (Going f) spare = omega arith
+run_some p (Data sid v) OnSwap spare = omega arith
+run_some p (Data sid v) Unfilled spare = omega arith
+run_some p (Data sid v) (Valid f) spare = omega arith
+run_some p (Data sid v) (Invalid f) spare = omega arith
+run_some p (Data sid v) (Coming f) spare = omega arith
+run_some p (Data sid v) (Going f) spare = omega arith
+run_some p (Stack sid v) OnSwap spare = omega arith
+run_some p (Stack sid v) Unfilled spare = omega arith
+run_some p (Stack sid v) (Valid f) spare = omega arith
+run_some p (Stack sid v) (Invalid f) spare = omega arith
+run_some p (Stack sid v) (Coming f) spare = omega arith
+run_some p (Stack sid v) (Going f) spare = omega arith
+
+pub serve_parts : (p : Placement) (locked : List Page) (q : Page) → OwnsFrames p → HaveParts p.transfers → HaveParts (serve_step p locked q).transfers
+serve_parts p locked q o h = go (state_of p q)
+  where
+    read : (full : Bool) → 0 < length p.free → HaveParts (read_if p q full).transfers
+    read true l = done_parts p h
+    read false l = get_run_parts p (read_errand p q) q (run_in p q).lo (run_in p q).n (run_some p q (state_of p q) (spare_frames p)) l h
+
+    bring : (s : PageState) (x : Filling) (full : Bool) → 0 < length p.free → HaveParts (bring_by p q s x full).transfers
+    bring Unfilled Zeros full l = fill_parts p q h
+    bring Unfilled OfImage full l = read full l
+    bring (Valid f) x full l = read full l
+    bring (Invalid f) x full l = read full l
+    bring (Coming f) x full l = read full l
+    bring (Going f) x full l = read full l
+    bring OnSwap x full l = read full l
+
+    feed : (s : PageState) (x : Filling) (fr : List ℕ) (full : Bool) → p.free ≡ fr → HaveParts (feed_by p locked q s x fr full).transfers
+    feed s x [] full e = force_parts p locked o h
+    feed s x (f ∷ fs) full e = bring s x full (subst (λ (fr : List ℕ). 0 < length fr) (sym e) (omega arith))
+
+    go : (s : PageState) → HaveParts (serve_by p locked q s).transfers
+    go (Valid f) = h
+    go (Invalid f) = reclaim_parts p q h
+    go (Coming f) = done_parts p h
+    go (Going f) = done_parts p h
+    go Unfilled = feed Unfilled (filling_of p q) p.free (is_full p) refl
+    go OnSwap = feed OnSwap (filling_of p q) p.free (is_full p) refl

@@ -1,0 +1,198 @@
+-- How many transfers are in flight.
+use Rattle.std.proofs.Common.{◌≡◌, ℕ, zero, suc, ◌+◌, ◌<◌, ◌≤◌, nat_le, Bool, true, false, List, [], ◌∷◌, length, Option, Some, None, refl, ap, ◌∙◌, arith}
+use Rattle.std.proofs.lemmas.Bool.Decides.{nat_tests}
+use Rattle.std.proofs.lemmas.List.{length-append}
+use Rattle.vm_facts.specs.declared.page.Page.{Page}
+use Rattle.vm_facts.specs.declared.page.PageState.{PageState}
+use Rattle.vm_facts.specs.declared.page.PageState.TheVariants.{Unfilled, Valid, Invalid, Coming, Going, OnSwap}
+use Rattle.vm_facts.specs.declared.entry.Entry.{Entry}
+use Rattle.vm_facts.specs.declared.entry.Entry.TheVariants as entries
+use Rattle.page_model.specs.Pages.{Filling, Zeros, OfImage}
+use Rattle.flat_state.specs.PageNames.{is_among, pages_from, number_of}
+use Rattle.page_model.specs.Frames.{times}
+use Rattle.page_model.specs.Placement.{Placement, Transfer, Part, Errand, Writes, state_of, filling_of, is_dirty, page_of}
+use Rattle.page_model.specs.Moves.{fill, fill_at, begin, join_last, get_one, get_at, get_all, get_run, launch, launch_to, launch_all, launch_run, land_all, land, done, done_of, reclaim, reclaim_to, retire, retire_to}
+use Rattle.page_model.specs.Runs.{pages_of_run, run_in, run_out}
+use Rattle.page_model.specs.Hands.{expire, sweep, sweep_of, sweep_to, sweep_by, hand_move, hand_moves}
+use Rattle.page_model.specs.Place.{put_step, put_by, place_entry}
+use Rattle.page_model.specs.Serve.{force, force_by, read_errand, read_if, bring_by, feed_by, serve_by, serve_step, is_full, most_in_flight}
+use Rattle.page_model.specs.Conditions.{begins}
+use Rattle.page_laws.proofs.Moves.Stays.{expire_transfers}
+
+-- what a part joins is as long as before
+join_count : (ts : List Transfer) (e : Errand) (x : Part) → 0 < length ts → length (join_last ts e x) ≡ length ts
+join_count [] e x l = absurd (omega arith)
+join_count (t ∷ []) e x l = refl
+join_count (t ∷ u ∷ us) e x l = ap suc (join_count (u ∷ us) e x (omega arith))
+
+begin_count : (p : Placement) (e : Errand) → length (begin p e).transfers ≡ length p.transfers + 1
+begin_count p e = length-append p.transfers (record { errand = e; parts = [] } ∷ [])
+
+get_count : (p : Placement) (e : Errand) (v : Page) → 0 < length p.transfers → length (get_one p e v).transfers ≡ length p.transfers
+get_count p e v l = go p.free
+  where
+    go : (fr : List ℕ) → length (get_at p e v fr).transfers ≡ length p.transfers
+    go [] = refl
+    go (f ∷ rest) = join_count p.transfers e (record { page = v; frame = f }) l
+
+get_all_count : (qs : List Page) (p : Placement) (e : Errand) → 0 < length p.transfers → length (get_all p e qs).transfers ≡ length p.transfers
+get_all_count [] p e l = refl
+get_all_count (v ∷ qs) p e l = let k = get_count p e v l in get_all_count qs (get_one p e v) e (omega arith) ∙ k
+
+get_run_count : (p : Placement) (e : Errand) (qs : List Page) → length (get_run p e qs).transfers ≡ length p.transfers + 1
+get_run_count p e qs = let k = begin_count p e in get_all_count qs (begin p e) e (omega arith) ∙ k
+
+launch_count : (p : Placement) (v : Page) → 0 < length p.transfers → length (launch p v).transfers ≡ length p.transfers
+launch_count p v l = go (state_of p v)
+  where
+    go : (s : PageState) → length (launch_to p v s).transfers ≡ length p.transfers
+    go (Valid f) = join_count p.transfers Writes (record { page = v; frame = f }) l
+    go (Invalid f) = join_count p.transfers Writes (record { page = v; frame = f }) l
+    go Unfilled = refl
+    go (Coming f) = refl
+    go (Going f) = refl
+    go OnSwap = refl
+
+launch_all_count : (qs : List Page) (p : Placement) → 0 < length p.transfers → length (launch_all p qs).transfers ≡ length p.transfers
+launch_all_count [] p l = refl
+launch_all_count (v ∷ qs) p l = let k = launch_count p v l in launch_all_count qs (launch p v) (omega arith) ∙ k
+
+pub launch_run_count : (p : Placement) (qs : List Page) → length (launch_run p qs).transfers ≡ length p.transfers + 1
+launch_run_count p qs = let k = begin_count p Writes in launch_all_count qs (begin p Writes) (omega arith) ∙ k
+
+pub retire_count : (p : Placement) (v : Page) → length (retire p v).transfers ≡ length p.transfers
+retire_count p v = go (state_of p v)
+  where
+    go : (s : PageState) → length (retire_to p v s).transfers ≡ length p.transfers
+    go (Valid f) = refl
+    go (Invalid f) = refl
+    go Unfilled = refl
+    go (Coming f) = refl
+    go (Going f) = refl
+    go OnSwap = refl
+
+pub reclaim_count : (p : Placement) (v : Page) → length (reclaim p v).transfers ≡ length p.transfers
+reclaim_count p v = go (state_of p v)
+  where
+    go : (s : PageState) → length (reclaim_to p v s).transfers ≡ length p.transfers
+    go (Valid f) = refl
+    go (Invalid f) = refl
+    go Unfilled = refl
+    go (Coming f) = refl
+    go (Going f) = refl
+    go OnSwap = refl
+
+pub fill_count : (p : Placement) (v : Page) → length (fill p v).transfers ≡ length p.transfers
+fill_count p v = go p.free
+  where
+    go : (fr : List ℕ) → length (fill_at p v fr).transfers ≡ length p.transfers
+    go [] = refl
+    go (f ∷ rest) = refl
+
+pub land_all_rest : (xs : List Part) (p : Placement) (e : Errand) (ts : List Transfer) → (land_all p e xs ts).transfers ≡ ts
+land_all_rest [] p e ts = refl
+land_all_rest (x ∷ xs) p e ts = land_all_rest xs (land p e x (record { errand = e; parts = xs } ∷ ts)) e ts
+
+pub done_count : (p : Placement) → length (done p).transfers ≤ length p.transfers
+done_count p = go p.transfers refl
+  where
+    go : (ts : List Transfer) → p.transfers ≡ ts → length (done_of p ts).transfers ≤ length p.transfers
+    go [] e = omega arith
+    go (t ∷ ts) e = let k = ap length (land_all_rest t.parts p t.errand ts) in let l = ap length e in omega arith
+
+sweep_count : (p : Placement) (locked : List Page) → length (sweep p locked).transfers ≤ length p.transfers + 1
+sweep_count p locked = go (page_of p p.back)
+  where
+    by : (q : Page) (d : Bool) → length (sweep_by p locked q d).transfers ≤ length p.transfers + 1
+    by q true = let k = launch_run_count p (pages_of_run q (run_out p locked q)) in omega arith
+    by q false = let k = retire_count p q in omega arith
+
+    to : (q : Page) (s : PageState) (n : ℕ) (b : Bool) → length (sweep_to p locked q s n b).transfers ≤ length p.transfers + 1
+    to q (Invalid f) zero false = by q (is_dirty p q)
+    to q (Invalid f) zero true = omega arith
+    to q (Invalid f) (suc n) b = omega arith
+    to q Unfilled n b = omega arith
+    to q (Valid f) n b = omega arith
+    to q (Coming f) n b = omega arith
+    to q (Going f) n b = omega arith
+    to q OnSwap n b = omega arith
+
+    go : (h : Option Page) → length (sweep_of p locked p.back h).transfers ≤ length p.transfers + 1
+    go None = omega arith
+    go (Some q) = to q (state_of p q) (times p.back p.free) (is_among q locked)
+
+move_count : (p : Placement) (locked : List Page) → length (hand_move p locked).transfers ≤ length p.transfers + 1
+move_count p locked = let k = sweep_count (expire p locked) locked in let e = ap length (expire_transfers p locked) in omega arith
+
+moves_count : (n : ℕ) (p : Placement) (locked : List Page) → length (hand_moves p locked n).transfers ≤ length p.transfers + n
+moves_count zero p locked = omega arith
+moves_count (suc n) p locked = let k = move_count p locked in let m = moves_count n (hand_move p locked) locked in omega arith
+
+put_count : (p : Placement) (v : Page) (qs : List Page) → length (put_step p v qs).transfers ≤ length p.transfers + 1
+put_count p v qs = go (is_dirty p v)
+  where
+    go : (d : Bool) → length (put_by p v qs d).transfers ≤ length p.transfers + 1
+    go true = let k = launch_run_count p qs in omega arith
+    go false = let k = retire_count p v in omega arith
+
+-- A read and a put begin one transfer at most, and each move of the hands one.
+pub entry_count : (locked : List Page) (at : ℕ) (p : Placement) (e : Entry) → length (place_entry locked at p e).transfers ≤ length p.transfers + begins e
+entry_count locked at p (entries.Zero q) = let k = fill_count p q in omega arith
+entry_count locked at p (entries.Get q lo n) = let k = get_run_count p (read_errand p q) (pages_from q lo n) in omega arith
+entry_count locked at p (entries.Copy q) = let k = fill_count p q in omega arith
+entry_count locked at p (entries.Reclaim q) = let k = reclaim_count p q in omega arith
+entry_count locked at p (entries.Hands n) = moves_count n p locked
+entry_count locked at p (entries.Put q n) = put_count p q (pages_from q (number_of q) n)
+entry_count locked at p entries.Done = let k = done_count p in omega arith
+entry_count locked at p (entries.SwapOut pid) = omega arith
+entry_count locked at p (entries.SwapIn pid) = omega arith
+entry_count locked at p (entries.Event line) = omega arith
+entry_count locked at p (entries.Turn pid) = omega arith
+entry_count locked at p (entries.Ran pid n) = omega arith
+entry_count locked at p (entries.Out pid bytes) = omega arith
+entry_count locked at p (entries.Grew pid pages) = omega arith
+entry_count locked at p (entries.Call pid number carry r0 r1) = omega arith
+entry_count locked at p (entries.Refused pid) = omega arith
+entry_count locked at p (entries.Sleeps pid) = omega arith
+entry_count locked at p (entries.Ended pid status) = omega arith
+entry_count locked at p (entries.Owners x y m h) = omega arith
+
+-- Forcing begins a transfer only where none is in flight.
+pub force_few : (p : Placement) (locked : List Page) → length p.transfers ≤ most_in_flight → length (force p locked).transfers ≤ most_in_flight
+force_few p locked l = go p.transfers refl
+  where
+    go : (ts : List Transfer) → p.transfers ≡ ts → length (force_by p locked ts).transfers ≤ most_in_flight
+    go [] e = let k = move_count p locked in let z = ap length e in omega arith
+    go (t ∷ ts) e = let k = done_count p in omega arith
+
+not_full : (n : ℕ) → nat_le 16 n ≡ false → n < 16
+not_full n e = grind (arith, nat_tests)
+
+-- Serving begins one only where fewer than 16 are.
+pub serve_few : (p : Placement) (locked : List Page) (q : Page) → length p.transfers ≤ most_in_flight → length (serve_step p locked q).transfers ≤ most_in_flight
+serve_few p locked q l = go (state_of p q)
+  where
+    read : (full : Bool) → is_full p ≡ full → length (read_if p q full).transfers ≤ most_in_flight
+    read true e = let k = done_count p in omega arith
+    read false e = let k = get_run_count p (read_errand p q) (pages_of_run q (run_in p q)) in let m = not_full (length p.transfers) e in omega arith
+
+    bring : (s : PageState) (x : Filling) (full : Bool) → is_full p ≡ full → length (bring_by p q s x full).transfers ≤ most_in_flight
+    bring Unfilled Zeros full e = let k = fill_count p q in omega arith
+    bring Unfilled OfImage full e = read full e
+    bring (Valid f) x full e = read full e
+    bring (Invalid f) x full e = read full e
+    bring (Coming f) x full e = read full e
+    bring (Going f) x full e = read full e
+    bring OnSwap x full e = read full e
+
+    feed : (s : PageState) (x : Filling) (fr : List ℕ) → length (feed_by p locked q s x fr (is_full p)).transfers ≤ most_in_flight
+    feed s x [] = force_few p locked l
+    feed s x (f ∷ fs) = bring s x (is_full p) refl
+
+    go : (s : PageState) → length (serve_by p locked q s).transfers ≤ most_in_flight
+    go (Valid f) = l
+    go (Invalid f) = let k = reclaim_count p q in omega arith
+    go (Coming f) = let k = done_count p in omega arith
+    go (Going f) = let k = done_count p in omega arith
+    go Unfilled = feed Unfilled (filling_of p q) p.free
+    go OnSwap = feed OnSwap (filling_of p q) p.free

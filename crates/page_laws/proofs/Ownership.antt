@@ -1,0 +1,7 @@
+pub mod Pages
+pub mod Spaces
+pub mod Changes
+pub mod Runs
+pub mod Hands
+pub mod Entries
+pub mod Serve

@@ -1,0 +1,126 @@
+-- Forcing a frame and serving a page keep the ownership of frames.
+use Rattle.std.proofs.Common.{◌≡◌, ◌⊎◌, inl, inr, ℕ, ◌<◌, ◌≤◌, nat_lt, min, Bool, true, false, List, [], ◌∷◌, length, refl, sym, ap, ◌∙◌, arith}
+use Rattle.std.proofs.lemmas.Bool.Decides.{nat_tests}
+use Rattle.std.proofs.lemmas.List.{get_or_past}
+use Rattle.vm_facts.specs.declared.page.Page.{Page}
+use Rattle.vm_facts.specs.declared.page.Page.TheVariants.{Data, Stack, Text}
+use Rattle.vm_facts.specs.declared.page.PageState.{PageState}
+use Rattle.vm_facts.specs.declared.page.PageState.TheVariants.{Unfilled, Valid, Invalid, Coming, Going, OnSwap}
+use Rattle.page_model.specs.Pages.{Slot, no_slot, Filling, Zeros, OfImage, frame_of, is_on_swap, is_unfilled}
+use Rattle.flat_state.specs.PageNames.{number_of, beside}
+use Rattle.page_model.specs.Placement.{Placement, Transfer, slots_of, state_of, filling_of, IsThere}
+use Rattle.page_model.specs.Runs.{pages_of_run, run_in, run_in_by, run_both, run_up, run_alone, comes_from_swap, comes_from_file, is_near, spare_frames}
+use Rattle.page_model.specs.Serve.{force, force_by, read_step, source_for, read_if, bring_by, feed_by, serve_by, serve_step, is_full}
+use Rattle.page_model.specs.Ownership.{OwnsFrames}
+use Rattle.page_model.specs.Conditions.{EachPage, CanEnter}
+use Rattle.page_laws.proofs.Ownership.Pages.{fill_owner, reclaim_owner}
+use Rattle.page_laws.proofs.Lists.Runs.{and_both, run_each, run_both_in, run_up_in, run_alone_in, run_apart}
+use Rattle.page_laws.proofs.Ownership.Runs.{get_run_owner, done_owner}
+use Rattle.page_laws.proofs.Ownership.Hands.{move_owner}
+
+pub force_owner : (p : Placement) (locked : List Page) → OwnsFrames p → OwnsFrames (force p locked)
+force_owner p locked o = go p.transfers
+  where
+    go : (ts : List Transfer) → OwnsFrames (force_by p locked ts)
+    go [] = move_owner p locked o
+    go (t ∷ ts) = done_owner p o
+
+-- a page in another state than that of one that isn't there is there
+pub state_there : (p : Placement) (q : Page) → (state_of p q ≡ Unfilled → ⊥) → IsThere p q
+state_there p q n = elim (le_or (number_of q) (length (slots_of p q))) [
+  | inl l ↦ l
+  | inr m ↦ absurd (n (ap (λ (x : Slot). x.state) (get_or_past (slots_of p q) (number_of q) no_slot m)))
+]
+  where
+    le_or : (a b : ℕ) → (a < b) ⊎ (b ≤ a)
+    le_or a b = grind arith
+
+on_swap_enters : (p : Placement) (q : Page) → state_of p q ≡ OnSwap → CanEnter p q
+on_swap_enters p q e = record { there = state_there p q (λ h. let k : OnSwap ≡ Unfilled = sym e ∙ h in absurd cc); frameless = ap frame_of e }
+
+on_swap_is : (s : PageState) → is_on_swap s ≡ true → s ≡ OnSwap
+on_swap_is OnSwap e = refl
+on_swap_is Unfilled e = absurd cc
+on_swap_is (Valid f) e = absurd cc
+on_swap_is (Invalid f) e = absurd cc
+on_swap_is (Coming f) e = absurd cc
+on_swap_is (Going f) e = absurd cc
+
+unfilled_is : (s : PageState) → is_unfilled s ≡ true → s ≡ Unfilled
+unfilled_is Unfilled e = refl
+unfilled_is OnSwap e = absurd cc
+unfilled_is (Valid f) e = absurd cc
+unfilled_is (Invalid f) e = absurd cc
+unfilled_is (Coming f) e = absurd cc
+unfilled_is (Going f) e = absurd cc
+
+lt_is : (a b : ℕ) → nat_lt a b ≡ true → a < b
+lt_is a b e = grind (arith, nat_tests)
+
+swap_enters : (p : Placement) (q : Page) (w : ℕ) → comes_from_swap p q w ≡ true → CanEnter p (beside q w)
+swap_enters p q w e = on_swap_enters p (beside q w) (on_swap_is (state_of p (beside q w)) (and_both (is_on_swap (state_of p (beside q w))) (is_near q w) e).0)
+
+file_enters : (p : Placement) (image v w : ℕ) → comes_from_file p (Text image v) w ≡ true → CanEnter p (Text image w)
+file_enters p image v w e = let k = and_both (nat_lt w (length (slots_of p (Text image v)))) (is_unfilled (state_of p (Text image w))) e in record {
+  there = lt_is w (length (slots_of p (Text image v))) k.0;
+  frameless = ap frame_of (unfilled_is (state_of p (Text image w)) k.1);
+}
+
+-- each page of a read's run is there, and has no frame
+pub run_in_enters : (p : Placement) (q : Page) → CanEnter p q → EachPage (CanEnter p) (pages_of_run q (run_in p q))
+run_in_enters p q c = go q c (state_of p q) (spare_frames p)
+  where
+    alone : (q : Page) → CanEnter p q → EachPage (CanEnter p) (pages_of_run q (run_alone q))
+    alone q c = run_each (CanEnter p) (λ w. false) q (run_alone q) (run_alone_in (λ w. false) q) c (λ w e. absurd cc)
+
+    go : (q : Page) → CanEnter p q → (s : PageState) (spare : ℕ) → EachPage (CanEnter p) (pages_of_run q (run_in_by p q s spare))
+    go (Text image v) c OnSwap spare = run_each (CanEnter p) (comes_from_swap p (Text image v)) (Text image v) (run_up (comes_from_swap p (Text image v)) v (min 2 spare)) (run_up_in (comes_from_swap p (Text image v)) v (min 2 spare)) c (swap_enters p (Text image v))
+    go (Text image v) c Unfilled spare = run_each (CanEnter p) (comes_from_file p (Text image v)) (Text image v) (run_up (comes_from_file p (Text image v)) v (min 2 spare)) (run_up_in (comes_from_file p (Text image v)) v (min 2 spare)) c (file_enters p image v)
+    go (Text image v) c (Valid f) spare = alone (Text image v) c
+    go (Text image v) c (Invalid f) spare = alone (Text image v) c
+    go (Text image v) c (Coming f) spare = alone (Text image v) c
+    go (Text image v) c (Going f) spare = alone (Text image v) c
+    go (Data sid v) c OnSwap spare = run_each (CanEnter p) (comes_from_swap p (Data sid v)) (Data sid v) (run_both (comes_from_swap p (Data sid v)) v (min 4 spare)) (run_both_in (comes_from_swap p (Data sid v)) v (min 4 spare)) c (swap_enters p (Data sid v))
+    go (Data sid v) c Unfilled spare = alone (Data sid v) c
+    go (Data sid v) c (Valid f) spare = alone (Data sid v) c
+    go (Data sid v) c (Invalid f) spare = alone (Data sid v) c
+    go (Data sid v) c (Coming f) spare = alone (Data sid v) c
+    go (Data sid v) c (Going f) spare = alone (Data sid v) c
+    go (Stack sid v) c OnSwap spare = run_each (CanEnter p) (comes_from_swap p (Stack sid v)) (Stack sid v) (run_both (comes_from_swap p (Stack sid v)) v (min 4 spare)) (run_both_in (comes_from_swap p (Stack sid v)) v (min 4 spare)) c (swap_enters p (Stack sid v))
+    go (Stack sid v) c Unfilled spare = alone (Stack sid v) c
+    go (Stack sid v) c (Valid f) spare = alone (Stack sid v) c
+    go (Stack sid v) c (Invalid f) spare = alone (Stack sid v) c
+    go (Stack sid v) c (Coming f) spare = alone (Stack sid v) c
+    go (Stack sid v) c (Going f) spare = alone (Stack sid v) c
+
+pub read_owner : (p : Placement) (q : Page) → OwnsFrames p → CanEnter p q → OwnsFrames (read_step p q)
+read_owner p q o c = get_run_owner p (source_for (state_of p q)) q (pages_of_run q (run_in p q)) o (run_in_enters p q c) (run_apart q (run_in p q))
+
+-- one unit of serving
+pub serve_owner : (p : Placement) (locked : List Page) (q : Page) → OwnsFrames p → IsThere p q → OwnsFrames (serve_step p locked q)
+serve_owner p locked q o there = go (state_of p q) refl
+  where
+    read : (full : Bool) → CanEnter p q → OwnsFrames (read_if p q full)
+    read true c = done_owner p o
+    read false c = read_owner p q o c
+
+    bring : (s : PageState) (x : Filling) (full : Bool) → CanEnter p q → OwnsFrames (bring_by p q s x full)
+    bring Unfilled Zeros full c = fill_owner p q o c
+    bring Unfilled OfImage full c = read full c
+    bring (Valid f) x full c = read full c
+    bring (Invalid f) x full c = read full c
+    bring (Coming f) x full c = read full c
+    bring (Going f) x full c = read full c
+    bring OnSwap x full c = read full c
+
+    feed : (s : PageState) (x : Filling) (fr : List ℕ) (full : Bool) → CanEnter p q → OwnsFrames (feed_by p locked q s x fr full)
+    feed s x [] full c = force_owner p locked o
+    feed s x (f ∷ fs) full c = bring s x full c
+
+    go : (s : PageState) → state_of p q ≡ s → OwnsFrames (serve_by p locked q s)
+    go (Valid f) e = o
+    go (Invalid f) e = reclaim_owner p q o
+    go (Coming f) e = done_owner p o
+    go (Going f) e = done_owner p o
+    go Unfilled e = feed Unfilled (filling_of p q) p.free (is_full p) (record { there = there; frameless = ap frame_of e })
+    go OnSwap e = feed OnSwap (filling_of p q) p.free (is_full p) (record { there = there; frameless = ap frame_of e })

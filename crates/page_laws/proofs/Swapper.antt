@@ -1,0 +1,3 @@
+pub mod Choices
+pub mod PuttingOut
+pub mod Residences

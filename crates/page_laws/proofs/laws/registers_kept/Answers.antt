@@ -1,5 +1,0 @@
-use Rattle.page_laws.proofs.Registers.{regs_back}
-use Rattle.page_laws.proofs.laws.registers_kept.Goals as goal
-
-pub returns : goal.returns
-returns c = regs_back

@@ -1,0 +1,272 @@
+-- What a process does next is an entry of the flat machine's run.
+use Rattle.std.proofs.Common.{◌≡◌, ◌⊎◌, inl, inr, ℕ, ◌==◌, Bool, true, false, not, ◌&&◌, List, [], ◌∷◌, Option, Some, None, bytes_eq, refl, sym, ap, ◌∙◌, subst, arith, eq-eqb, if◌then◌else◌}
+use Rattle.std.proofs.lemmas.Bool.Decides.{nat_tests}
+use Rattle.std.proofs.lemmas.Slice.Eq.{bytes_eq-Decides}
+use Rattle.flat_state.specs.Flat.{FlatState, Inputs, can_step}
+use Rattle.vm_facts.specs.declared.entry.Entry.{Entry}
+use Rattle.vm_facts.specs.declared.entry.Entry.TheVariants.{Ran, Out, Grew, Call, Refused, Sleeps, Ended, Done}
+use Rattle.swap_book.specs.Holdings.{Holdings}
+use Rattle.swap_book.specs.Placing.{place_all, fits}
+use Rattle.flat_state.specs.Journal.{appended, AllUnits}
+use Rattle.flat_state.proofs.Joins.{appended_units}
+use Rattle.flat_model.specs.Step.{flat_step}
+use Rattle.flat_model.specs.Run.{Point, is_refused, step_at, behind_first, due_at, first_if, act as next_of_step, behind, point_after, same_carry, same_entry, same_as, process_of_entry, may_follow, where_so, flat_entry_if, flat_entry_by, flat_entry, flat_units, flat_run, start_point}
+use Rattle.flat_model.specs.Asked.{asks}
+use Rattle.run_model.specs.State.{State, start}
+use Rattle.run_model.specs.After.{after, state_after, AllFlat}
+use Rattle.run_model.specs.Act.{must_refuse, must_settle, act_by, act_if, act, awaits, IsNext, AllNext, LastSays}
+use Rattle.run_model.proofs.FlatRuns.{after_point, flat_is}
+use Rattle.flat_model.proofs.StepEnds.{IsStepEnd, Shape, Empty, One, Two, step_shape, Outcome, Missed, Says, refused_outcome, writes_asks}
+
+self : (n : ℕ) → (n == n) ≡ true
+self n = eq-eqb n n refl
+
+both : (a b : Bool) → a ≡ true → b ≡ true → (a && b) ≡ true
+both true b h k = k
+both false b h k = absurd cc
+
+same_number : (p pid : ℕ) → (p == pid) ≡ true → p ≡ pid
+same_number p pid h = grind (arith, nat_tests)
+
+-- An entry is the same as itself.
+
+carry_self : (c : Bool) → same_carry c c ≡ true
+carry_self true = refl
+carry_self false = refl
+
+bytes_self : (bytes : List ℕ) → bytes_eq bytes bytes ≡ true
+bytes_self bytes = (bytes_eq-Decides bytes bytes).1 refl
+
+end_self : (pid : ℕ) (e : Entry) → IsStepEnd pid e → same_entry e e ≡ true
+end_self pid (Ran p n) h = both (p == p) (n == n) (self p) (self n)
+end_self pid (Grew p n) h = both (p == p) (n == n) (self p) (self n)
+end_self pid (Call p n c r0 r1) h =
+    both (p == p) (n == n && (same_carry c c && (r0 == r0 && r1 == r1))) (self p)
+    (both (n == n) (same_carry c c && (r0 == r0 && r1 == r1)) (self n)
+    (both (same_carry c c) (r0 == r0 && r1 == r1) (carry_self c) (both (r0 == r0) (r1 == r1) (self r0) (self r1))))
+end_self pid (Sleeps p) h = self p
+end_self pid (Ended p n) h = both (p == p) (n == n) (self p) (self n)
+end_self pid _ h = absurd h
+
+-- The next entry of a step that may follow is an entry of the run.
+
+led : (A : Inputs) (point : Point) (o : Option Entry) (e : Entry) (q : Point) → o ≡ Some e → same_entry e e ≡ true → where_so (same_as o e) q ≡ Some q
+led A point o e q h k = ap (λ (x : Option Entry). where_so (same_as x e) q) h ∙ ap (λ (b : Bool). where_so b q) k
+
+-- by cases on what the entry is
+end_led : (A : Inputs) (point : Point) (pid : ℕ) (e : Entry) → IsStepEnd pid e → may_follow point.last e ≡ true → next_of_step A point pid ≡ Some e → flat_entry A point e ≡ Some (point_after A point pid)
+unfolding flat_entry
+end_led A point pid (Ran p n) h m k =
+    ap (λ (b : Bool). flat_entry_if b A point p (Ran p n)) m
+    ∙ subst (λ (x : ℕ). where_so (same_as (next_of_step A point p) (Ran p n)) (point_after A point p) ≡ Some (point_after A point x)) h
+    (led A point (next_of_step A point p) (Ran p n) (point_after A point p) (subst (λ (x : ℕ). next_of_step A point x ≡ Some (Ran p n)) (sym h) k) (end_self pid (Ran p n) h))
+end_led A point pid (Grew p n) h m k =
+    ap (λ (b : Bool). flat_entry_if b A point p (Grew p n)) m
+    ∙ subst (λ (x : ℕ). where_so (same_as (next_of_step A point p) (Grew p n)) (point_after A point p) ≡ Some (point_after A point x)) h
+    (led A point (next_of_step A point p) (Grew p n) (point_after A point p) (subst (λ (x : ℕ). next_of_step A point x ≡ Some (Grew p n)) (sym h) k) (end_self pid (Grew p n) h))
+end_led A point pid (Call p n c r0 r1) h m k =
+    ap (λ (b : Bool). flat_entry_if b A point p (Call p n c r0 r1)) m
+    ∙ subst (λ (x : ℕ). where_so (same_as (next_of_step A point p) (Call p n c r0 r1)) (point_after A point p) ≡ Some (point_after A point x)) h
+    (led A point (next_of_step A point p) (Call p n c r0 r1) (point_after A point p) (subst (λ (x : ℕ). next_of_step A point x ≡ Some (Call p n c r0 r1)) (sym h) k) (end_self pid (Call p n c r0 r1) h))
+end_led A point pid (Sleeps p) h m k =
+    ap (λ (b : Bool). flat_entry_if b A point p (Sleeps p)) m
+    ∙ subst (λ (x : ℕ). where_so (same_as (next_of_step A point p) (Sleeps p)) (point_after A point p) ≡ Some (point_after A point x)) h
+    (led A point (next_of_step A point p) (Sleeps p) (point_after A point p) (subst (λ (x : ℕ). next_of_step A point x ≡ Some (Sleeps p)) (sym h) k) (end_self pid (Sleeps p) h))
+end_led A point pid (Ended p n) h m k =
+    ap (λ (b : Bool). flat_entry_if b A point p (Ended p n)) m
+    ∙ subst (λ (x : ℕ). where_so (same_as (next_of_step A point p) (Ended p n)) (point_after A point p) ≡ Some (point_after A point x)) h
+    (led A point (next_of_step A point p) (Ended p n) (point_after A point p) (subst (λ (x : ℕ). next_of_step A point x ≡ Some (Ended p n)) (sym h) k) (end_self pid (Ended p n) h))
+end_led A point pid _ h m k = absurd h
+
+out_led : (A : Inputs) (point : Point) (pid : ℕ) (bytes : List ℕ) → may_follow point.last (Out pid bytes) ≡ true → next_of_step A point pid ≡ Some (Out pid bytes) → flat_entry A point (Out pid bytes) ≡ Some (point_after A point pid)
+unfolding flat_entry
+out_led A point pid bytes m k =
+    ap (λ (b : Bool). flat_entry_if b A point pid (Out pid bytes)) m
+    ∙ led A point (next_of_step A point pid) (Out pid bytes) (point_after A point pid) k (both (pid == pid) (bytes_eq bytes bytes) (self pid) (bytes_self bytes))
+
+-- What is due of a step.
+
+data Ready (A : Inputs) (F : FlatState) (last : Option Entry) (pid : ℕ) (es : List Entry) : Type 0 where
+  Nothing : es ≡ [] → Ready A F last pid es
+  Ends : (e : Entry) → IsStepEnd pid e → may_follow last e ≡ true → es ≡ e ∷ [] → Ready A F last pid es
+  Begins : (bytes : List ℕ) (e : Entry) → may_follow last (Out pid bytes) ≡ true → (flat_step A F pid false).entries ≡ Out pid bytes ∷ e ∷ [] → es ≡ Out pid bytes ∷ e ∷ [] → Ready A F last pid es
+
+abbrev at : FlatState → Option Entry → Point
+at F last = record { flat = F; last = last }
+
+plain_ready : (A : Inputs) (F : FlatState) (last : Option Entry) (pid : ℕ) → ((e : Entry) → may_follow last e ≡ true) → Ready A F last pid (flat_step A F pid false).entries
+plain_ready A F last pid free = go (flat_step A F pid false).entries refl (step_shape A F pid false)
+  where
+    go : (es : List Entry) → (flat_step A F pid false).entries ≡ es → Shape pid es → Ready A F last pid es
+    go es same (Empty h) = Nothing h
+    go es same (One e k h) = Ends e k (free e) h
+    go es same (Two bytes n c r0 r1 h) = Begins bytes (Call pid n c r0 r1) (free (Out pid bytes)) (same ∙ h) h
+
+refused_ready : (A : Inputs) (F : FlatState) (p pid : ℕ) → p ≡ pid → (asks A F p ≡ [] → ⊥) → Ready A F (Some (Refused p)) pid (due_at A (at F (Some (Refused p))) pid)
+refused_ready A F p pid same n =
+    subst (λ (x : ℕ). Ready A F (Some (Refused p)) x (due_at A (at F (Some (Refused p))) x)) same
+    (subst (λ (b : Bool). Ready A F (Some (Refused p)) p (flat_step A F p b).entries) (sym (self p)) (go (flat_step A F p true).entries (refused_outcome A F p n)))
+  where
+    go : (es : List Entry) → Outcome p es → Ready A F (Some (Refused p)) p es
+    go es (Missed h) = Nothing h
+    go es (Says e k o h) = Ends e k o h
+
+call_only : (pid p : ℕ) (bytes : List ℕ) (behind es : List Entry) → es ≡ Out pid bytes ∷ behind → Shape pid es
+    → (n : ℕ) × (c : Bool) × (r0 : ℕ) × (r1 : ℕ) × (behind ≡ Call pid n c r0 r1 ∷ [])
+call_only pid p bytes behind es h (Empty k) = absurd (let bad : [] ≡ Out pid bytes ∷ behind = sym k ∙ h in cc)
+call_only pid p bytes behind es h (One e i k) =
+    absurd (let same : e ∷ [] ≡ Out pid bytes ∷ behind = sym k ∙ h in let is : e ≡ Out pid bytes = cc in subst (IsStepEnd pid) is i)
+call_only pid p bytes behind es h (Two others n c r0 r1 k) =
+    (n, c, r0, r1, let same : Out pid others ∷ Call pid n c r0 r1 ∷ [] ≡ Out pid bytes ∷ behind = sym k ∙ h in let is : behind ≡ Call pid n c r0 r1 ∷ [] = cc in is)
+
+out_ready : (A : Inputs) (F : FlatState) (p pid : ℕ) (bytes : List ℕ) (rest : List Entry) → p ≡ pid → (flat_step A F p false).entries ≡ Out p bytes ∷ rest
+    → Ready A F (Some (Out p bytes)) pid (due_at A (at F (Some (Out p bytes))) pid)
+out_ready A F p pid bytes rest same h =
+    subst (λ (x : ℕ). Ready A F (Some (Out p bytes)) x (due_at A (at F (Some (Out p bytes))) x)) same
+    (go (call_only p p bytes rest (flat_step A F p false).entries h (step_shape A F p false)))
+  where
+    go : (n : ℕ) × (c : Bool) × (r0 : ℕ) × (r1 : ℕ) × (rest ≡ Call p n c r0 r1 ∷ []) → Ready A F (Some (Out p bytes)) p (due_at A (at F (Some (Out p bytes))) p)
+    go (n, c, r0, r1, k) =
+        Ends (Call p n c r0 r1) refl (self p)
+        (ap (λ (b : Bool). if b then behind_first (flat_step A F p false).entries else (flat_step A F p false).entries) (self p) ∙ ap behind_first h ∙ k)
+
+ready : (A : Inputs) (F : FlatState) (last : Option Entry) (pid : ℕ) → LastSays A F last → awaits last pid ≡ true → Ready A F last pid (due_at A (at F last) pid)
+ready A F None pid says w = plain_ready A F None pid (λ e. refl)
+ready A F (Some (Refused p)) pid says w = refused_ready A F p pid (same_number p pid w) says
+ready A F (Some (Out p bytes)) pid says w = out_ready A F p pid bytes says.0 (same_number p pid w) says.1
+ready A F (Some last) pid says w = plain_ready A F (Some last) pid (λ e. refl)
+
+-- Where an entry leads, and what the last entry then says.
+pub record Leads (A : Inputs) (point : Point) (u : Entry) : Type 0 where
+  pub to : Point
+  pub flat : flat_entry A point u ≡ Some to
+  pub says : LastSays A to.flat to.last
+
+first_is : (b : Bool) (e u : Entry) (rest : List Entry) → first_if b (e ∷ rest) ≡ Some u → e ≡ u
+first_is true e u rest h = cc
+first_is false e u rest h = absurd cc
+
+no_first : (b : Bool) (u : Entry) → first_if b [] ≡ Some u → ⊥
+no_first true u h = absurd cc
+no_first false u h = absurd cc
+
+end_says : (A : Inputs) (F : FlatState) (pid : ℕ) (e : Entry) → IsStepEnd pid e → LastSays A F (Some e)
+end_says A F pid (Out p bytes) h = absurd h
+end_says A F pid (Refused p) h = absurd h
+end_says A F pid _ h = tt
+
+step_leads : (A : Inputs) (F : FlatState) (last : Option Entry) (pid : ℕ) (u : Entry) → LastSays A F last → awaits last pid ≡ true → next_of_step A (at F last) pid ≡ Some u → Leads A (at F last) u
+step_leads A F last pid u says w h = go (due_at A (at F last) pid) refl (ready A F last pid says w)
+  where
+    go : (es : List Entry) → due_at A (at F last) pid ≡ es → Ready A F last pid es → Leads A (at F last) u
+    go es same (Nothing k) =
+        absurd (no_first (can_step F pid) u (sym (ap (first_if (can_step F pid)) (same ∙ k)) ∙ h))
+    go es same (Ends e k m l) =
+        let is : e ≡ u = first_is (can_step F pid) e u [] (sym (ap (first_if (can_step F pid)) (same ∙ l)) ∙ h) in
+        let to : point_after A (at F last) pid ≡ at (step_at A (at F last) pid).after (Some e) =
+        ap (behind (at F last) (step_at A (at F last) pid).after) (same ∙ l) in
+        record {
+          to = at (step_at A (at F last) pid).after (Some e);
+          flat = subst (λ (x : Entry). flat_entry A (at F last) x ≡ Some (at (step_at A (at F last) pid).after (Some e))) is
+              (end_led A (at F last) pid e k m (h ∙ ap (λ (x : Entry). Some x) (sym is)) ∙ ap (λ (x : Point). Some x) to);
+          says = end_says A (step_at A (at F last) pid).after pid e k;
+        }
+    go es same (Begins bytes e m k l) =
+        let is : Out pid bytes ≡ u = first_is (can_step F pid) (Out pid bytes) u (e ∷ []) (sym (ap (first_if (can_step F pid)) (same ∙ l)) ∙ h) in
+        let to : point_after A (at F last) pid ≡ at F (Some (Out pid bytes)) = ap (behind (at F last) (step_at A (at F last) pid).after) (same ∙ l) in
+        record {
+          to = at F (Some (Out pid bytes));
+          flat = subst (λ (x : Entry). flat_entry A (at F last) x ≡ Some (at F (Some (Out pid bytes)))) is
+              (out_led A (at F last) pid bytes m (h ∙ ap (λ (x : Entry). Some x) (sym is)) ∙ ap (λ (x : Point). Some x) to);
+          says = (e ∷ [], k);
+        }
+
+-- Refused pieces.
+
+refused_parts : (a b : Bool) → (not a && not b) ≡ true → (a ≡ false) × (b ≡ false)
+refused_parts true b h = absurd cc
+refused_parts false true h = absurd cc
+refused_parts false false h = (refl, refl)
+
+asks_some : (A : Inputs) (hs : Holdings) (F : FlatState) (pid : ℕ) → fits A.swap_blocks hs (asks A F pid) ≡ false → asks A F pid ≡ [] → ⊥
+unfolding place_all
+asks_some A hs F pid h k = absurd (let bad : true ≡ false = sym (ap (fits A.swap_blocks hs) k) ∙ h in cc)
+
+may_refuse : (A : Inputs) (F : FlatState) (last : Option Entry) (pid : ℕ) → LastSays A F last → awaits last pid ≡ true → is_refused last pid ≡ false → (asks A F pid ≡ [] → ⊥) → may_follow last (Refused pid) ≡ true
+may_refuse A F None pid says w r n = refl
+may_refuse A F (Some (Refused p)) pid says w r n = absurd (let bad : true ≡ false = sym w ∙ r in cc)
+may_refuse A F (Some (Out p bytes)) pid says w r n =
+    absurd (n (subst (λ (x : ℕ). asks A F x ≡ []) (same_number p pid w) (writes_asks A F p bytes says.0 says.1)))
+may_refuse A F (Some last) pid says w r n = refl
+
+refused_leads : (A : Inputs) (F : FlatState) (last : Option Entry) (pid : ℕ) → can_step F pid ≡ true → may_follow last (Refused pid) ≡ true → (asks A F pid ≡ [] → ⊥) → Leads A (at F last) (Refused pid)
+unfolding flat_entry
+refused_leads A F last pid c m n = record {
+  to = at F (Some (Refused pid));
+  flat = ap (λ (b : Bool). flat_entry_if b A (at F last) pid (Refused pid)) m ∙ ap (λ (b : Bool). where_so b (at F (Some (Refused pid)))) c;
+  says = n;
+}
+
+-- a unit that is no flat entry
+other_leads : (A : Inputs) (F : FlatState) (last : Option Entry) (u : Entry) → process_of_entry u ≡ None → LastSays A F last → Leads A (at F last) u
+unfolding flat_entry
+other_leads A F last u h says = record { to = at F last; flat = ap (λ (o : Option ℕ). flat_entry_by A (at F last) o u) h; says = says }
+
+some_entry : (e u : Entry) → Some e ≡ Some u → e ≡ u
+some_entry e u h = cc
+
+act_leads : (A : Inputs) (s : State) (u : Entry) → LastSays A s.point.flat s.point.last → IsNext A s u → Leads A s.point u
+unfolding act
+act_leads A s u says n = can (can_step s.point.flat n.pid) refl n.next
+  where
+    by : (can_step s.point.flat n.pid ≡ true) → (r t : Bool) → must_refuse A s n.pid ≡ r → act_by A s n.pid r t ≡ Some u → Leads A s.point u
+    by c true t e h =
+        let parts : (is_refused s.point.last n.pid ≡ false) × (fits A.swap_blocks s.holdings (asks A s.point.flat n.pid) ≡ false)
+        = refused_parts (is_refused s.point.last n.pid) (fits A.swap_blocks s.holdings (asks A s.point.flat n.pid)) e in
+        let some : asks A s.point.flat n.pid ≡ [] → ⊥ = asks_some A s.holdings s.point.flat n.pid parts.1 in
+        subst (Leads A s.point) (some_entry (Refused n.pid) u h)
+        (refused_leads A s.point.flat s.point.last n.pid c (may_refuse A s.point.flat s.point.last n.pid says n.awaited parts.0 some) some)
+    by c false true e h = subst (Leads A s.point) (some_entry Done u h) (other_leads A s.point.flat s.point.last Done refl says)
+    by c false false e h = step_leads A s.point.flat s.point.last n.pid u says n.awaited h
+
+    can : (b : Bool) → can_step s.point.flat n.pid ≡ b → act_if b A s n.pid ≡ Some u → Leads A s.point u
+    can true c h = by c (must_refuse A s n.pid) (must_settle A s n.pid) refl h
+    can false c h = absurd cc
+
+-- so is the state's point
+pub record LeadsOn (A : Inputs) (s : State) (u : Entry) : Type 0 where
+  pub flat : flat_entry A s.point u ≡ Some (after A s u).point
+  pub says : LastSays A (after A s u).point.flat (after A s u).point.last
+
+leads_on : (A : Inputs) (s : State) (u : Entry) → Leads A s.point u → LeadsOn A s u
+leads_on A s u l =
+    let same : (after A s u).point ≡ l.to = after_point A s u l.to l.flat in
+    record {
+      flat = l.flat ∙ ap (λ (x : Point). Some x) (sym same);
+      says = subst (λ (x : Point). LastSays A x.flat x.last) (sym same) l.says;
+    }
+
+unit_leads : (A : Inputs) (s : State) (u : Entry) → LastSays A s.point.flat s.point.last → (process_of_entry u ≡ None) ⊎ IsNext A s u → LeadsOn A s u
+unit_leads A s u says (inl h) = leads_on A s u (other_leads A s.point.flat s.point.last u h says)
+unit_leads A s u says (inr n) = leads_on A s u (act_leads A s u says n)
+
+-- what a process does next is an entry of the flat machine's run, and leads where the state goes
+pub next_flat : (A : Inputs) (s : State) (u : Entry) → LastSays A s.point.flat s.point.last → IsNext A s u → flat_entry A s.point u ≡ Some (after A s u).point
+next_flat A s u says n = (unit_leads A s u says (inr n)).flat
+
+pub next_says : (A : Inputs) (s : State) (u : Entry) → LastSays A s.point.flat s.point.last → (process_of_entry u ≡ None) ⊎ IsNext A s u → LastSays A (after A s u).point.flat (after A s u).point.last
+next_says A s u says n = (unit_leads A s u says n).says
+
+all_flat : (A : Inputs) (s : State) (us : List Entry) → LastSays A s.point.flat s.point.last → AllNext A s us → AllFlat A s us
+all_flat A s [] says n = tt
+all_flat A s (u ∷ us) says n =
+    let l : LeadsOn A s u = unit_leads A s u says n.0 in
+    (l.flat, all_flat A (after A s u) us l.says n.1)
+
+pub next_all_flat : (A : Inputs) (hs : Holdings) (us : List Entry) → AllNext A (start A hs) us → AllFlat A (start A hs) us
+next_all_flat A hs us n = all_flat A (start A hs) us tt n
+
+-- the journal that units make, each what a process does next or no flat entry, is a run of the flat machine to the state's point
+pub next_run : (A : Inputs) (hs : Holdings) (us : List Entry) → AllUnits us → AllNext A (start A hs) us → flat_run A (appended [] us) ≡ Some (state_after A (start A hs) us).point
+next_run A hs us k n =
+    ap (flat_units A (Some (start_point A))) (appended_units [] us k) ∙ flat_is A (start A hs) us (next_all_flat A hs us n)

@@ -1,0 +1,73 @@
+-- The pages that a run waits for, and those that must stay while it does.
+use Rattle.std.specs.Prelude.{◌≡◌, ℕ, Bool, true, false, List, [], ◌∷◌, ◌++◌, Option, Some, None}
+use Rattle.flat_state.specs.Flat.{FlatState, Inputs}
+use Rattle.vm_facts.specs.declared.page.Page.{Page}
+use Rattle.page_model.specs.Pages.{is_valid}
+use Rattle.page_model.specs.Placement.{Placement, Due, Start, CopyOf, state_of}
+use Rattle.page_model.specs.Conditions.{EachPage}
+use Rattle.run_model.specs.declared.mark.Mark.{Mark}
+use Rattle.run_model.specs.declared.mark.Mark.TheVariants as marks
+use Rattle.flat_model.specs.Touched.{touched}
+use Rattle.run_model.specs.State.{State}
+
+-- the process that runs under a mark, a dispatch or a turn
+abbrev pub running : Mark → Option ℕ
+running (marks.Dispatch pid count since) = Some pid
+running (marks.Turn pid since) = Some pid
+running _ = None
+
+abbrev pub touched_by : Inputs → FlatState → Option ℕ → List Page
+touched_by A F None = []
+touched_by A F (Some pid) = touched A F pid
+
+-- the pages that the next instruction of the running process touches, in order
+abbrev pub touched_next : Inputs → State → List Page
+touched_next A s = touched_by A s.point.flat (running s.mark)
+
+abbrev pub AllValid : Placement → List Page → Type 0
+AllValid p qs = EachPage (λ q. is_valid (state_of p q) ≡ true) qs
+
+abbrev pub absent_by : Bool → Page → Option Page → Option Page
+absent_by true q other = other
+absent_by false q other = Some q
+
+-- the first of these pages that isn't valid
+abbrev pub first_absent : Placement → List Page → Option Page
+first_absent p [] = None
+first_absent p (q ∷ qs) = absent_by (is_valid (state_of p q)) q (first_absent p qs)
+
+abbrev pub present_by : Bool → Page → List Page → List Page
+present_by true q qs = q ∷ qs
+present_by false q qs = []
+
+-- those before it
+abbrev pub before_absent : Placement → List Page → List Page
+before_absent p [] = []
+before_absent p (q ∷ qs) = present_by (is_valid (state_of p q)) q (before_absent p qs)
+
+abbrev pub wanted_by : Inputs → State → List Due → Option Page
+wanted_by A s [] = first_absent s.place (touched_next A s)
+wanted_by A s (Start q ∷ due) = first_absent s.place (touched_next A s)
+wanted_by A s (CopyOf child parent ∷ due) = first_absent s.place (parent ∷ [])
+
+-- the page that is served next: the first touched one that isn't valid; while a child's page is due, the parent's
+-- page where it isn't valid
+abbrev pub wanted : Inputs → State → Option Page
+wanted A s = wanted_by A s s.place.due
+
+abbrev pub locked_by : Inputs → State → List Due → List Page
+locked_by A s [] = before_absent s.place (touched_next A s)
+locked_by A s (Start q ∷ due) = []
+locked_by A s (CopyOf child parent ∷ due) = parent ∷ []
+
+-- the pages that the hands pass over: the touched ones before the first that isn't valid; while a child's page is
+-- due, the parent's page, and while a stack page is due, none
+abbrev pub locked : Inputs → State → List Page
+locked A s = locked_by A s s.place.due
+
+-- Among these pages those before the first that isn't valid, that one, and those behind it.
+pub record Splits (p : Placement) (pages before : List Page) (q : Page) : Type 0 where
+  pub behind : List Page
+  pub whole : pages ≡ before ++ q ∷ behind
+  pub valid : AllValid p before
+  pub absent : is_valid (state_of p q) ≡ false
