@@ -1,5 +1,5 @@
 -- The flat machine's states: which process can step, and the state in which a run starts.
-use Rattle.std.specs.Prelude.{ℕ, zero, suc, ◌+◌, ◌-◌, ◌*◌, ◌/◌, ◌==◌, Bool, true, false, List, [], ◌∷◌, ◌++◌, length, replicate, flat_map, find, slice_set, slice_get, Option, Some, None, if◌then◌else◌, ◌≡◌, ◌≤◌, ◌||◌, ◌%◌, ◌^◌, ◌<◌}
+use Rattle.std.specs.Prelude.{ℕ, zero, suc, ◌+◌, ◌-◌, ◌*◌, ◌/◌, ◌==◌, Bool, true, false, List, [], ◌∷◌, ◌++◌, length, replicate, flat_map, find, slice_set, slice_get, Option, Some, None, if◌then◌else◌}
 use Rattle.flat_state.specs.Space.{Space, stack_top}
 use Rattle.vm_facts.specs.declared.event.Event.{Event}
 use Rattle.vm_facts.specs.declared.regs.Regs.{Regs}

@@ -1,5 +1,5 @@
 -- Spaces that are lent: each is with its child, or with one further on, and no child has two lenders.
-use Rattle.std.specs.Prelude.{◌≡◌, ◌≢◌, ℕ, ◌<◌, true, [], ◌∷◌, Option, Some, None}
+use Rattle.std.specs.Prelude.{◌≡◌, ℕ, true, Option, Some, None}
 use Rattle.flat_state.specs.Flat.{Holding, Holds, Lends, Zombie, Process, FlatState, process_of}
 use Rattle.flat_state.specs.Change.{lends_to}
 

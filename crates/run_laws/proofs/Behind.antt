@@ -48,7 +48,7 @@ use Rattle.run_model.specs.Wanted.{AllValid}
 use Rattle.run_model.specs.After.{written_by, written_in, pages_written, place_at, after}
 use Rattle.run_model.specs.Act.{loses_pages}
 use Rattle.run_model.specs.Kinds.{Runs}
-use Rattle.run_laws.specs.Machine.{write_bytes, write_held, write_by, written_step, taken_step, takes_step, change_step, process_step, ran_step, OutRegs, Keeps, StandsAt}
+use Rattle.run_laws.specs.Machine.{write_bytes, write_held, write_by, written_step, taken_step, takes_step, passing_change, process_step, ran_step, OutRegs, Keeps, StandsAt}
 use Rattle.run_laws.proofs.Writing.{SameSpace, space_tables}
 use Rattle.run_laws.proofs.Written.{Mid, Rest, IsValidAt, AllWritable, WroteAll, write_all}
 use Rattle.run_laws.proofs.Landing.{Landed, Found, step_landed}
@@ -312,7 +312,7 @@ step_reaches A s k image u images execs numbers lenders at h valid = record {
     settled l = ap (λ (p : Placement). is_settled p z.sid) place1 ∙ ap (is_settled p1) same.sid ∙ touched_settled written s.place x.space.sid
         ∙ settled_when A s pid x.process x.space x.here x.holds h.unsettling (sym (loses step.change (is_borrower flat.processes pid)) ∙ l)
 
-    landed : Landed A (apply_change A.images flat1 pid step.regs step.change) k2 (change_step (is_borrower flat.processes pid) A.images k2 pid step.regs u step.change) image pid z.sid (is_borrower flat.processes pid) u step.change (given_up flat1 (apply_change A.images flat1 pid step.regs step.change) pid z step.change found.0)
+    landed : Landed A (apply_change A.images flat1 pid step.regs step.change) k2 (passing_change (is_borrower flat.processes pid) A.images k2 pid step.regs u step.change) image pid z.sid (is_borrower flat.processes pid) u step.change (given_up flat1 (apply_change A.images flat1 pid step.regs step.change) pid z step.change found.0)
     landed = step_landed A k2 flat1 image s.holdings pid step.regs u q1 z (is_borrower flat.processes pid) step.change changing lenders1 borrows (λ o. settles_for k1.place z (is_borrower flat.processes pid) step.change o fits1 settled) ready
 
     sid_is : z.sid ≡ space_of_process (process_of flat pid)
@@ -322,8 +322,8 @@ step_reaches A s k image u images execs numbers lenders at h valid = record {
     journal1 = rest.journal ∙ at.journal
 
     changes : Reaches A s u (process_step A s k pid u) image
-    changes = subst (λ (y : Kernel). Reaches A s u (change_step (is_borrower flat.processes pid) A.images y pid step.regs u step.change) image) (sym k2_is) (record {
-      mid = subst (λ (y : FlatState). Mid A y (change_step (is_borrower flat.processes pid) A.images k2 pid step.regs u step.change) image) (sym flat_is) landed.mid;
+    changes = subst (λ (y : Kernel). Reaches A s u (passing_change (is_borrower flat.processes pid) A.images y pid step.regs u step.change) image) (sym k2_is) (record {
+      mid = subst (λ (y : FlatState). Mid A y (passing_change (is_borrower flat.processes pid) A.images k2 pid step.regs u step.change) image) (sym flat_is) landed.mid;
       place = landed.place
           ∙ ap (λ (p : Placement). place_change A.images p pid z.sid (is_borrower flat.processes pid) k1.next_sid (length (append k1.journal u)) step.change) place1
           ∙ ap (λ (n : ℕ). place_change A.images p1 pid n (is_borrower flat.processes pid) k1.next_sid (length (append k1.journal u)) step.change) sid_is

@@ -19,7 +19,7 @@ use Rattle.kernel_model.specs.ChangeStep.{change_if, change_step, pass_step}
 use Rattle.flat_model.specs.Touched.{page_tested}
 use Rattle.flat_model.specs.Run.{step_at}
 use Rattle.run_model.specs.State.{State}
-use Rattle.run_laws.specs.Machine.{place_in, write_into, write_page, write_byte, write_bytes, write_held, write_by, lender_among, keeps_step, back_step, change_step, written_step, taken_step, process_step, unit_step}
+use Rattle.run_laws.specs.Machine.{place_in, write_into, write_page, write_byte, write_bytes, write_held, write_by, lender_among, keeps_step, back_step, passing_change, written_step, taken_step, process_step, unit_step}
 
 page_goes : (k : Kernel) (o : Option Page) (at byte : ℕ) → (write_page k o at byte).stopped ≡ k.stopped
 page_goes k None at byte = refl
@@ -76,7 +76,7 @@ back_goes images k pid regs e (End status) = flat_goes images (pass_step k pid (
 step_goes : (A : Inputs) (s : State) (k : Kernel) (pid : ℕ) (e : Entry) → (process_step A s k pid e).stopped ≡ k.stopped
 step_goes A s k pid e = go (is_borrower s.point.flat.processes pid) ∙ by_goes k (process_of s.point.flat pid) (step_at A s.point pid).writes
   where
-    go : (b : Bool) → (change_step b A.images (taken_step A s k pid) pid (step_at A s.point pid).regs e (step_at A s.point pid).change).stopped ≡ (written_step A s k pid).stopped
+    go : (b : Bool) → (passing_change b A.images (taken_step A s k pid) pid (step_at A s.point pid).regs e (step_at A s.point pid).change).stopped ≡ (written_step A s k pid).stopped
     go true = back_goes A.images (taken_step A s k pid) pid (step_at A s.point pid).regs e (step_at A s.point pid).change
     go false = keeps_goes A.images (taken_step A s k pid) pid (step_at A s.point pid).regs e (step_at A s.point pid).change
 

@@ -45,7 +45,7 @@ use Rattle.kernel_laws.proofs.Machine.Processes.{Stepping, stepping}
 use Rattle.flat_laws.proofs.Asking.{own_space, shared_same, no_sharers, some_sharers, change_same}
 use Rattle.flat_model.specs.Asked.{is_shared, given_up}
 use Rattle.run_laws.specs.Standing.{Own}
-use Rattle.run_laws.specs.Machine.{lends_life, lender_among, keeps_step, back_step, change_step}
+use Rattle.run_laws.specs.Machine.{lends_life, lender_among, keeps_step, back_step, passing_change}
 use Rattle.run_laws.proofs.Changes.{given_same}
 use Rattle.run_laws.proofs.OwnChanges.{Changing, keeps_place, keeps_holdings, own_false, end_false, own_told, takes_next, may_reap, own_kept, own_lands}
 use Rattle.run_laws.proofs.OwnChanges as own
@@ -292,7 +292,7 @@ back_landed A k flat image before pid regs e q s change c lend w gb x =
 
 pub step_landed : (A : Inputs) (k : Kernel) (flat : FlatState) (image : List ℕ) (before : Holdings) (pid : ℕ) (regs : Regs) (e : Entry) (q : Process) (s : Space) (b : Bool) (change : Change) → Changing A flat k.place before k.holdings pid q s change → LendsStand flat → is_borrower flat.processes pid ≡ b
     → (Own b change → SettlesFor k.place s.sid change) → Found A flat k image before
-    → Landed A (apply_change A.images flat pid regs change) k (change_step b A.images k pid regs e change) image pid s.sid b e change (given_up flat (apply_change A.images flat pid regs change) pid s change k.holdings)
+    → Landed A (apply_change A.images flat pid regs change) k (passing_change b A.images k pid regs e change) image pid s.sid b e change (given_up flat (apply_change A.images flat pid regs change) pid s change k.holdings)
 step_landed A k flat image before pid regs e q s false change c lend w settles x = own_landed A k flat image before pid regs e q s false change c w (own_of change) (settles (own_of change)) x
   where
     own_of : (y : Change) → Own false y

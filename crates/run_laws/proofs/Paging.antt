@@ -22,7 +22,7 @@ use Rattle.page_model.specs.Rank.{HandsStand}
 use Rattle.kernel_model.specs.Numbers.{EachBelow, AllDiffer, Numbered}
 use Rattle.kernel_model.specs.Stands.{Stands, holds_some}
 use Rattle.kernel_laws.proofs.Flat.Numbered.{eq_is}
-use Rattle.kernel_laws.proofs.Sound.Steps.{KeepsHands, entry_keep}
+use Rattle.page_laws.proofs.Moves.KeptHands.{KeepsHands, entry_keep}
 use Rattle.page_laws.proofs.Moves.Stays.{Steady, Stays, move_stays, done_steady}
 use Rattle.page_laws.proofs.Bytes.Others.{put_steady}
 use Rattle.page_laws.proofs.Blocks.Steps.{place_entry_one}

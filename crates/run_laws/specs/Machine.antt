@@ -99,9 +99,9 @@ back_step images k pid regs e (End status) = change_step images (pass_step k pid
 back_step images k pid regs e change = keeps_step images k pid regs e change
 
 -- an entry of a process with its change, by whether the process borrowed its space
-abbrev pub change_step : Bool → List NamedImage → Kernel → ℕ → Regs → Entry → Change → Kernel
-change_step true = back_step
-change_step false = keeps_step
+abbrev pub passing_change : Bool → List NamedImage → Kernel → ℕ → Regs → Entry → Change → Kernel
+passing_change true = back_step
+passing_change false = keeps_step
 
 -- pieces find their places
 abbrev pub takes_step : Inputs → Kernel → List Wanted → Kernel
@@ -118,7 +118,7 @@ taken_step A s k pid = takes_step A (written_step A s k pid) (wanted_if A.images
 -- the whole step
 abbrev pub process_step : Inputs → State → Kernel → ℕ → Entry → Kernel
 process_step A s k pid e =
-    change_step (is_borrower s.point.flat.processes pid) A.images (taken_step A s k pid) pid (step_at A s.point pid).regs e (step_at A s.point pid).change
+    passing_change (is_borrower s.point.flat.processes pid) A.images (taken_step A s k pid) pid (step_at A s.point pid).regs e (step_at A s.point pid).change
 
 abbrev pub ran_step : Inputs → State → Kernel → ℕ → ℕ → Kernel
 ran_step A s k pid n = ran_by (written_step A s k pid) pid (step_at A s.point pid).regs (entries.Ran pid n)
