@@ -47,6 +47,7 @@ pub struct Filling {
 }
 
 impl Model for Filling {
+    ghost use Rattle.frame_state.specs.Frame.{Frame};
 
     ghost Value = { Frame };
 
@@ -60,6 +61,7 @@ pub struct Resident {
 }
 
 impl Model for Resident {
+    ghost use Rattle.frame_state.specs.Frame.{Frame};
 
     ghost Value = { Frame };
 
@@ -73,6 +75,7 @@ pub struct Cleaning {
 }
 
 impl Model for Cleaning {
+    ghost use Rattle.frame_state.specs.Frame.{Frame};
 
     ghost Value = { Frame };
 

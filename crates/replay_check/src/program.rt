@@ -18,7 +18,7 @@ pub struct Flat {
 
 impl Model for Flat {
     ghost use Rattle.std.specs.Prelude.{string_bytes};
-    ghost use Rattle.replay_check.specs.Images.{FlatFile, IsFit};
+    ghost use Rattle.replay_check.specs.Images.{FlatFile};
 
     ghost Value = { FlatFile };
 
@@ -36,6 +36,7 @@ pub struct Program {
 
 impl Model for Program {
     ghost use Rattle.flat_state.specs.Flat.{NamedImage};
+    ghost use Rattle.replay_check.specs.Images.{IsFit};
 
     ghost Value = { NamedImage };
 
