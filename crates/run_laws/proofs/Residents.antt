@@ -225,7 +225,7 @@ puts_it A s pid r all e =
     let m : (s.place.due ≡ []) × (holds_some (process_of s.point.flat pid) ≡ true) × (is_out s.place pid ≡ false) = subst (MarkStands s) e r.mark in
     record { clear = m.0; holds = m.1; inside = m.2; resident = all.each pid (holder_lives s.point.flat pid m.1) }
 
-put_unit : (A : Inputs) (s : State) (pid : ℕ) → s.place.due ≡ [] → s.mark ≡ marks.PutOut pid → next_unit A s ≡ Some (put_out_unit s.place pid (space_of_process (process_of s.point.flat pid)))
+pub put_unit : (A : Inputs) (s : State) (pid : ℕ) → s.place.due ≡ [] → s.mark ≡ marks.PutOut pid → next_unit A s ≡ Some (put_out_unit s.place pid (space_of_process (process_of s.point.flat pid)))
 unfolding next_unit
 put_unit A s pid d e =
     ap (λ (ds : List Rattle.page_model.specs.Placement.Due). or_else (due_unit s.place ds) (or_else (under A s s.mark) (next_mark A s))) d
