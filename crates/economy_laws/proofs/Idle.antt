@@ -325,7 +325,7 @@ none_counted (entries.Call p n c r0 r1) h = absurd cc
 none_counted (entries.Ended p n) h = absurd cc
 none_counted _ h = refl
 
-lines_more : (A : Inputs) (s : State) (u : Entry) → s.lines ≤ (after A s u).lines
+pub lines_more : (A : Inputs) (s : State) (u : Entry) → s.lines ≤ (after A s u).lines
 unfolding after
 lines_more A s (entries.Event line) = omega arith
 lines_more A s _ = omega arith

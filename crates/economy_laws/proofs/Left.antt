@@ -165,16 +165,24 @@ stays_in A s u pid n l o h = elim (entry_out (locked A s) (place_at s u) s.place
   | inr k ↦ absurd (l k)
 ]
 
--- What is wanted and locked in a turn.
+-- What is wanted and locked while a process runs.
 
-pub next_is : (A : Inputs) (s : State) (pid : ℕ) → IsClosing A s pid → touched_next A s ≡ touched A s.point.flat pid
-next_is A s pid c = ap (touched_by A s.point.flat) (ap running c.mark)
+pub next_on : (A : Inputs) (s : State) (pid : ℕ) → running s.mark ≡ Some pid → touched_next A s ≡ touched A s.point.flat pid
+next_on A s pid m = ap (touched_by A s.point.flat) m
+
+pub wanted_on : (A : Inputs) (s : State) (pid : ℕ) → running s.mark ≡ Some pid → s.place.due ≡ [] → wanted A s ≡ first_absent s.place (touched A s.point.flat pid)
+wanted_on A s pid m d = ap (wanted_by A s) d ∙ ap (first_absent s.place) (next_on A s pid m)
+
+pub locked_on : (A : Inputs) (s : State) (pid : ℕ) → running s.mark ≡ Some pid → s.place.due ≡ [] → locked A s ≡ before_absent s.place (touched A s.point.flat pid)
+locked_on A s pid m d = ap (locked_by A s) d ∙ ap (before_absent s.place) (next_on A s pid m)
+
+-- and in a turn
 
 pub wanted_is : (A : Inputs) (s : State) (pid : ℕ) → IsClosing A s pid → s.place.due ≡ [] → wanted A s ≡ first_absent s.place (touched A s.point.flat pid)
-wanted_is A s pid c d = ap (wanted_by A s) d ∙ ap (first_absent s.place) (next_is A s pid c)
+wanted_is A s pid c d = wanted_on A s pid (ap running c.mark) d
 
 pub locked_is : (A : Inputs) (s : State) (pid : ℕ) → IsClosing A s pid → s.place.due ≡ [] → locked A s ≡ before_absent s.place (touched A s.point.flat pid)
-locked_is A s pid c d = ap (locked_by A s) d ∙ ap (before_absent s.place) (next_is A s pid c)
+locked_is A s pid c d = locked_on A s pid (ap running c.mark) d
 
 pub split_there : (A : Inputs) (s : State) (pid : ℕ) (before : List Page) (q : Page) → IsRun A s → Splits s.place (touched A s.point.flat pid) before q → IsThere s.place q
 split_there A s pid before q r k =

@@ -15,3 +15,4 @@ pub mod Growing
 pub mod Extending
 pub mod Growth
 pub mod Crowds
+pub mod Finishing

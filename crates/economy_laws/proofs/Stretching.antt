@@ -225,7 +225,7 @@ copy_next A s u pid b n m q parent ds few r r2 c2 l d v i = go s.place.free refl
 
 -- A process that comes in.
 
-resident_out : (rs : List Residence) (pid : ℕ) → (residence_of rs pid).out ≡ true → numbered (λ (r : Residence). r.pid) pid rs ≢ None
+pub resident_out : (rs : List Residence) (pid : ℕ) → (residence_of rs pid).out ≡ true → numbered (λ (r : Residence). r.pid) pid rs ≢ None
 resident_out [] pid e = λ z. absurd cc
 resident_out (r ∷ rs) pid e = go (r.pid == pid) refl (resident_out rs pid)
   where

@@ -1,4 +1,5 @@
 ghost use Rattle.std.specs.Prelude.{◌≡◌, ℕ, ◌+◌, ◌*◌, ◌<◌, ◌≤◌, Bool, true, List, [], ◌∷◌, ◌++◌, length, Some};
+ghost use Rattle.swap_book.specs.Holdings.{Holdings};
 ghost use Rattle.vm_facts.specs.declared.page.Page.{Page};
 ghost use Rattle.vm_facts.specs.declared.entry.Entry.{Entry};
 ghost use Rattle.flat_state.specs.Flat.{Inputs};
@@ -9,12 +10,12 @@ ghost use Rattle.page_model.specs.Placement.{Placement, state_of, IsThere};
 ghost use Rattle.page_model.specs.Serve.{Forces, Serves};
 ghost use Rattle.page_model.specs.Rank.{HandsStand, HasRoom};
 ghost use Rattle.page_model.specs.Ownership.{OwnsFrames};
-ghost use Rattle.run_model.specs.State.{State};
+ghost use Rattle.run_model.specs.State.{State, start};
 ghost use Rattle.run_model.specs.After.{after};
 ghost use Rattle.kernel_model.specs.Start.{ImagesFit};
 ghost use Rattle.run_model.specs.Next.{next_unit};
-ghost use Rattle.run_model.specs.Lawful.{Follows};
-ghost use Rattle.run_laws.specs.Running.{IsRun};
+ghost use Rattle.run_model.specs.Lawful.{Follows, IsFinished};
+ghost use Rattle.run_laws.specs.Running.{IsRun, CanRun};
 ghost use Rattle.economy_laws.specs.Spans.{ends_moving, added, takings, moves_of};
 ghost use Rattle.economy_laws.specs.Worth.{stored_pages, renews, Happens};
 ghost use Rattle.economy_laws.specs.Stretch.{begins_stretch, NoneBegins, copies_of, IsClosing, turns_of, NoneCounts, ready_count};
@@ -64,4 +65,11 @@ pub fn idle_turns_are_few()
     ensures turns { (A : Inputs) (s t : State) (us : List Entry) → ImagesFit A.images → IsRun A s → length A.lines ≤ s.lines → Follows A s us t → NoneCounts us → turns_of us ≤ ready_count s.point.flat.processes }
     ensures crowd { (A : Inputs) (s t : State) (us : List Entry) → ImagesFit A.images → IsRun A s → length s.point.flat.processes ≤ 64 → Follows A s us t → length t.point.flat.processes ≤ 64 }
     ensures most { (A : Inputs) (s : State) → ready_count s.point.flat.processes ≤ length s.point.flat.processes }
+{}
+
+/// A whole run ends. Inputs that can run, with 64 frames and up, have a finished run: next units lead from the start to a
+/// state that has none. And no list of next units from the start is longer than some number.
+pub fn runs_finish()
+    ensures finished { (A : Inputs) (hs : Holdings) → CanRun A hs → 64 ≤ A.frames → (journal : List Entry) × ((s : State) × IsFinished A journal s) }
+    ensures bounded { (A : Inputs) (hs : Holdings) → CanRun A hs → 64 ≤ A.frames → (most : ℕ) × ((us : List Entry) (t : State) → Follows A (start A hs) us t → length us ≤ most) }
 {}
