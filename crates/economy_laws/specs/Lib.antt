@@ -1,3 +1,4 @@
 pub mod Spans
 pub mod Worth
 pub mod Stretch
+pub mod Finishes

@@ -14,8 +14,9 @@ ghost use Rattle.run_model.specs.State.{State, start};
 ghost use Rattle.run_model.specs.After.{after};
 ghost use Rattle.kernel_model.specs.Start.{ImagesFit};
 ghost use Rattle.run_model.specs.Next.{next_unit};
-ghost use Rattle.run_model.specs.Lawful.{Follows, IsFinished};
+ghost use Rattle.run_model.specs.Lawful.{Follows, Reaches, IsFinished};
 ghost use Rattle.run_laws.specs.Running.{IsRun, CanRun};
+ghost use Rattle.economy_laws.specs.Finishes.{Finishes};
 ghost use Rattle.economy_laws.specs.Spans.{ends_moving, added, takings, moves_of};
 ghost use Rattle.economy_laws.specs.Worth.{stored_pages, renews, Happens};
 ghost use Rattle.economy_laws.specs.Stretch.{begins_stretch, NoneBegins, copies_of, IsClosing, turns_of, NoneCounts, ready_count};
@@ -68,8 +69,11 @@ pub fn idle_turns_are_few()
 {}
 
 /// A whole run ends. Inputs that can run, with 64 frames and up, have a finished run: next units lead from the start to a
-/// state that has none. And no list of next units from the start is longer than some number.
+/// state that has none, and so they do from each state that a run reaches. No list of next units from the start is longer
+/// than some number, and there is no other finished run.
 pub fn runs_finish()
     ensures finished { (A : Inputs) (hs : Holdings) → CanRun A hs → 64 ≤ A.frames → (journal : List Entry) × ((s : State) × IsFinished A journal s) }
+    ensures reached { (A : Inputs) (hs : Holdings) (journal : List Entry) (s : State) → CanRun A hs → 64 ≤ A.frames → Reaches A journal s → Finishes A s }
     ensures bounded { (A : Inputs) (hs : Holdings) → CanRun A hs → 64 ≤ A.frames → (most : ℕ) × ((us : List Entry) (t : State) → Follows A (start A hs) us t → length us ≤ most) }
+    ensures once { (A : Inputs) (journal other : List Entry) (s t : State) → IsFinished A journal s → IsFinished A other t → (journal ≡ other) × (s ≡ t) }
 {}

@@ -6,7 +6,7 @@
 //! - `forcing_is_short` and `serving_is_short`: few more than the number by which the transfers in flight fall.
 //! - `stretches_are_short` and `idle_turns_are_few`: from a turn or a counted instruction to the next, and turns in a row.
 //! - `writes_are_worth_it`: what stands between two writes of one page.
-//! - `runs_finish`: inputs that can run, with 64 frames and up, have a finished run.
+//! - `runs_finish`: inputs that can run, with 64 frames and up, have one finished run.
 #![tactic(auto)]
 
 mod laws;

@@ -29,9 +29,10 @@ use Rattle.run_laws.specs.Running.{IsRun}
 use Rattle.run_laws.proofs.Allowed.{first_after}
 use Rattle.run_laws.proofs.Room.{run_room}
 use Rattle.run_laws.proofs.Units.{plain_place, owns, not_due}
+use Rattle.economy_laws.specs.Finishes.{Finishes}
 use Rattle.economy_laws.proofs.Left.{serve_due_same, after_forced, after_served}
 use Rattle.economy_laws.proofs.Stretching.{source_of}
-use Rattle.economy_laws.proofs.Finishing.Stages.{Finishes, Stage, finish_known, IsLasting, mark_lasts, stands}
+use Rattle.economy_laws.proofs.Finishing.Stages.{Stage, finish_known, IsLasting, mark_lasts, stands}
 
 due_next : (A : Inputs) (s : State) (d : Due) (ds : List Due) → s.place.due ≡ d ∷ ds → next_unit A s ≡ or_else (due_unit s.place (d ∷ ds)) (or_else (under A s s.mark) (next_mark A s))
 unfolding next_unit

@@ -26,8 +26,9 @@ use Rattle.run_laws.proofs.Flows.{plain_point}
 use Rattle.run_laws.proofs.Plain.{put_flat}
 use Rattle.run_laws.proofs.Residents.{put_unit, put_falls}
 use Rattle.run_laws.proofs.Units.{plain_place}
+use Rattle.economy_laws.specs.Finishes.{Finishes}
 use Rattle.economy_laws.proofs.Serving.{done_less}
-use Rattle.economy_laws.proofs.Finishing.Stages.{Finishes, is_boundary, Stage, finish_on, finish_known, mark_boundary}
+use Rattle.economy_laws.proofs.Finishing.Stages.{is_boundary, Stage, finish_on, finish_known, mark_boundary}
 use Rattle.economy_laws.proofs.Finishing.Dues.{due_ends}
 
 -- with nothing due the next unit is the mark's, or the next mark
@@ -78,7 +79,8 @@ move_ends (suc n) A P count s g fewer p mk lt = go (λ t. move_ends n A P count 
     d : s.place.due ≡ []
     d = subst (MarkStands s) mk r.mark
 
-    moves : ((t : State) → P t → t.mark ≡ marks.Hands count → length t.place.transfers < n → Finishes A t) → 0 < count → (b : Bool) → (begins_write s.place (locked A s) && is_full s.place) ≡ b → next_unit A s ≡ Some (move_by b) → Finishes A s
+    moves : ((t : State) → P t → t.mark ≡ marks.Hands count → length t.place.transfers < n → Finishes A t) → 0 < count
+        → (b : Bool) → (begins_write s.place (locked A s) && is_full s.place) ≡ b → next_unit A s ≡ Some (move_by b) → Finishes A s
     moves more some true e h = finish_known A P s entries.Done g p h (λ b p2.
         let pl : (after A s entries.Done).place ≡ done s.place = plain_place A s entries.Done refl in
         let full = full_some s.place (both_true (begins_write s.place (locked A s)) (is_full s.place) e).1 in
@@ -122,7 +124,8 @@ put_ends (suc n) A P pid sid s g p mk i lt = finish_on A P s g p (go (λ t. put_
     same : (a b : Entry) → Some a ≡ Some b → a ≡ b
     same a b e = cc
 
-    go : ((t : State) → P t → t.mark ≡ marks.PutOut pid → space_of_process (process_of t.point.flat pid) ≡ sid → put_rank t.place pid sid < n → Finishes A t) → (u : Entry) → next_unit A s ≡ Some u → is_boundary u ≡ false → P (after A s u) → Finishes A (after A s u)
+    go : ((t : State) → P t → t.mark ≡ marks.PutOut pid → space_of_process (process_of t.point.flat pid) ≡ sid → put_rank t.place pid sid < n → Finishes A t)
+        → (u : Entry) → next_unit A s ≡ Some u → is_boundary u ≡ false → P (after A s u) → Finishes A (after A s u)
     go more u h b p2 =
         let is : u ≡ put_out_unit s.place pid (space_of_process (process_of s.point.flat pid)) = same u (put_out_unit s.place pid (space_of_process (process_of s.point.flat pid))) (sym h ∙ put_unit A s pid d mk) in
         let point = plain_point A s u (ap process_of_entry is ∙ put_flat s.place pid (space_of_process (process_of s.point.flat pid))) in

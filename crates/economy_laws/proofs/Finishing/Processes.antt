@@ -37,13 +37,14 @@ use Rattle.run_laws.proofs.Room.{run_few, run_room}
 use Rattle.run_laws.proofs.Settling.{settles}
 use Rattle.run_laws.proofs.Units.{plain_place, owns}
 use Rattle.economy_laws.specs.Stretch.{Grown}
+use Rattle.economy_laws.specs.Finishes.{Finishes}
 use Rattle.economy_laws.proofs.Growing.{all_grown}
 use Rattle.economy_laws.proofs.Growth.{growth_touches}
 use Rattle.economy_laws.proofs.Left.{serve_due_same, after_served, stays_in, wanted_on, locked_on, split_there, split_longer, before_short, is_closed}
 use Rattle.economy_laws.proofs.Serving.{done_less}
 use Rattle.economy_laws.proofs.Sleeping.{sleep_stops}
 use Rattle.economy_laws.proofs.Stretching.{Slept, open_last, resident_out}
-use Rattle.economy_laws.proofs.Finishing.Stages.{Finishes, is_boundary, Stage, finish_on, mark_boundary, quiet_stretch, IsLasting, mark_lasts, stands}
+use Rattle.economy_laws.proofs.Finishing.Stages.{is_boundary, Stage, finish_on, mark_boundary, quiet_stretch, IsLasting, mark_lasts, stands}
 use Rattle.economy_laws.proofs.Finishing.Dues.{due_ends}
 
 -- a process runs that is in, and nothing is due

@@ -1,6 +1,6 @@
 -- A run finishes, where next units lead to a state that has none. Stages of it: between units that begin a mark or count
 -- an instruction.
-use Rattle.std.proofs.Common.{◌≡◌, ℕ, ◌≤◌, Bool, true, false, List, [], ◌∷◌, Option, Some, None, refl}
+use Rattle.std.proofs.Common.{◌≡◌, ℕ, ◌≤◌, Bool, true, false, [], ◌∷◌, Option, Some, None, refl}
 use Rattle.vm_facts.specs.declared.entry.Entry.{Entry}
 use Rattle.vm_facts.specs.declared.entry.Entry.TheVariants as entries
 use Rattle.flat_state.specs.Flat.{Inputs}
@@ -12,19 +12,12 @@ use Rattle.run_model.specs.declared.mark.Mark.TheVariants as marks
 use Rattle.run_model.specs.State.{State}
 use Rattle.run_model.specs.After.{completed, moved_on, brought_in, put_out, audited, after}
 use Rattle.run_model.specs.Next.{next_mark, next_unit}
-use Rattle.run_model.specs.Lawful.{Follows}
 use Rattle.run_laws.specs.Standing.{Placed, machine_of}
 use Rattle.run_laws.specs.Running.{IsRun}
 use Rattle.run_laws.specs.Residing.{AllResident}
 use Rattle.run_laws.proofs.Settling.{IsMark, begins_is}
 use Rattle.economy_laws.specs.Stretch.{begins_stretch}
-
--- next units lead from here to a state with none
-pub record Finishes (A : Inputs) (s : State) : Type 0 where
-  pub units : List Entry
-  pub last : State
-  pub leads : Follows A s units last
-  pub none : next_unit A last ≡ None
+use Rattle.economy_laws.specs.Finishes.{Finishes}
 
 finish_by : (A : Inputs) (s : State) → ((u : Entry) → next_unit A s ≡ Some u → Finishes A (after A s u)) → Finishes A s
 finish_by A s on = go (next_unit A s) refl
@@ -84,7 +77,8 @@ IsLasting (marks.Turn pid since) = Unit {0}
 IsLasting _ = ⊥
 
 -- what a unit makes of them
-same_mark : (f : Mark → Mark) → ((pid count since : ℕ) → f (marks.Dispatch pid count since) ≡ marks.Dispatch pid count since) → ((pid since : ℕ) → f (marks.Turn pid since) ≡ marks.Turn pid since) → f marks.Over ≡ marks.Over → (m : Mark) → IsLasting m → f m ≡ m
+same_mark : (f : Mark → Mark) → ((pid count since : ℕ) → f (marks.Dispatch pid count since) ≡ marks.Dispatch pid count since)
+    → ((pid since : ℕ) → f (marks.Turn pid since) ≡ marks.Turn pid since) → f marks.Over ≡ marks.Over → (m : Mark) → IsLasting m → f m ≡ m
 same_mark f d t o marks.Over l = o
 same_mark f d t o (marks.Dispatch pid count since) l = d pid count since
 same_mark f d t o (marks.Turn pid since) l = t pid since

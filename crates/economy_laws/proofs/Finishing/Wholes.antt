@@ -1,6 +1,6 @@
 -- A whole run: a counted instruction leaves fewer to count, a line fewer lines, and a turn in which none is counted fewer
 -- such turns.
-use Rattle.std.proofs.Common.{◌≡◌, ◌⊎◌, inl, inr, ℕ, zero, suc, ◌+◌, ◌-◌, ◌<◌, ◌≤◌, nat_lt, Bool, true, false, List, [], ◌∷◌, length, Option, Some, None, refl, sym, ap, ◌∙◌, subst, arith}
+use Rattle.std.proofs.Common.{◌≡◌, ◌⊎◌, inl, inr, ℕ, zero, suc, ◌+◌, ◌-◌, ◌<◌, ◌≤◌, nat_lt, Bool, true, false, List, [], ◌∷◌, length, Option, Some, None, Result, Ok, refl, sym, ap, ◌∙◌, subst, arith}
 use Rattle.std.proofs.lemmas.Bool.Decides.{nat_tests}
 use Rattle.vm_facts.specs.declared.entry.Entry.{Entry}
 use Rattle.vm_facts.specs.declared.entry.Entry.TheVariants as entries
@@ -17,7 +17,8 @@ use Rattle.run_model.specs.Wanted.{locked}
 use Rattle.run_model.specs.After.{after}
 use Rattle.run_model.specs.Next.{when, turn_of, next_turned, last_turned, line_or_turn, next_mark, next_unit}
 use Rattle.run_model.specs.Kinds.{Kind, Fills, Brings, Copies, Serves, Acts, ComesIn, Interrupts, Moves, PutsOut, Notes, Begins}
-use Rattle.run_model.specs.Lawful.{Follows, Reaches, IsFinished}
+use Rattle.run_model.specs.Lawful.{Follows, Reaches, IsLawful, IsFinished}
+use Rattle.run_model.proofs.Followed.{followed_once}
 use Rattle.run_model.proofs.After.{after_count}
 use Rattle.run_model.proofs.NextUnits.{kind_of}
 use Rattle.run_laws.specs.Running.{IsRun, CanRun, IsReady}
@@ -25,12 +26,13 @@ use Rattle.run_laws.specs.Residing.{AllResident}
 use Rattle.run_laws.proofs.Flows.{Acted, Settles, Refuses, Steps, acted, steps_own}
 use Rattle.run_laws.proofs.Lawful.{next_is_unit}
 use Rattle.run_laws.proofs.Plain.{IsPaging, serve_paging, zero_paging, copy_paging, move_paging}
-use Rattle.run_laws.proofs.Residents.{start_resides, unit_resides}
+use Rattle.run_laws.proofs.Residents.{start_resides, unit_resides, reached_resides}
 use Rattle.run_laws.proofs.Settling.{IsMark}
-use Rattle.run_laws.proofs.Wholes.{start_run, unit_run, unit_ready, reached_lawful}
+use Rattle.run_laws.proofs.Wholes.{start_run, unit_run, unit_ready, reached_run, reached_lawful}
 use Rattle.economy_laws.specs.Stretch.{turns, turns_of, counts, NoneCounts, ready_count}
+use Rattle.economy_laws.specs.Finishes.{Finishes}
 use Rattle.economy_laws.proofs.Idle.{few_turns}
-use Rattle.economy_laws.proofs.Finishing.Stages.{Finishes, is_boundary, Stage}
+use Rattle.economy_laws.proofs.Finishing.Stages.{is_boundary, Stage}
 use Rattle.economy_laws.proofs.Finishing.Marks.{still_ends}
 use Rattle.economy_laws.proofs.Finishing.Processes.{process_ends}
 
@@ -74,7 +76,8 @@ mark_next A s u h m = go (kind_of A s u h)
     go (ComesIn pid e c i) = other (entries.SwapIn pid) i (λ z. z)
     go (Interrupts e k i) = other entries.Done i (λ z. z)
     go (Moves count e k l w i) = paging _ i (move_paging s.place (locked A s))
-    go (PutsOut pid e k i) = unit_case (λ (x : Entry). u ≡ x → next_mark A s ≡ Some u) s.place pid (space_of_process (process_of s.point.flat pid)) (λ t ts z j. other entries.Done j (λ y. y)) (λ v a z y j. other _ j (λ x. x)) (λ a z j. other _ j (λ x. x)) i
+    go (PutsOut pid e k i) = unit_case (λ (x : Entry). u ≡ x → next_mark A s ≡ Some u) s.place pid (space_of_process (process_of s.point.flat pid))
+        (λ t ts z j. other entries.Done j (λ y. y)) (λ v a z y j. other _ j (λ x. x)) (λ a z j. other _ j (λ x. x)) i
     go (Notes e k i) = other _ i (λ z. z)
     go (Begins e k i) = i
 
@@ -239,6 +242,10 @@ run_finishes A hs c frames =
     let r : Reaches A (appended [] k.units) k.last = record { holdings = hs; found = c.pieces; units = k.units; follows = k.leads; joined = refl } in
     (appended [] k.units, (k.last, record { lawful = reached_lawful A hs (appended [] k.units) k.last c r; none = k.none }))
 
+-- So does each run that has begun.
+pub reached_finishes : (A : Inputs) (hs : Holdings) (journal : List Entry) (s : State) → CanRun A hs → 64 ≤ A.frames → Reaches A journal s → Finishes A s
+reached_finishes A hs journal s c frames r = run_ends A s c.images frames (reached_run A hs journal s c r) (reached_resides A hs journal s c r)
+
 -- No list of next units is longer than that which leads to the end.
 
 no_more : (A : Inputs) (s t r : State) (us vs : List Entry) → Follows A s us t → next_unit A t ≡ None → Follows A s vs r → length vs ≤ length us
@@ -251,3 +258,20 @@ no_more A s t r (u ∷ us) (v ∷ vs) f n g =
 
 pub run_bounded : (A : Inputs) (hs : Holdings) → CanRun A hs → 64 ≤ A.frames → (most : ℕ) × ((us : List Entry) (t : State) → Follows A (start A hs) us t → length us ≤ most)
 run_bounded A hs c frames = let k : Finishes A (start A hs) = start_ends A hs c frames in (length k.units, λ us t f. no_more A (start A hs) k.last t k.units us k.leads k.none f)
+
+-- Two finished runs of the same inputs are one.
+
+followed_same : (A : Inputs) (s t r : State) (us vs : List Entry) → Follows A s us t → next_unit A t ≡ None → Follows A s vs r → next_unit A r ≡ None → (us ≡ vs) × (t ≡ r)
+followed_same A s t r us vs f n g m = followed_once A s t r us vs f g (let a = no_more A s t r us vs f n g in let b = no_more A s r t vs us g m f in omega arith)
+
+held_same : (a b : Holdings) → (let x : Result Holdings ℕ = Ok a in x) ≡ Ok b → a ≡ b
+held_same a b e = cc
+
+pub finished_once : (A : Inputs) (journal other : List Entry) (s t : State) → IsFinished A journal s → IsFinished A other t → (journal ≡ other) × (s ≡ t)
+finished_once A journal other s t f g =
+    let l : IsLawful A journal s = f.lawful in
+    let m : IsLawful A other t = g.lawful in
+    let x : Reaches A journal s = l.reaches in
+    let y : Reaches A other t = m.reaches in
+    let k = followed_same A (start A x.holdings) s t x.units y.units x.follows f.none (subst (λ (hs : Holdings). Follows A (start A hs) y.units t) (held_same y.holdings x.holdings (sym y.found ∙ x.found)) y.follows) g.none in
+    (sym x.joined ∙ ap (appended []) k.0 ∙ y.joined, k.1)
