@@ -7,3 +7,4 @@ pub mod Blocks
 pub mod Due
 pub mod Starts
 pub mod Swapper
+pub mod Runs

@@ -2,7 +2,7 @@ ghost use Rattle.std.specs.Prelude.{◌≡◌, ◌≢◌, ◌⊎◌, ℕ, ◌+�
 ghost use Rattle.flat_state.specs.Flat.{FlatState, NamedImage, process_of};
 ghost use Rattle.vm_facts.specs.declared.page.Page.{Page};
 ghost use Rattle.vm_facts.specs.declared.page.Page.TheVariants.{Data, Stack, Text};
-ghost use Rattle.vm_facts.specs.declared.page.PageState.TheVariants.{Valid, Unfilled};
+ghost use Rattle.vm_facts.specs.declared.page.PageState.TheVariants.{Valid, Going, Unfilled, OnSwap};
 ghost use Rattle.vm_facts.specs.declared.entry.Entry.{Entry};
 ghost use Rattle.aout_image.specs.declared.Image.{Image};
 ghost use Rattle.aout_image.specs.Image.{data_pages_of};
@@ -11,7 +11,7 @@ ghost use Rattle.swap_book.specs.Book.{IsBook};
 ghost use Rattle.flat_state.specs.declared.change.Change.{Change as AnyChange};
 ghost use Rattle.page_model.specs.Pages.{is_valid};
 ghost use Rattle.flat_state.specs.PageNames.{number_of};
-ghost use Rattle.page_model.specs.Placement.{Placement, Transfer, Source, Reads, slots_of, state_of, IsThere, data_filling, mark_of, Starting, start_placement};
+ghost use Rattle.page_model.specs.Placement.{Placement, Transfer, Source, Reads, slots_of, state_of, is_dirty, page_of, IsThere, data_filling, mark_of, Starting, start_placement};
 ghost use Rattle.page_model.specs.Moves.{touch_all, touch, reclaim, done, get_run, drop_all};
 ghost use Rattle.page_model.specs.Hands.{hand_move};
 ghost use Rattle.page_model.specs.Place.{due_after, moved, place_entry, place_step, place_change, filled, put_step, space_of_process, is_borrower, resize, fork_space, enter_space, remove_space, pages_of_space, leave_text};
@@ -24,6 +24,10 @@ ghost use Rattle.page_model.specs.PageBytes.{zeros, Bytes, CouplesPages, SamePag
 ghost use Rattle.page_model.specs.Stored.{stored, store_at};
 ghost use Rattle.page_model.specs.Swapping.{ComesIn, GoesOut, NoneMoves};
 ghost use Rattle.page_model.specs.PuttingOut.{IsResident, put_rank, EndsPuttingOut};
+ghost use Rattle.page_model.specs.Runs.{run_in, run_out, run_put, run_alone};
+ghost use Rattle.page_laws.specs.Neighbours.{IsWidest, IsLongest, MayRead, IsSwappedBeside, IsUnfilledBeside, IsIdleBeside, IsSeatedBeside};
+ghost use Rattle.page_model.specs.Frames.{times};
+ghost use Rattle.page_laws.specs.Sweeping.{MayBeSwept};
 ghost use Rattle.page_model.specs.Dues.{DueStand, LeavesDue, NotDue};
 
 /// What a run begins with is as the other laws ask: no page is filled, dirty or saved; each frame is free; and the hands
@@ -178,4 +182,26 @@ pub fn putting_out_ends()
     ensures due { (locked : List Page) (at : ℕ) (p : Placement) (pid sid : ℕ) → OwnsFrames p → DueStand p → DueStand (place_entry locked at p (put_out_unit p pid sid)) }
     ensures falls { (locked : List Page) (at : ℕ) (p : Placement) (pid sid : ℕ) → OwnsFrames p → IsResident p pid → is_out p pid ≡ false → put_rank (place_entry locked at p (put_out_unit p pid sid)) pid sid < put_rank p pid sid }
     ensures whole { (at : ℕ) (p : Placement) (pid sid : ℕ) → OwnsFrames p → length p.transfers ≤ most_in_flight → IsResident p pid → is_out p pid ≡ false → EndsPuttingOut at p pid sid }
+{}
+
+/// Which pages are read or written with a page. Of data and stack at most 4 pages come from swap at once, of one chunk,
+/// those above before those below; of text at most 2, upwards, on swap in one piece, or all unfilled; and of a data page
+/// that comes from the image it alone. The hands write at most 16 at once, of one chunk or piece, all idle, dirty and not
+/// locked; a put 16, upwards, all dirty in frames off the free list, and of a clean page it alone. No further page could
+/// be added.
+pub fn runs_are_widest()
+    ensures data_in { (p : Placement) (q : Page) → IsWritable q → state_of p q ≡ OnSwap → IsWidest (IsSwappedBeside p q) (MayRead p 4) (number_of q) (run_in p q) }
+    ensures text_in { (p : Placement) (image v : ℕ) → state_of p (Text image v) ≡ OnSwap → IsLongest (IsSwappedBeside p (Text image v)) (MayRead p 2) v (run_in p (Text image v)) }
+    ensures file_in { (p : Placement) (image v : ℕ) → state_of p (Text image v) ≡ Unfilled → IsLongest (IsUnfilledBeside p (Text image v)) (MayRead p 2) v (run_in p (Text image v)) }
+    ensures alone_in { (p : Placement) (q : Page) → IsWritable q → state_of p q ≡ Unfilled → run_in p q ≡ run_alone q }
+    ensures out { (p : Placement) (locked : List Page) (q : Page) → IsWidest (IsIdleBeside p locked q) (λ n. n ≤ 16) (number_of q) (run_out p locked q) }
+    ensures put { (p : Placement) (q : Page) → is_dirty p q ≡ true → IsLongest (IsSeatedBeside p q) (λ n. n ≤ 16) (number_of q) (run_put p q) }
+    ensures alone_put { (p : Placement) (q : Page) → is_dirty p q ≡ false → run_put p q ≡ run_alone q }
+{}
+
+/// A move of the hands frees only clean pages, and begins to write only dirty ones. Each of them isn't locked, and was
+/// invalid in a frame off the free list, or is made so by the same move.
+pub fn moves_take_idle_pages()
+    ensures freed { (p : Placement) (locked : List Page) (f : ℕ) → OwnsFrames p → times f p.free ≡ 0 → 0 < times f (hand_move p locked).free → (w : Page) × (page_of p f ≡ Some w) × MayBeSwept p locked w f × (is_dirty p w ≡ false) }
+    ensures written { (p : Placement) (locked : List Page) (w : Page) (f : ℕ) → OwnsFrames p → state_of (hand_move p locked) w ≡ Going f → (state_of p w ≡ Going f) ⊎ (MayBeSwept p locked w f × (is_dirty p w ≡ true)) }
 {}

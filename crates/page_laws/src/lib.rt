@@ -21,14 +21,17 @@
 //!   change of a process.
 //! - `putting_out_ends`: a process is out after so many units at most.
 //! - `residence_moves`: a process goes in or out alone.
+//! - `runs_are_widest`: which neighbours of a page are read or written with it, and that none could be added.
+//! - `moves_take_idle_pages`: what a move of the hands frees or writes was invalid, off the free list and not locked.
 //!
-//! Lemmas, by folder of proofs/: Lists, Ownership, Moves, Bytes, Blocks, Due, Ends and Swapper.
+//! Lemmas, by folder of proofs/: Lists, Ownership, Moves, Bytes, Blocks, Due, Ends, Swapper and
+//! Runs. What the laws say more than once, by file of specs/: Neighbours and Sweeping.
 #![tactic(auto)]
 
 pub mod laws;
 
 pub use laws::{
-    blocks_kept, due_kept, few_transfers, forcing_ends, memory_kept, others_same, ownership_kept,
-    putting_out_ends, residence_moves, serving_ends, serving_units, spaces_kept, start_stands,
-    swapper_chooses,
+    blocks_kept, due_kept, few_transfers, forcing_ends, memory_kept, moves_take_idle_pages,
+    others_same, ownership_kept, putting_out_ends, residence_moves, runs_are_widest, serving_ends,
+    serving_units, spaces_kept, start_stands, swapper_chooses,
 };

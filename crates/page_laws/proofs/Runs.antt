@@ -1,0 +1,3 @@
+pub mod Widest
+pub mod Neighbours
+pub mod Sweeping
