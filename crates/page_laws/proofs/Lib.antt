@@ -8,3 +8,4 @@ pub mod Due
 pub mod Starts
 pub mod Swapper
 pub mod Runs
+pub mod Leaving

@@ -1,2 +1,3 @@
 pub mod Neighbours
 pub mod Sweeping
+pub mod Leaving

@@ -6,7 +6,8 @@ ghost use Rattle.vm_facts.specs.declared.page.PageState.TheVariants.{Valid, Goin
 ghost use Rattle.vm_facts.specs.declared.entry.Entry.{Entry};
 ghost use Rattle.aout_image.specs.declared.Image.{Image};
 ghost use Rattle.aout_image.specs.Image.{data_pages_of};
-ghost use Rattle.swap_book.specs.Holdings.{Holdings};
+ghost use Rattle.swap_book.specs.Holdings.{Holdings, block_in};
+ghost use Rattle.swap_book.specs.declared.Owner.TheVariants.{U};
 ghost use Rattle.swap_book.specs.Book.{IsBook};
 ghost use Rattle.flat_state.specs.declared.change.Change.{Change as AnyChange};
 ghost use Rattle.page_model.specs.Pages.{is_valid};
@@ -28,6 +29,8 @@ ghost use Rattle.page_model.specs.Runs.{run_in, run_out, run_put, run_alone};
 ghost use Rattle.page_laws.specs.Neighbours.{IsWidest, IsLongest, MayRead, IsSwappedBeside, IsUnfilledBeside, IsIdleBeside, IsSeatedBeside};
 ghost use Rattle.page_model.specs.Frames.{times};
 ghost use Rattle.page_laws.specs.Sweeping.{MayBeSwept};
+ghost use Rattle.page_model.specs.Pages.{frame_of};
+ghost use Rattle.page_laws.specs.Leaving.{StaysOrTaken, StaysOrGivenUp, IsUnwritten, StaysOrWritten};
 ghost use Rattle.page_model.specs.Dues.{DueStand, LeavesDue, NotDue};
 
 /// What a run begins with is as the other laws ask: no page is filled, dirty or saved; each frame is free; and the hands
@@ -85,7 +88,8 @@ pub fn spaces_kept()
 
 /// What a step leaves alone is the same in both machines: every page at a move of the hands, a reclaim and a put; every
 /// other page at a fill and a user write; every page outside the run at the beginning of a read, and outside the
-/// transfer at its end.
+/// transfer at its end. So is every page as a process goes out, whose u page is no page's, or comes in; and at each change
+/// of a process every page beside which the same bytes stand.
 pub fn others_same()
     ensures hands { (p : Placement) (locked : List Page) (b : Bytes) (w : Page) → SamePage p (hand_move p locked) b b w }
     ensures fill { (p : Placement) (q : Page) (f : ℕ) (rest : List ℕ) (b : Bytes) (bytes : List ℕ) (w : Page) → OwnsFrames p → p.free ≡ f ∷ rest → w ≢ q → SamePage p (filled p q) b (with_frame b f bytes) w }
@@ -94,6 +98,9 @@ pub fn others_same()
     ensures put { (p : Placement) (q : Page) (qs : List Page) (b : Bytes) (w : Page) → SamePage p (put_step p q qs) b b w }
     ensures reclaim { (p : Placement) (q : Page) (b : Bytes) (w : Page) → SamePage p (reclaim p q) b b w }
     ensures write { (p : Placement) (q : Page) (f : ℕ) (b c : Bytes) (bytes : List ℕ) (w : Page) → OwnsFrames p → state_of p q ≡ Valid f → WritesBoth b c q f bytes → w ≢ q → SamePage p (touch p q) b c w }
+    ensures residence { (p : Placement) (pid : ℕ) (out : Bool) (at : ℕ) (b : Bytes) (w : Page) → SamePage p (moved p pid out at) b b w }
+    ensures u_page { (size pid : ℕ) (hs : Holdings) (image bytes : List ℕ) (w : Page) → IsBook size hs → 512 * size ≤ length image → length bytes ≡ 1024 → stored hs (store_at image (block_in hs (U pid) 0) bytes) w ≡ stored hs image w }
+    ensures change { (images : List NamedImage) (p : Placement) (pid sid new at : ℕ) (lent : Bool) (x : AnyChange) (b c : Bytes) (w : Page) → IsNew p new → SameBytes b c w → SamePage p (place_change images p pid sid lent new at x) b c w }
 {}
 
 /// Forcing a frame ends: `far` falls with each unit, whatever is locked. With nothing in flight it is at most one
@@ -204,4 +211,13 @@ pub fn runs_are_widest()
 pub fn moves_take_idle_pages()
     ensures freed { (p : Placement) (locked : List Page) (f : ℕ) → OwnsFrames p → times f p.free ≡ 0 → 0 < times f (hand_move p locked).free → (w : Page) × (page_of p f ≡ Some w) × MayBeSwept p locked w f × (is_dirty p w ≡ false) }
     ensures written { (p : Placement) (locked : List Page) (w : Page) (f : ℕ) → OwnsFrames p → state_of (hand_move p locked) w ≡ Going f → (state_of p w ≡ Going f) ⊎ (MayBeSwept p locked w f × (is_dirty p w ≡ true)) }
+{}
+
+/// How a page leaves its frame. By a paging entry only if that takes the frame from the free list, for a fill or a read;
+/// and by a change of a process only if the change gives the page up. What must be written first, dirty pages and text
+/// that isn't saved, stays in its frame and off the free list through each paging entry, till the end of its write.
+pub fn frames_are_left()
+    ensures entry { (locked : List Page) (at : ℕ) (p : Placement) (e : Entry) (q : Page) (f : ℕ) → OwnsFrames p → CanPlace p e → frame_of (state_of p q) ≡ Some f → StaysOrTaken p e (place_entry locked at p e) q f }
+    ensures change { (images : List NamedImage) (p : Placement) (pid sid next at : ℕ) (lent : Bool) (change : AnyChange) (q : Page) → IsNew p next → StaysOrGivenUp p sid lent change (place_change images p pid sid lent next at change) q }
+    ensures written { (locked : List Page) (at : ℕ) (p : Placement) (e : Entry) (q : Page) (f : ℕ) → OwnsFrames p → CanPlace p e → IsUnwritten p q f → StaysOrWritten p e (place_entry locked at p e) q f }
 {}

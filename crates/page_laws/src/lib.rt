@@ -23,15 +23,16 @@
 //! - `residence_moves`: a process goes in or out alone.
 //! - `runs_are_widest`: which neighbours of a page are read or written with it, and that none could be added.
 //! - `moves_take_idle_pages`: what a move of the hands frees or writes was invalid, off the free list and not locked.
+//! - `frames_are_left`: when a page leaves its frame, and that what must be written stays in its till it was.
 //!
-//! Lemmas, by folder of proofs/: Lists, Ownership, Moves, Bytes, Blocks, Due, Ends, Swapper and
-//! Runs. What the laws say more than once, by file of specs/: Neighbours and Sweeping.
+//! Lemmas, by folder of proofs/: Lists, Ownership, Moves, Bytes, Blocks, Due, Ends, Swapper, Runs
+//! and Leaving. What the laws say more than once, by file of specs/: Neighbours, Sweeping and Leaving.
 #![tactic(auto)]
 
 pub mod laws;
 
 pub use laws::{
-    blocks_kept, due_kept, few_transfers, forcing_ends, memory_kept, moves_take_idle_pages,
-    others_same, ownership_kept, putting_out_ends, residence_moves, runs_are_widest, serving_ends,
-    serving_units, spaces_kept, start_stands, swapper_chooses,
+    blocks_kept, due_kept, few_transfers, forcing_ends, frames_are_left, memory_kept,
+    moves_take_idle_pages, others_same, ownership_kept, putting_out_ends, residence_moves,
+    runs_are_widest, serving_ends, serving_units, spaces_kept, start_stands, swapper_chooses,
 };

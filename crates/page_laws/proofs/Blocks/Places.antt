@@ -86,7 +86,7 @@ store_own size hs image bytes q x book l lb e =
     let w = page_within size hs q x book e in
     ap (λ (o : Option ℕ). stored_at (store_at image o bytes) o) e ∙ blocks_put_same image bytes x (omega arith) lb
 
-stored_other : (image bytes : List ℕ) (x : ℕ) (o : Option ℕ) → 512 * x + 1024 ≤ length image → length bytes ≡ 1024 → ((y : ℕ) → o ≡ Some y → (x + 2 ≤ y) ⊎ (y + 2 ≤ x)) → stored_at (put_blocks image x bytes) o ≡ stored_at image o
+pub stored_other : (image bytes : List ℕ) (x : ℕ) (o : Option ℕ) → 512 * x + 1024 ≤ length image → length bytes ≡ 1024 → ((y : ℕ) → o ≡ Some y → (x + 2 ≤ y) ⊎ (y + 2 ≤ x)) → stored_at (put_blocks image x bytes) o ≡ stored_at image o
 stored_other image bytes x None l lb n = refl
 stored_other image bytes x (Some y) l lb n = blocks_put_other image bytes x y l lb (n y refl)
 

@@ -131,13 +131,13 @@ pub record IsBlank (p : Placement) (w : Page) : Type 0 where
 absent_blank : (p : Placement) (w : Page) → length (slots_of p w) ≤ number_of w → IsBlank p w
 absent_blank p w l = let e = get_or_past (slots_of p w) (number_of w) no_slot l in record { state = ap (λ (x : Slot). x.state) e; mark = ap (λ (x : Slot). x.mark) e }
 
-there_or : (p : Placement) (w : Page) → (IsThere p w) ⊎ (length (slots_of p w) ≤ number_of w)
+pub there_or : (p : Placement) (w : Page) → (IsThere p w) ⊎ (length (slots_of p w) ≤ number_of w)
 there_or p w = le_or (number_of w) (length (slots_of p w))
   where
     le_or : (a b : ℕ) → (a < b) ⊎ (b ≤ a)
     le_or a b = grind arith
 
-blank_put : (p : Placement) (v : Page) → IsBlank (put p v Unfilled false) v
+pub blank_put : (p : Placement) (v : Page) → IsBlank (put p v Unfilled false) v
 blank_put p v = elim (there_or p v) [
   | inl l ↦ record { state = put_state p v Unfilled false l; mark = put_mark p v Unfilled false l }
   | inr l ↦ absent_blank (put p v Unfilled false) v (let h = put_length p v Unfilled false v in omega arith)

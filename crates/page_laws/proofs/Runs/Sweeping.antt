@@ -127,13 +127,15 @@ swept_freed p locked f o z l = of (page_of p p.back) refl l
     still : (0 < times f p.free) → ⊥
     still m = omega arith
 
-    by : (q : Page) (g : ℕ) (d : Bool) → state_of p q ≡ Invalid g → times p.back p.free ≡ 0 → is_among q locked ≡ false → is_dirty p q ≡ d → page_of p p.back ≡ Some q → 0 < times f (sweep_by p locked q d).free → (w : Page) × (page_of p f ≡ Some w) × IsTaken p locked w f false
+    by : (q : Page) (g : ℕ) (d : Bool) → state_of p q ≡ Invalid g → times p.back p.free ≡ 0 → is_among q locked ≡ false → is_dirty p q ≡ d → page_of p p.back ≡ Some q
+        → 0 < times f (sweep_by p locked q d).free → (w : Page) × (page_of p f ≡ Some w) × IsTaken p locked w f false
     by q g true e n k d h m = absurd (still (subst (λ (xs : List ℕ). 0 < times f xs) (launch_all_free (pages_of_run q (run_out p locked q)) (begin p Writes)) m))
     by q g false e n k d h m =
         let same : g ≡ f = retired p q g f e z m in
         (q, o.names q f (ap frame_of e ∙ ap (λ (x : ℕ). Some x) same), record { state = e ∙ ap Invalid same; off = z; unlocked = k; mark = d })
 
-    to : (q : Page) (s : PageState) (n : ℕ) (b : Bool) → state_of p q ≡ s → times p.back p.free ≡ n → is_among q locked ≡ b → page_of p p.back ≡ Some q → 0 < times f (sweep_to p locked q s n b).free → (w : Page) × (page_of p f ≡ Some w) × IsTaken p locked w f false
+    to : (q : Page) (s : PageState) (n : ℕ) (b : Bool) → state_of p q ≡ s → times p.back p.free ≡ n → is_among q locked ≡ b → page_of p p.back ≡ Some q → 0 < times f (sweep_to p locked q s n b).free
+        → (w : Page) × (page_of p f ≡ Some w) × IsTaken p locked w f false
     to q (Invalid g) zero false e n k h m = by q g (is_dirty p q) e n k refl h m
     to q (Invalid g) zero true e n k h m = absurd (still m)
     to q (Invalid g) (suc i) b e n k h m = absurd (still m)
@@ -213,7 +215,8 @@ swept_going p locked w f o l = of (page_of p p.back) refl l
     ]
     by q g false e n k d m = inl (retire_going p q w g f e m)
 
-    to : (q : Page) (s : PageState) (n : ℕ) (b : Bool) → state_of p q ≡ s → times p.back p.free ≡ n → is_among q locked ≡ b → page_of p p.back ≡ Some q → state_of (sweep_to p locked q s n b) w ≡ Going f → (state_of p w ≡ Going f) ⊎ IsTaken p locked w f true
+    to : (q : Page) (s : PageState) (n : ℕ) (b : Bool) → state_of p q ≡ s → times p.back p.free ≡ n → is_among q locked ≡ b → page_of p p.back ≡ Some q
+        → state_of (sweep_to p locked q s n b) w ≡ Going f → (state_of p w ≡ Going f) ⊎ IsTaken p locked w f true
     to q (Invalid g) zero false e n k h m =
         let same : p.back ≡ g = some_is p.back g (sym (o.named p.back q h) ∙ ap frame_of e) in
         by q g (is_dirty p q) e (ap (λ (x : ℕ). times x p.free) (sym same) ∙ n) k refl m

@@ -1,5 +1,6 @@
 use Rattle.page_laws.proofs.Moves.Stays.{move_stays}
 use Rattle.page_laws.proofs.Bytes.Others.{stays_same, filled_same, get_run_same, put_same, reclaim_same, touch_same, done_same}
+use Rattle.page_laws.proofs.Leaving.Same.{change_same, residence_same, out_same}
 use Rattle.page_laws.proofs.laws.others_same.Goals as goal
 
 pub returns-clause-hands : goal.returns-clause-hands
@@ -22,3 +23,12 @@ returns-clause-reclaim c = reclaim_same
 
 pub returns-clause-write : goal.returns-clause-write
 returns-clause-write c = touch_same
+
+pub returns-clause-residence : goal.returns-clause-residence
+returns-clause-residence c = residence_same
+
+pub returns-clause-u_page : goal.returns-clause-u_page
+returns-clause-u_page c = λ size pid hs image bytes. out_same size hs image bytes pid
+
+pub returns-clause-change : goal.returns-clause-change
+returns-clause-change c = λ images p pid sid next at lent. change_same images p pid sid lent next at
