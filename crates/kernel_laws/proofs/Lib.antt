@@ -4,4 +4,5 @@ pub mod Flat
 pub mod Sound
 pub mod Pieces
 pub mod Stands
+pub mod Kept
 pub mod Worked

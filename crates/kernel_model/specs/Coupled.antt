@@ -1,5 +1,5 @@
 -- The machine stands for a flat state: the same processes and spaces, and the bytes of each page where its state says.
-use Rattle.std.specs.Prelude.{◌≡◌, ℕ, ◌+◌, ◌*◌, ◌≤◌, ◌==◌, Bool, true, false, ◌||◌, List, [], ◌∷◌, ◌++◌, length, map, Option, Some, None, ◌/◌, ◌%◌, ◌^◌, ◌<◌}
+use Rattle.std.specs.Prelude.{◌≡◌, ℕ, ◌*◌, Bool, true, false, List, [], ◌∷◌, length, map, Option, Some, None}
 use Rattle.flat_state.specs.Space.{Space}
 use Rattle.flat_state.specs.Flat.{Process, FlatState, NamedImage, image_numbered, spaces_of}
 use Rattle.vm_facts.specs.declared.page.Page.{Page}

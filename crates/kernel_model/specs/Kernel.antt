@@ -1,5 +1,5 @@
 -- The whole machine as lists, and what each of its steps does to them.
-use Rattle.std.specs.Prelude.{◌≡◌, ℕ, ◌+◌, ◌*◌, ◌≤◌, ◌==◌, Bool, cond, not, ◌||◌, List, [], ◌∷◌, ◌++◌, length, map, filter, set, Option, Some, None, ◌/◌, ◌%◌, ◌^◌, ◌<◌}
+use Rattle.std.specs.Prelude.{ℕ, ◌==◌, Bool, cond, not, List, [], ◌∷◌, length, map, filter, set, Option, Some, None}
 use Rattle.flat_state.specs.Flat.{Holding, Holds, Lends, Zombie}
 use Rattle.vm_facts.specs.declared.page.Page.{Page}
 use Rattle.vm_facts.specs.declared.regs.Regs.{Regs}

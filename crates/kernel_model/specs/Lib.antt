@@ -8,3 +8,5 @@ pub mod Taken
 pub mod Numbers
 pub mod Stands
 pub mod Start
+pub mod Unit
+pub mod Invariant

@@ -1,5 +1,5 @@
 -- What the coupling of a machine asks beside it.
-use Rattle.std.specs.Prelude.{◌≡◌, ◌≢◌, ℕ, ◌<◌, Bool, true, false, List, [], ◌∷◌, Option, Some, None}
+use Rattle.std.specs.Prelude.{◌≡◌, ℕ, Bool, true, false, List, Option, Some, None}
 use Rattle.flat_state.specs.Flat.{Process, FlatState, NamedImage, process_of, holds_space}
 use Rattle.page_model.specs.Placement.{Placement}
 use Rattle.page_model.specs.Swapper.{is_out}

@@ -1,5 +1,5 @@
 -- What is so right before a change of a process: the pieces that it takes were found, and nothing was given back yet.
-use Rattle.std.specs.Prelude.{◌≡◌, ◌≢◌, ℕ, ◌*◌, false, cond, List, [], ◌∷◌, ◌++◌, length, drop}
+use Rattle.std.specs.Prelude.{◌≡◌, ℕ, ◌*◌, false, cond, List, [], ◌∷◌, ◌++◌, length, drop}
 use Rattle.vm_facts.specs.declared.page.Page.TheVariants.{Text}
 use Rattle.swap_dmap.specs.Chunks.{pieces}
 use Rattle.swap_book.specs.declared.Owner.{Owner}

@@ -48,7 +48,8 @@ use Rattle.run_model.specs.Wanted.{AllValid}
 use Rattle.run_model.specs.After.{written_by, written_in, pages_written, place_at, after}
 use Rattle.run_model.specs.Act.{loses_pages}
 use Rattle.run_model.specs.Kinds.{Runs}
-use Rattle.run_laws.specs.Machine.{write_bytes, write_held, write_by, written_step, taken_step, takes_step, passing_change, process_step, ran_step, OutRegs, Keeps, StandsAt}
+use Rattle.kernel_model.specs.Unit.{passing_change}
+use Rattle.run_laws.specs.Machine.{write_bytes, write_held, write_by, written_step, taken_step, takes_step, process_step, ran_step, OutRegs, Keeps, StandsAt}
 use Rattle.run_laws.proofs.Writing.{SameSpace, space_tables}
 use Rattle.run_laws.proofs.Written.{Mid, Rest, IsValidAt, AllWritable, WroteAll, write_all}
 use Rattle.run_laws.proofs.Landing.{Landed, Found, step_landed}

@@ -19,7 +19,8 @@ use Rattle.kernel_model.specs.ChangeStep.{change_if, change_step, pass_step}
 use Rattle.flat_model.specs.Touched.{page_tested}
 use Rattle.flat_model.specs.Run.{step_at}
 use Rattle.run_model.specs.State.{State}
-use Rattle.run_laws.specs.Machine.{place_in, write_into, write_page, write_byte, write_bytes, write_held, write_by, lender_among, keeps_step, back_step, passing_change, written_step, taken_step, process_step, unit_step}
+use Rattle.kernel_model.specs.Unit.{lender_among, keeps_step, back_step, passing_change}
+use Rattle.run_laws.specs.Machine.{place_in, write_into, write_page, write_byte, write_bytes, write_held, write_by, written_step, taken_step, process_step, unit_step}
 
 page_goes : (k : Kernel) (o : Option Page) (at byte : ℕ) → (write_page k o at byte).stopped ≡ k.stopped
 page_goes k None at byte = refl

@@ -1,22 +1,22 @@
 -- A change of a process keeps the machine with its bytes, and lands where the state of the run does.
-use Rattle.std.proofs.Common.{◌≡◌, ◌≢◌, ℕ, Bool, true, false, cond, List, [], ◌∷◌, length, map, Option, Some, Ok, refl, sym, ap, ◌∙◌, subst}
+use Rattle.std.proofs.Common.{◌≡◌, ℕ, Bool, true, false, List, [], length, Option, Some, Ok, refl, sym, ap, ◌∙◌, subst}
 use Rattle.flat_state.specs.Space.{Space}
-use Rattle.flat_state.specs.Flat.{Holding, Holds, Lends, Zombie, Process, FlatState, Inputs}
+use Rattle.flat_state.specs.Flat.{Process, FlatState, Inputs}
 use Rattle.vm_facts.specs.declared.regs.Regs.{Regs}
 use Rattle.vm_facts.specs.declared.entry.Entry.{Entry}
 use Rattle.swap_book.specs.Holdings.{Holdings}
 use Rattle.swap_book.specs.Placing.{place_all}
 use Rattle.flat_state.specs.declared.change.Change.{Change}
 use Rattle.flat_state.specs.declared.change.Change.TheVariants.{Keep, Resize, Fork, Lend, Exec, Reap, Sleep, End}
-use Rattle.flat_state.specs.Change.{lends_to, apply_change, NamesChild}
+use Rattle.flat_state.specs.Change.{apply_change}
 use Rattle.flat_state.specs.Journal.{append}
 use Rattle.page_model.specs.Pages.{numbered}
 use Rattle.page_model.specs.Placement.{space_number, image_of, sharers}
 use Rattle.page_model.specs.Place.{is_borrower, place_change}
 use Rattle.page_model.specs.Conditions.{MayForget}
 use Rattle.page_model.specs.Ownership.{OneOwner}
-use Rattle.kernel_model.specs.Kernel.{Kernel, Proc, Life, life_of}
-use Rattle.kernel_model.specs.Coupled.{Outline, outline_of, outline_kept, Fits, SameTables, Coupled}
+use Rattle.kernel_model.specs.Kernel.{Kernel, Life}
+use Rattle.kernel_model.specs.Coupled.{Fits, SameTables, Coupled}
 use Rattle.kernel_model.specs.Sound.{Sound, lives, lives_in, has_life}
 use Rattle.kernel_model.specs.ChangeStep.{change_step, pass_step, holdings_after, space_of_life, gave_back, life_of_proc}
 use Rattle.kernel_model.specs.Asks.{asked}
@@ -25,7 +25,6 @@ use Rattle.kernel_model.specs.Start.{ImageFits}
 use Rattle.flat_state.specs.Numbers.{IsNumbered}
 use Rattle.flat_state.specs.Lenders.{LendsStand, IsLender}
 use Rattle.kernel_model.specs.Stands.{Stands}
-use Rattle.page_laws.proofs.Lists.Local.{none_some, some_is}
 use Rattle.page_laws.proofs.Bytes.Others.{settled_rests}
 use Rattle.kernel_laws.proofs.Sound.Steps.{pass_sound}
 use Rattle.kernel_laws.proofs.Sound.NumbersApart.{flat_numbered, pass_numbered}
@@ -38,14 +37,14 @@ use Rattle.kernel_laws.proofs.Machine.Lends.{lend_coupled_step}
 use Rattle.kernel_laws.proofs.Machine.Execs.{exec_coupled_step}
 use Rattle.kernel_laws.proofs.Machine.Ends.{end_coupled_step}
 use Rattle.kernel_laws.proofs.Machine.Returns.{Borrowing, borrowing, exec_back, end_back}
-use Rattle.kernel_laws.proofs.Flat.Lists.{pid_of, found_is}
 use Rattle.kernel_laws.proofs.Flat.Lenders.{lender_found}
 use Rattle.kernel_laws.proofs.Flat.Numbers.{changes_numbered}
 use Rattle.kernel_laws.proofs.Machine.Processes.{Stepping, stepping}
 use Rattle.flat_laws.proofs.Asking.{own_space, shared_same, no_sharers, some_sharers, change_same}
 use Rattle.flat_model.specs.Asked.{is_shared, given_up}
 use Rattle.run_laws.specs.Standing.{Own}
-use Rattle.run_laws.specs.Machine.{lends_life, lender_among, keeps_step, back_step, passing_change}
+use Rattle.kernel_model.specs.Unit.{lender_among, keeps_step, back_step, passing_change}
+use Rattle.kernel_laws.proofs.Kept.Borrowed.{lender_is}
 use Rattle.run_laws.proofs.Changes.{given_same}
 use Rattle.run_laws.proofs.OwnChanges.{Changing, keeps_place, keeps_holdings, own_false, end_false, own_told, takes_next, may_reap, own_kept, own_lands}
 use Rattle.run_laws.proofs.OwnChanges as own
@@ -170,40 +169,6 @@ own_landed A k flat image before pid regs e q s b change c w o settles x = recor
     back = given_same flat after pid s change k.holdings k.place l.place b w same_image
         (λ z. ((λ i. shared ∙ no_sharers s.image l.place.spaces (ap (sharers l.place) (sym same_image) ∙ i)), (λ m i. shared ∙ some_sharers s.image m l.place.spaces (ap (sharers l.place) (sym same_image) ∙ i))))
         ∙ keeps_holdings k.holdings k.place l.place pid s.sid b change o
-
--- The lender of a borrower.
-
-abbrev lender_in : List Outline → ℕ → ℕ
-lender_in [] pid = 0
-lender_in (o ∷ os) pid = cond (lends_life pid o.life) o.pid (lender_in os pid)
-
-lender_kept : (ks : List Proc) (pid : ℕ) → lender_among ks pid ≡ lender_in (map outline_kept ks) pid
-lender_kept [] pid = refl
-lender_kept (p ∷ ks) pid = ap (cond (lends_life pid p.life) p.pid) (lender_kept ks pid)
-
-lends_is : (pid : ℕ) (h : Holding) → lends_life pid (life_of h) ≡ lends_to pid h
-lends_is pid (Holds s) = refl
-lends_is pid (Lends sid child) = refl
-lends_is pid (Zombie status) = refl
-
-lender_flat : (ps : List Process) (pid : ℕ) (m : Process) → Rattle.flat_state.specs.Numbers.AllDistinct (map pid_of ps) → numbered pid_of m.pid ps ≡ Some m → lends_to pid m.holding ≡ true → ((x : Process) → numbered pid_of x.pid ps ≡ Some x → lends_to pid x.holding ≡ true → x.pid ≡ m.pid)
-    → lender_in (map outline_of ps) pid ≡ m.pid
-lender_flat [] pid m d e t only = none_some m e
-lender_flat (p ∷ ps) pid m d e t only = ap (λ (b : Bool). cond b p.pid (lender_in (map outline_of ps) pid)) (lends_is pid p.holding) ∙ go (lender_flat ps pid m d.1) (lends_to pid p.holding) refl
-  where
-    go : (numbered pid_of m.pid ps ≡ Some m → lends_to pid m.holding ≡ true → ((x : Process) → numbered pid_of x.pid ps ≡ Some x → lends_to pid x.holding ≡ true → x.pid ≡ m.pid) → lender_in (map outline_of ps) pid ≡ m.pid)
-        → (b : Bool) → lends_to pid p.holding ≡ b → cond b p.pid (lender_in (map outline_of ps) pid) ≡ m.pid
-    go later true y = only p (Rattle.kernel_laws.proofs.Flat.Numbered.hit pid_of p.pid p ps refl) y
-    go later false y = later (sym (Rattle.kernel_laws.proofs.Flat.Numbered.miss pid_of m.pid p ps other) ∙ e) t
-        (λ x f l. only x (Rattle.kernel_laws.proofs.Flat.Numbered.miss pid_of x.pid p ps (λ i. none_some x (sym (Rattle.kernel_laws.proofs.Flat.Numbered.absent_none pid_of x.pid ps (subst (λ (n : ℕ). Rattle.flat_state.specs.Numbers.IsAbsent n (map pid_of ps)) i d.0)) ∙ f)) ∙ f) l)
-      where
-        other : p.pid ≢ m.pid
-        other i = let same : p ≡ m = some_is p m (sym (Rattle.kernel_laws.proofs.Flat.Numbered.hit pid_of m.pid p ps i) ∙ e) in let z : false ≡ true = sym y ∙ ap (λ (r : Process). lends_to pid r.holding) same ∙ t in cc
-
-pub lender_is : (k : Kernel) (flat : FlatState) (pid sid : ℕ) (m : Process) → SameTables k flat → IsNumbered flat → IsLender flat pid sid m → lender_among k.processes pid ≡ m.pid
-lender_is k flat pid sid m t n is =
-    lender_kept k.processes pid ∙ ap (λ (os : List Outline). lender_in os pid) t.processes
-    ∙ lender_flat flat.processes pid m n.pids (sym (found_is flat.processes m.pid) ∙ is.found) (ap (lends_to pid) is.holding ∙ Rattle.kernel_laws.proofs.Flat.Numbered.eq_self pid) (λ x e l. is.only x (found_is flat.processes x.pid ∙ e) l)
 
 -- Who borrowed its space, and gives it back.
 

@@ -48,7 +48,8 @@ use Rattle.run_model.specs.Kinds.{Runs, Kind}
 use Rattle.run_model.proofs.NextUnits.{kind_of}
 use Rattle.run_laws.specs.Standing.{machine_of, Placed}
 use Rattle.run_laws.specs.Running.{IsRun}
-use Rattle.run_laws.specs.Machine.{written_step, taken_step, process_step, ran_step, proc_of, u_bytes, unit_step, unit_image, IsGiven, OutRegs, Keeps, StandsAt}
+use Rattle.kernel_model.specs.Unit.{proc_of, u_bytes}
+use Rattle.run_laws.specs.Machine.{written_step, taken_step, process_step, ran_step, unit_step, unit_image, IsGiven, OutRegs, Keeps, StandsAt}
 use Rattle.run_laws.proofs.Paging.{Leaver, entry_out}
 use Rattle.run_laws.proofs.Bridge.{kept_outlines, lives_same, kept_numbers}
 use Rattle.run_laws.proofs.Units.{plain_place, plain_holdings}

@@ -24,7 +24,8 @@ use Rattle.flat_model.specs.Run.{step_at}
 use Rattle.flat_state.specs.Change.{apply_writes}
 use Rattle.run_laws.proofs.Written.{Mid}
 use Rattle.run_laws.proofs.MachineUnits.{mid_stands, stands_behind, unit_stands}
-use Rattle.run_laws.specs.Machine.{written_step, taken_step, EndsStep, process_step, ran_step, proc_of, u_bytes, unit_step, unit_image, IsGiven, StandsAt, Makes, IsNote, Completes, Next}
+use Rattle.kernel_model.specs.Unit.{proc_of, u_bytes}
+use Rattle.run_laws.specs.Machine.{written_step, taken_step, EndsStep, process_step, ran_step, unit_step, unit_image, IsGiven, StandsAt, Makes, IsNote, Completes, Next}
 use Rattle.run_laws.proofs.Execs.{execs_fit}
 use Rattle.run_laws.proofs.Beginning.{are_starting, run_start}
 use Rattle.run_laws.proofs.Wholes.{unit_run}

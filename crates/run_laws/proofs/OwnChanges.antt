@@ -1,7 +1,7 @@
 -- A change of a process that holds its own space, or doesn't give it up, leaves what stands.
 use Rattle.std.proofs.Common.{◌≡◌, ◌≢◌, ℕ, Bool, true, false, List, [], ◌∷◌, ◌++◌, length, Option, Some, None, Ok, refl, sym, ap, ◌∙◌, subst}
 use Rattle.flat_state.specs.Space.{Space}
-use Rattle.flat_state.specs.Flat.{Holds, Process, FlatState, NamedImage, Inputs, process_of, spaces_of}
+use Rattle.flat_state.specs.Flat.{Holds, Process, FlatState, NamedImage, Inputs, process_of}
 use Rattle.vm_facts.specs.declared.regs.Regs.{Regs}
 use Rattle.vm_facts.specs.declared.entry.Entry.{Entry}
 use Rattle.swap_book.specs.Holdings.{Holdings}
@@ -18,7 +18,7 @@ use Rattle.page_model.specs.Conditions.{HaveParts, CanChange, ApartFrom}
 use Rattle.page_model.specs.Swapper.{is_out}
 use Rattle.page_model.specs.Ownership.{OneOwner}
 use Rattle.kernel_model.specs.Kernel.{Kernel, Proc, Life, New, HoldsSpace}
-use Rattle.kernel_model.specs.Coupled.{Fits, AllFit, SameTables}
+use Rattle.kernel_model.specs.Coupled.{Fits, SameTables}
 use Rattle.kernel_model.specs.Sound.{Sound, lives, lives_in, DataFits}
 use Rattle.kernel_model.specs.ChangeStep.{change_step, holdings_after, space_of_life, gave_back, life_of_proc, with_proc, child_proc}
 use Rattle.kernel_model.specs.Asks.{asked, WantsThese}
@@ -45,7 +45,7 @@ use Rattle.kernel_laws.proofs.Stands.Changes.{keep_stands, sleep_stands, reap_st
 use Rattle.flat_laws.proofs.Asking.{own_space, shared_same, no_sharers, some_sharers, change_same}
 use Rattle.flat_model.specs.Asked.{is_shared, given_up, change_wanted}
 use Rattle.run_laws.specs.Standing.{machine_of, EachOnce, Placed, ExecFits, Own}
-use Rattle.run_laws.specs.Machine.{keeps_step as next_of}
+use Rattle.kernel_model.specs.Unit.{keeps_step as next_of}
 use Rattle.run_laws.proofs.Bridge.{from_machine}
 use Rattle.run_laws.proofs.Changes.{given_same, change_once}
 use Rattle.run_laws.proofs.Living.{LivedOr, BackTo, flat_back, back_from}

@@ -38,7 +38,8 @@ use Rattle.run_model.specs.Lawful.{Follows}
 use Rattle.run_model.specs.Swapped.{pages_stored, done_stored, oldest_stored, u_stored, image_behind, swapped_from, swapped}
 use Rattle.run_model.proofs.NextUnits.{kind_of}
 use Rattle.run_laws.specs.Running.{IsRun, CanRun}
-use Rattle.run_laws.specs.Machine.{u_bytes, unit_step, unit_image, IsGiven, Keeps, StandsAt, Makes, Next}
+use Rattle.kernel_model.specs.Unit.{u_bytes}
+use Rattle.run_laws.specs.Machine.{unit_step, unit_image, IsGiven, Keeps, StandsAt, Makes, Next}
 use Rattle.run_laws.specs.Images.{OutFits, OutsFit, AreFlat, WritesFlat, AllFlat, HasSwapped}
 use Rattle.run_laws.proofs.Wholes.{unit_run}
 use Rattle.run_laws.proofs.Lawful.{all_units}

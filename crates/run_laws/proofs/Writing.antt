@@ -18,7 +18,6 @@ use Rattle.page_model.specs.Swapper.{residence_of}
 use Rattle.page_model.specs.Conditions.{HaveParts}
 use Rattle.kernel_model.specs.Kernel.{Kernel, write_step}
 use Rattle.kernel_model.specs.Coupled.{Fits, AllFit, Outline, outline_of, SameTables}
-use Rattle.kernel_model.specs.Sound.{Sound}
 use Rattle.flat_state.specs.Numbers.{IsNumbered}
 use Rattle.kernel_model.specs.Stands.{Stands, OutHold, holds_some}
 use Rattle.kernel_laws.proofs.Sound.Steps.{write_sound, touch_transfers}

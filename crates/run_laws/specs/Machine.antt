@@ -1,13 +1,11 @@
 -- What each unit of a run makes of the whole machine with its bytes and of the swap image, and what stands of it then.
-use Rattle.std.specs.Prelude.{◌≡◌, ℕ, ◌*◌, ◌%◌, ◌==◌, ◌≤◌, Bool, true, false, cond, List, [], ◌∷◌, length, Option, Some, None}
+use Rattle.std.specs.Prelude.{◌≡◌, ℕ, ◌*◌, ◌%◌, ◌≤◌, true, List, [], ◌∷◌, length, Option, Some, None}
 use Rattle.vm_facts.specs.Answers.{ByteWrite}
 use Rattle.flat_state.specs.Space.{Space, address_in}
-use Rattle.flat_state.specs.Flat.{Holding, Holds, Lends, Zombie, Process, FlatState, NamedImage, Inputs, process_of}
+use Rattle.flat_state.specs.Flat.{Holding, Holds, Lends, Zombie, Process, FlatState, Inputs, process_of}
 use Rattle.vm_facts.specs.declared.page.Page.{Page}
-use Rattle.vm_facts.specs.declared.page.Page.TheVariants.{Data, Stack}
 use Rattle.vm_facts.specs.declared.page.PageState.{PageState}
 use Rattle.vm_facts.specs.declared.page.PageState.TheVariants.{Valid}
-use Rattle.vm_facts.specs.declared.regs.Regs.{Regs}
 use Rattle.vm_facts.specs.declared.entry.Entry.{Entry}
 use Rattle.vm_facts.specs.declared.entry.Entry.TheVariants as entries
 use Rattle.swap_book.specs.declared.Owner.TheVariants as owners
@@ -15,18 +13,16 @@ use Rattle.swap_book.specs.Holdings.{block_in}
 use Rattle.swap_book.specs.Placing.{Wanted}
 use Rattle.flat_state.specs.declared.spot.Spot.{Spot}
 use Rattle.flat_state.specs.declared.spot.Spot.TheVariants as spots
-use Rattle.flat_state.specs.declared.change.Change.{Change}
-use Rattle.flat_state.specs.declared.change.Change.TheVariants.{Lend, Exec, End}
-use Rattle.page_model.specs.Pages.{numbered}
-use Rattle.page_model.specs.Placement.{Placement, slots_of, state_of}
+use Rattle.page_model.specs.Placement.{Placement, state_of}
 use Rattle.page_model.specs.Place.{is_borrower}
 use Rattle.page_model.specs.Swapper.{is_out}
-use Rattle.kernel_model.specs.Kernel.{Kernel, Proc, Life, New, HoldsSpace, LendsSpace, Ended, plain_step, zero_step, copy_step, get_step, reclaim_step, push_step, done_step, write_step, note_step, out_step, in_step, image_after}
+use Rattle.kernel_model.specs.Kernel.{Kernel, Proc, plain_step, zero_step, copy_step, get_step, reclaim_step, push_step, done_step, write_step, note_step, out_step, in_step, image_after}
 use Rattle.kernel_model.specs.Sound.{Sound}
 use Rattle.kernel_model.specs.Coupled.{Coupled, AreRead, beside_kernel}
-use Rattle.kernel_model.specs.UPage.{AreRegs, u_page, regs_in}
+use Rattle.kernel_model.specs.UPage.{AreRegs, regs_in}
 use Rattle.page_model.specs.Stored.{stored_at, store_at}
-use Rattle.kernel_model.specs.ChangeStep.{change_step, ran_by, pass_step, space_of_life}
+use Rattle.kernel_model.specs.ChangeStep.{ran_by}
+use Rattle.kernel_model.specs.Unit.{passing_change, u_bytes, proc_of}
 use Rattle.kernel_model.specs.Numbers.{Numbered}
 use Rattle.kernel_model.specs.Stands.{Stands}
 use Rattle.flat_model.specs.Touched.{page_tested}
@@ -76,33 +72,6 @@ write_by k (Some q) ws = write_held k q.holding ws
 
 -- Changes.
 
-abbrev pub lends_life : ℕ → Life → Bool
-lends_life pid New = false
-lends_life pid (HoldsSpace sid) = false
-lends_life pid (LendsSpace sid child) = child == pid
-lends_life pid (Ended status) = false
-
--- the first process that lent a space to this one
-abbrev pub lender_among : List Proc → ℕ → ℕ
-lender_among [] pid = 0
-lender_among (p ∷ ps) pid = cond (lends_life pid p.life) p.pid (lender_among ps pid)
-
--- who has a space of its own, or keeps the one that it borrowed; a space that it lends passes to the child
-abbrev pub keeps_step : List NamedImage → Kernel → ℕ → Regs → Entry → Change → Kernel
-keeps_step images k pid regs e (Lend child) = pass_step (change_step images k pid regs e (Lend child)) pid child
-keeps_step images k pid regs e change = change_step images k pid regs e change
-
--- who borrowed its space gives it back before a new image and before its end
-abbrev pub back_step : List NamedImage → Kernel → ℕ → Regs → Entry → Change → Kernel
-back_step images k pid regs e (Exec image top) = change_step images (pass_step k pid (lender_among k.processes pid)) pid regs e (Exec image top)
-back_step images k pid regs e (End status) = change_step images (pass_step k pid (lender_among k.processes pid)) pid regs e (End status)
-back_step images k pid regs e change = keeps_step images k pid regs e change
-
--- an entry of a process with its change, by whether the process borrowed its space
-abbrev pub passing_change : Bool → List NamedImage → Kernel → ℕ → Regs → Entry → Change → Kernel
-passing_change true = back_step
-passing_change false = keeps_step
-
 -- pieces find their places
 abbrev pub takes_step : Inputs → Kernel → List Wanted → Kernel
 takes_step A k ws = record k { holdings = with_pieces A ws k.holdings }
@@ -124,14 +93,6 @@ abbrev pub ran_step : Inputs → State → Kernel → ℕ → ℕ → Kernel
 ran_step A s k pid n = ran_by (written_step A s k pid) pid (step_at A s.point pid).regs (entries.Ran pid n)
 
 -- Units.
-
--- the u page of a process
-abbrev pub u_bytes : Kernel → Option Proc → List ℕ
-u_bytes k None = []
-u_bytes k (Some p) = u_page p.regs (length (slots_of k.place (Data (space_of_life p.life) 0))) (length (slots_of k.place (Stack (space_of_life p.life) 0)))
-
-abbrev pub proc_of : Kernel → ℕ → Option Proc
-proc_of k pid = numbered (λ (p : Proc). p.pid) pid k.processes
 
 -- the machine behind a unit, with what was read for the oldest transfer
 abbrev pub unit_step : Inputs → State → Kernel → List ℕ → List (List ℕ) → Entry → Kernel

@@ -85,6 +85,14 @@ all_store : (size : ℕ) (k : Kernel) (images : List NamedImage) (image : List �
 all_store size k images image flat [] so fits c m = tt
 all_store size k images image flat (x ∷ xs) so fits c m = (can_store size k images image flat x so fits c m.0, all_store size k images image flat xs so fits c m.1)
 
+-- the pages that the oldest transfer writes have bytes and blocks
+pub oldest_store : (size : ℕ) (k : Kernel) (images : List NamedImage) (image : List ℕ) (flat : FlatState) (t : Transfer) (ts : List Transfer) → Sound size k → TextFits images k.place → Coupled k images image flat → k.place.transfers ≡ t ∷ ts → t.errand ≡ Writes → AllStore k t.parts
+oldest_store size k images image flat t ts so fits c h e =
+    let o : OneOwner size (lives k.processes) k.place k.holdings = so.owner in
+    let f : OwnsFrames k.place = o.frames in
+    all_store size k images image flat t.parts so fits c (subst (λ (x : Errand). Each (IsMoving k.place) (map (moving x) t.parts)) e
+    (each_front (IsMoving k.place) (map (moving t.errand) t.parts) (parts_of ts) (subst (λ (us : List Transfer). Each (IsMoving k.place) (parts_of us)) h f.moves)))
+
 -- What else the image has.
 
 -- the blocks of a u page are of no page

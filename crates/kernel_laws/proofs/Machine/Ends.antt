@@ -13,7 +13,7 @@ use Rattle.swap_book.specs.Holdings.{kept}
 use Rattle.flat_state.specs.declared.change.Change.TheVariants.{End}
 use Rattle.flat_state.specs.Change.{with_process, replaced, returned, is_zombie, is_zombie_child, without_parent, orphaned, awake, woken, left, ended, without_process, apply_change}
 use Rattle.flat_state.specs.Journal.{append}
-use Rattle.page_model.specs.Pages.{SpacePages, numbered, data_in, stack_in}
+use Rattle.page_model.specs.Pages.{numbered}
 use Rattle.page_model.specs.Placement.{Placement, Residence, Due, due_at, space_number, image_of, sharers, IsThere}
 use Rattle.page_model.specs.Place.{give_up_unless, end_residence, space_of_holding, is_borrower}
 use Rattle.page_model.specs.Swapper.{is_out, residence_of}
@@ -23,7 +23,7 @@ use Rattle.page_model.specs.PageBytes.{CouplesPages}
 use Rattle.flat_state.specs.Numbers.{IsAbsent, AllDistinct, IsNumbered}
 use Rattle.kernel_model.specs.Stands.{OutHold}
 use Rattle.kernel_model.specs.Coupled.{Fits, AllFit, Outline, Coupled, outline_kept, outline_of, memory_of, file_of, data_of, data_bytes_in, stack_bytes_in, beside_kernel}
-use Rattle.kernel_model.specs.Kernel.{Kernel, Proc, Life, HoldsSpace, Ended, life_of}
+use Rattle.kernel_model.specs.Kernel.{Kernel, Proc, HoldsSpace, Ended, life_of}
 use Rattle.kernel_model.specs.Sound.{Sound, lives}
 use Rattle.page_model.specs.Stored.{stored, stored_at}
 use Rattle.kernel_model.specs.ChangeStep.{with_proc, without_proc, is_ended, orphaned_procs, woken_procs, left_procs, given_back_unless, change_step}

@@ -19,7 +19,7 @@ use Rattle.page_model.specs.Conditions.{IsNew}
 use Rattle.page_model.specs.PageBytes.{SameBytes, Copies}
 use Rattle.flat_state.specs.Numbers.{IsNumbered}
 use Rattle.kernel_model.specs.Stands.{OutHold, holds_some}
-use Rattle.kernel_model.specs.Coupled.{IsSized, Fits, AllFit, Outline, Coupled, SameTables, outline_kept, outline_of, memory_of, file_of, data_of, data_bytes_in, stack_bytes_in, beside_kernel}
+use Rattle.kernel_model.specs.Coupled.{IsSized, Fits, AllFit, Outline, Coupled, outline_kept, outline_of, data_of, data_bytes_in, stack_bytes_in, beside_kernel}
 use Rattle.kernel_model.specs.Kernel.{Kernel, Proc, Life, HoldsSpace}
 use Rattle.kernel_model.specs.ChangeStep.{with_proc, child_proc, change_step}
 use Rattle.page_laws.proofs.Lists.Local.{none_some}

@@ -17,7 +17,7 @@ use Rattle.page_model.specs.Placement.{Residence, Starting, Due, Start, due_at, 
 use Rattle.page_model.specs.Swapper.{residence_of}
 use Rattle.page_model.specs.PageBytes.{Bytes, KeepsUnfilled, KeepsBy, Keeps}
 use Rattle.kernel_model.specs.Coupled.{IsSized, Fits, AllFit, Outline, Coupled, outline_kept, outline_of, memory_of, file_of, data_of, data_bytes_in, stack_bytes_in, beside_kernel}
-use Rattle.kernel_model.specs.Kernel.{Kernel, Proc, StartBytes, start_bytes}
+use Rattle.kernel_model.specs.Kernel.{Kernel, Proc, start_bytes}
 use Rattle.kernel_model.specs.Sound.{DataFits}
 use Rattle.kernel_model.specs.Start.{kept_of, start_of, start_kernel, AreStarting, ImageFits, ImagesFit}
 use Rattle.page_laws.proofs.Lists.Local.{some_is}

@@ -28,14 +28,14 @@ use Rattle.page_model.specs.Ownership.{OwnsBlocks, OneOwner, owner_of, u_blocks}
 use Rattle.page_model.specs.PageBytes.{SameBytes, CouplesPages}
 use Rattle.flat_state.specs.Journal.{append}
 use Rattle.kernel_model.specs.Coupled.{Fits, Outline, Coupled, SameTables, KeepsRegs, outline_kept, outline_of, memory_of, data_bytes_in, stack_bytes_in, beside_kernel}
-use Rattle.kernel_model.specs.Kernel.{Kernel, Proc, life_of, with_regs, out_step, in_step, plain_step}
+use Rattle.kernel_model.specs.Kernel.{Kernel, Proc, with_regs, out_step, in_step}
 use Rattle.kernel_model.specs.Sound.{Sound, has_life, lives, lives_in}
-use Rattle.kernel_model.specs.UPage.{AreRegs, AllLongwords, codes_of, u_page, regs_in}
-use Rattle.page_model.specs.Stored.{stored_at, stored, store_at, put_blocks, blocks_at}
+use Rattle.kernel_model.specs.UPage.{AreRegs, codes_of, u_page, regs_in}
+use Rattle.page_model.specs.Stored.{stored_at, store_at, put_blocks, blocks_at}
 use Rattle.kernel_model.specs.ChangeStep.{ran_by, space_of_life}
 use Rattle.page_laws.proofs.Lists.Local.{some_is}
 use Rattle.page_laws.proofs.Blocks.Places.{length_put, blocks_put_same}
-use Rattle.kernel_laws.proofs.Registers.{regs_back, regs_back_any}
+use Rattle.kernel_laws.proofs.Registers.{regs_back_any}
 use Rattle.kernel_laws.proofs.Flat.Numbered.{eq_is, eq_self, not_eq, has_number, numbered_map, mapped_some}
 use Rattle.kernel_laws.proofs.Flat.Lists.{pid_of, sid_of, held, found_is, Parts, parts_at, replaced_at, replaced_not, same_held}
 use Rattle.kernel_laws.proofs.Machine.Moves.{alike_coupled, regs_kept}

@@ -45,7 +45,7 @@ owners_append owner (h ∷ hs) gs = go (same_owner h.owner owner) (owners_append
     go true e = ap (λ (l : List Held). h ∷ l) e
     go false e = e
 
-still_found : (size : ℕ) (hs new : Holdings) (ws : List Wanted) (owner : Owner) (v block : ℕ) → place_all size hs ws ≡ Ok new → block_in hs owner v ≡ Some block → block_in new owner v ≡ Some block
+pub still_found : (size : ℕ) (hs new : Holdings) (ws : List Wanted) (owner : Owner) (v block : ℕ) → place_all size hs ws ≡ Ok new → block_in hs owner v ≡ Some block → block_in new owner v ≡ Some block
 still_found size hs new ws owner v block e f =
     let a : Added hs new ws = place_all_adds size hs new ws e in
     block_in_more hs new (of_owner owner a.pieces) owner v block (ap (of_owner owner) a.is ∙ owners_append owner hs a.pieces) f

@@ -1,72 +1,45 @@
 -- The tables of the machine are those of the flat state through each change, with no bytes.
-use Rattle.std.proofs.Common.{◌≡◌, ◌≢◌, inl, inr, ℕ, ◌+◌, ◌*◌, ◌<◌, ◌==◌, Bool, true, false, cond, List, [], ◌∷◌, ◌++◌, length, map, Option, Some, None, refl, sym, ap, ◌∙◌, subst, arith, ◌⊎◌, ◌-◌, ◌≤◌, min, take, drop, length-append, ◌||◌, ◌&&◌, not, filter}
+use Rattle.std.proofs.Common.{◌≡◌, ◌≢◌, inl, inr, ℕ, ◌+◌, ◌*◌, ◌==◌, Bool, true, false, List, [], ◌∷◌, ◌++◌, length, map, Option, Some, None, refl, sym, ap, ◌∙◌, subst, not, filter}
 use Rattle.std.proofs.lemmas.Bool.{cases_eq, cases_Bool}
 use Rattle.flat_state.specs.Space.{Space}
-use Rattle.flat_state.specs.Flat.{Holds, Process, FlatState, Lends, Holding, Zombie, NamedImage, process_of, image_numbered, space_with, cleared, spaces_of, space_held}
-use Rattle.vm_facts.specs.declared.page.Page.{Page}
-use Rattle.vm_facts.specs.declared.page.Page.TheVariants.{Data, Stack, Text}
+use Rattle.flat_state.specs.Flat.{Holds, Process, FlatState, Lends, Zombie, NamedImage, process_of, image_numbered, space_with, spaces_of, space_held}
+use Rattle.vm_facts.specs.declared.page.Page.TheVariants.{Data, Stack}
 use Rattle.vm_facts.specs.declared.regs.Regs.{Regs}
 use Rattle.vm_facts.specs.declared.entry.Entry.{Entry}
-use Rattle.aout_image.specs.Image.{page_at, data_given, data_pages_of}
+use Rattle.aout_image.specs.Image.{data_pages_of}
 use Rattle.flat_state.specs.declared.change.Change.TheVariants.{Fork, Lend, Resize, Exec, End, Keep, Reap, Sleep}
 use Rattle.flat_state.specs.Change.{replaced, with_results, child_of, forked, apply_change, lent, with_process, resized_bytes, resized, replaced_by, returned, returned_by, entered, is_zombie, is_zombie_child, without_parent, orphaned, awake, woken, left, ended, without_process, lends_to}
 use Rattle.flat_state.specs.Journal.{append}
-use Rattle.page_model.specs.Pages.{SpacePages, numbered, data_in, stack_in, Zeros, OfImage}
-use Rattle.flat_state.specs.PageNames.{number_of, same_page}
-use Rattle.page_model.specs.Placement.{Placement, Residence, space_number, slots_of, image_in, image_of, IsThere, Due, Start, due_at, sharers, data_filling, new_pages}
-use Rattle.page_model.specs.Place.{child_slot, fork_space, begin_residence, resize, enter_space, enter_image, give_up_unless, place_change, is_borrower, end_residence, space_of_holding}
-use Rattle.page_model.specs.Swapper.{is_out, residence_of}
-use Rattle.page_model.specs.Conditions.{IsNew, IsSettled, MayForget}
-use Rattle.page_model.specs.PageBytes.{SameBytes, Copies, zeros, Bytes, FillsBy, CouplesPages}
-use Rattle.flat_state.specs.Numbers.{IsNumbered, IsAbsent, AllDistinct}
-use Rattle.kernel_model.specs.Stands.{OutHold, holds_some}
+use Rattle.page_model.specs.Pages.{SpacePages, numbered}
+use Rattle.page_model.specs.Placement.{Placement, space_number, slots_of, image_of, new_pages}
+use Rattle.page_model.specs.Place.{child_slot, enter_space, give_up_unless, is_borrower}
+use Rattle.page_model.specs.Conditions.{IsNew}
+use Rattle.flat_state.specs.Numbers.{IsNumbered, AllDistinct}
 use Rattle.flat_state.specs.Lenders.{IsLender}
-use Rattle.kernel_model.specs.Coupled.{IsSized, Fits, AllFit, Outline, Coupled, SameTables, outline_kept, outline_of, memory_of, file_of, data_of, data_bytes_in, stack_bytes_in, beside_kernel, KeepsRegs}
+use Rattle.kernel_model.specs.Coupled.{IsSized, Fits, AllFit, Outline, SameTables, outline_kept, outline_of}
 use Rattle.kernel_model.specs.Kernel.{Kernel, Proc, Life, HoldsSpace, New, LendsSpace, StartBytes, start_bytes, Ended, life_of}
-use Rattle.page_model.specs.Stored.{stored_at, stored}
-use Rattle.kernel_model.specs.Sound.{Sound, KeepsStarts, DataFits, is_start, has_start, lives}
-use Rattle.kernel_model.specs.ChangeStep.{with_proc, child_proc, change_step, space_of_life, life_of_proc, passed_life, pass_step, given_back_unless, without_proc, is_ended, orphaned_procs, woken_procs, left_procs}
+use Rattle.kernel_model.specs.Sound.{DataFits}
+use Rattle.kernel_model.specs.ChangeStep.{with_proc, child_proc, change_step, pass_step, without_proc, orphaned_procs, left_procs}
 use Rattle.page_laws.proofs.Lists.Local.{none_some, some_is}
 use Rattle.page_laws.proofs.Ownership.Changes.{added_other, added_same, dropped_pages}
-use Rattle.page_laws.proofs.Bytes.Spaces.{map_length, fork_coupled, apart_page, unfilled_length, enter_coupled}
-use Rattle.page_laws.proofs.Bytes.Runs.{still_coupled}
-use Rattle.kernel_laws.proofs.Flat.Numbered.{absent_none, below_absent, pushed_new, pushed_old, pushed_found, map_pushed, image_by, eq_self, not_eq, none_absent, hit, miss, eq_is, has_number, numbered_map, mapped_some, only_if, numbered_filter, removed_is, removed_not}
-use Rattle.kernel_laws.proofs.Flat.Lists.{pid_of, sid_of, held, found_is, replaced_at, replaced_not, same_held, held-append, held_at, held_own, HeldAt, held_other, held_now, held_new, replaced_pids, held_gain}
+use Rattle.page_laws.proofs.Bytes.Spaces.{map_length, unfilled_length}
+use Rattle.kernel_laws.proofs.Flat.Numbered.{pushed_new, pushed_old, pushed_found, map_pushed, none_absent, hit, miss, eq_is, removed_not}
+use Rattle.kernel_laws.proofs.Flat.Lists.{pid_of, sid_of, held, found_is, replaced_at, replaced_not, same_held, held-append, held_at, held_own, HeldAt, held_other, held_now, held_new, held_gain}
 use Rattle.kernel_laws.proofs.Machine.Done.{fit_data, fit_stack}
-use Rattle.kernel_laws.proofs.Machine.Tables.{kept_pid, tables_of, outlines_at, RegsAt, coupled_of, kept_at, outline_at, all_fit, regs_at}
-use Rattle.kernel_laws.proofs.Machine.Swaps.{applied, memory_same}
+use Rattle.kernel_laws.proofs.Machine.Tables.{kept_pid, tables_of, all_fit}
+use Rattle.kernel_laws.proofs.Machine.Swaps.{applied}
 use Rattle.kernel_laws.proofs.Machine.Still.{outline_is}
-use Rattle.kernel_laws.proofs.Machine.Processes.{with_at, with_not, with_replaced, holds_there, Stepping, stepping, by_life, step_is, regs_carried, regs_in_record, other_space, not_own_parent, removed_outlines, held_filter, distinct_filter, pids_same}
-use Rattle.kernel_laws.proofs.Machine.Moves.{alike_coupled, u_stored}
-use Rattle.kernel_laws.proofs.Machine.Forks.{next_pid_none, next_in, kept_none, out_begun, next_new, next_sid_none, forked_kernel, fit_image}
-use Rattle.std.specs.Prelude.{replicate, nat_lt}
-use Rattle.std.proofs.lemmas.List.{length-take, length-replicate, take_all, drop-append-le, take-append-le, drop-replicate, take-replicate}
-use Rattle.std.proofs.Math.Seq.{drop-append-add}
-use Rattle.swap_dmap.specs.Chunks.{pieces}
-use Rattle.swap_dmap.proofs.PieceLaws.{spot_chunk}
-use Rattle.swap_book.specs.declared.Owner.{Owner}
-use Rattle.swap_book.specs.Owners.{same_owner, spot_of}
-use Rattle.swap_book.specs.Holdings.{Holdings, block_in, kept}
-use Rattle.swap_book.proofs.OwnerLaws.{same_owner_gives}
-use Rattle.swap_book.proofs.KeptLaws.{of_owner-kept_other, block_in_same, block_in_kept}
+use Rattle.kernel_laws.proofs.Machine.Processes.{with_at, with_not, with_replaced, holds_there, Stepping, stepping, by_life, step_is, not_own_parent, removed_outlines, held_filter, distinct_filter, pids_same}
+use Rattle.kernel_laws.proofs.Machine.Forks.{next_pid_none, kept_none, next_new, next_sid_none, forked_kernel, fit_image}
 use Rattle.page_model.specs.Moves.{drop_all}
-use Rattle.page_model.specs.Ownership.{block_of, OwnsFrames, OneOwner, TextAside, owner_of}
-use Rattle.page_laws.proofs.Lists.Pages.{mapped, changed_same, changed_other, same_page_self}
-use Rattle.page_laws.proofs.Blocks.Places.{before}
-use Rattle.page_laws.proofs.Bytes.Changes.{cut, length_sized, data_bound, stack_bound, resize_coupled}
-use Rattle.kernel_laws.proofs.Machine.Shapes.{Shaped, fit_shaped, drop_all_shaped, image_kept, sizes_kept, fit_shapes, image_by_shape, sizes_by_shape}
-use Rattle.std.proofs.lemmas.Bool.Decides.{nat_tests}
+use Rattle.kernel_laws.proofs.Machine.Shapes.{Shaped, fit_shaped, drop_all_shaped, fit_shapes}
 use Rattle.aout_image.specs.declared.Image.{Image}
-use Rattle.page_laws.proofs.Ownership.Entries.{enter_image_owner, enter_settled}
-use Rattle.page_laws.proofs.Blocks.Changes.{place_change_aside}
-use Rattle.page_laws.proofs.Bytes.Couples.{NoCopy}
-use Rattle.kernel_laws.proofs.Machine.Gone.{Gone, gone_unless, gone_data, gone_stack, unless_coupled, unless_blocks, unless_u, OtherBytes, other_coupled, AsideText}
-use Rattle.kernel_laws.proofs.Machine.Breaks.{block_kept, fit_cut, resized_own, resized_other}
-use Rattle.kernel_laws.proofs.Machine.Execs.{returned_none, borrower_replaced, exec_kernel, Entering, exec_core}
-use Rattle.kernel_laws.proofs.Machine.Lends.{pass_is, pass_by, passed, passed_list, passed_child}
-use Rattle.kernel_laws.proofs.Machine.Ends.{WasFlat, WasKept, end_was, end_kept, end_held, with_pids, end_kernel, Leaving, end_core, left_flat, left_is, orphans, ended_outlines, out_ended, out_gone}
+use Rattle.kernel_laws.proofs.Machine.Gone.{Gone, gone_unless}
+use Rattle.kernel_laws.proofs.Machine.Breaks.{fit_cut, resized_own, resized_other}
+use Rattle.kernel_laws.proofs.Machine.Execs.{returned_none, borrower_replaced, exec_kernel}
+use Rattle.kernel_laws.proofs.Machine.Lends.{pass_is, passed, passed_list, passed_child}
+use Rattle.kernel_laws.proofs.Machine.Ends.{end_held, with_pids, end_kernel, left_flat, left_is, orphans, ended_outlines}
 use Rattle.kernel_laws.proofs.Machine.Returns.{passes, Borrowing, borrowing, back_kernel, back_proc, Back, back}
-use Rattle.swap_book.specs.declared.Owner.TheVariants as owners
 
 -- Growth and break.
 pub resize_tables : (k : Kernel) (images : List NamedImage) (flat : FlatState) (pid : ℕ) (regs : Regs) (e : Entry) (d t : ℕ) (q : Process) (s : Space) → IsNumbered flat → process_of flat pid ≡ Some q → q.holding ≡ Holds s → SameTables k flat

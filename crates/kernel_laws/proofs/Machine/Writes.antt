@@ -5,7 +5,7 @@ use Rattle.std.proofs.Math.Seq.{take-set-lt}
 use Rattle.std.proofs.lemmas.Bool.{cases_eq}
 use Rattle.vm_facts.specs.Answers.{ByteWrite}
 use Rattle.flat_state.specs.Space.{Space, address_in, put_at, put, puts}
-use Rattle.flat_state.specs.Flat.{Holding, Holds, Process, FlatState, NamedImage, process_of, spaces_of, space_held}
+use Rattle.flat_state.specs.Flat.{Holding, Holds, Process, FlatState, NamedImage, process_of, spaces_of}
 use Rattle.vm_facts.specs.declared.page.Page.{Page}
 use Rattle.vm_facts.specs.declared.page.Page.TheVariants.{Data, Stack, Text}
 use Rattle.vm_facts.specs.declared.page.PageState.TheVariants.{Valid}
@@ -23,7 +23,7 @@ use Rattle.page_model.specs.Ownership.{OwnsFrames, OneOwner}
 use Rattle.page_model.specs.PageBytes.{Bytes, IsInFrame, WritesBoth, IsWritable}
 use Rattle.flat_state.specs.Writes.{IsByteOf}
 use Rattle.flat_state.specs.Numbers.{IsNumbered}
-use Rattle.kernel_model.specs.Coupled.{Fits, AllFit, Coupled, SameTables, KeepsRegs, Outline, outline_kept, outline_of, memory_of, data_bytes_in, stack_bytes_in, file_of, beside_kernel}
+use Rattle.kernel_model.specs.Coupled.{Fits, AllFit, Coupled, SameTables, KeepsRegs, Outline, memory_of, data_bytes_in, stack_bytes_in, beside_kernel}
 use Rattle.kernel_model.specs.Kernel.{Kernel, frame_bytes, write_step}
 use Rattle.kernel_model.specs.Sound.{Sound, lives}
 use Rattle.page_laws.proofs.Lists.Local.{some_is}

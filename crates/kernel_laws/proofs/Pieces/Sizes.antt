@@ -1,7 +1,6 @@
 -- How many pages spaces and texts have, and how many spaces share an image, from one placement to the next.
 use Rattle.std.proofs.Common.{◌≡◌, ◌≢◌, ◌⊎◌, inl, inr, ℕ, zero, suc, ◌<◌, ◌≤◌, ◌==◌, Bool, true, false, not, cond, List, [], ◌∷◌, ◌++◌, length, map, Option, Some, None, refl, sym, ap, ◌∙◌, subst, arith}
 use Rattle.std.proofs.lemmas.Bool.{cases_eq}
-use Rattle.vm_facts.specs.declared.page.Page.{Page}
 use Rattle.vm_facts.specs.declared.page.Page.TheVariants.{Data, Stack, Text}
 use Rattle.swap_book.specs.Holdings.{Holdings}
 use Rattle.flat_state.specs.declared.change.Change.{Change}
@@ -16,7 +15,7 @@ use Rattle.kernel_model.specs.ChangeStep.{holdings_after, given_back_unless}
 use Rattle.page_laws.proofs.Lists.Pages.{mapped, changed_same, changed_other, sharers_changed}
 use Rattle.page_laws.proofs.Ownership.Spaces.{drop_all_length}
 use Rattle.page_laws.proofs.Ownership.Changes.{dropped_pages, added_other, removed_other, removed_same}
-use Rattle.page_laws.proofs.Blocks.Changes.{leave_text_length, leave_all_length, leave_all_sharers, removed_sharers, drop_all_sharers, rest_of, rest_drop_all, sharers-append}
+use Rattle.page_laws.proofs.Blocks.Changes.{leave_text_length, leave_all_sharers, removed_sharers, drop_all_sharers, rest_of, rest_drop_all, sharers-append}
 use Rattle.page_laws.proofs.Bytes.Changes.{length_sized}
 use Rattle.kernel_laws.proofs.Pieces.GivenBack.{Fits, FitsBoth, Grows, Loses, Resizes, grows_fits, loses_fits, resizes_fits, less_u}
 

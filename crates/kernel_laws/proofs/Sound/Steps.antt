@@ -1,5 +1,5 @@
 -- Each step of the whole machine that moves pages or bytes keeps what is so of a machine that goes on.
-use Rattle.std.proofs.Common.{◌≡◌, ℕ, zero, suc, ◌+◌, ◌≤◌, ◌==◌, Bool, true, false, cond, List, [], ◌∷◌, length, map, set, Option, Some, refl, sym, ap, ◌∙◌, subst, arith}
+use Rattle.std.proofs.Common.{◌≡◌, ℕ, ◌+◌, ◌≤◌, ◌==◌, Bool, true, false, cond, List, [], ◌∷◌, length, map, set, Option, Some, refl, sym, ap, ◌∙◌, subst, arith}
 use Rattle.std.proofs.lemmas.Bool.Decides.{nat_tests}
 use Rattle.vm_facts.specs.declared.page.Page.{Page}
 use Rattle.vm_facts.specs.declared.page.Page.TheVariants.{Data, Stack, Text}
@@ -11,15 +11,11 @@ use Rattle.vm_facts.specs.declared.entry.Entry.TheVariants as entries
 use Rattle.swap_book.specs.Owners.{u_pieces}
 use Rattle.swap_book.specs.Holdings.{Holdings}
 use Rattle.page_model.specs.Pages.{numbered}
-use Rattle.flat_state.specs.PageNames.{pages_from, number_of}
 use Rattle.page_model.specs.Frames.{set_frame}
 use Rattle.page_model.specs.Placement.{Placement, Transfer, Part, Errand, Writes, Reads, state_of, due_at}
 use Rattle.page_model.specs.Moves.{fill, begin, touch, touch_to, done}
-use Rattle.page_model.specs.Hands.{hand_move, hand_moves}
-use Rattle.page_model.specs.Place.{filled, put_step, place_entry}
-use Rattle.page_model.specs.Serve.{read_errand}
+use Rattle.page_model.specs.Place.{place_entry}
 use Rattle.page_model.specs.Conditions.{begins, CanPlace, EntryShared, CanEnter, IsShared}
-use Rattle.page_model.specs.Rank.{HandsStand}
 use Rattle.page_model.specs.Ownership.{OwnsFrames, OwnsBlocks, OneOwner, TextAside, u_blocks}
 use Rattle.flat_state.specs.Journal.{append}
 use Rattle.kernel_model.specs.Kernel.{Kernel, Proc, with_regs, start_bytes, copied_bytes, frame_bytes, put_first, read_into, landed_by, landed, plain_step, zero_step, copy_step, done_step, write_step, note_step, in_step, Life, New, HoldsSpace, LendsSpace, Ended}
@@ -28,11 +24,9 @@ use Rattle.kernel_model.specs.ChangeStep.{ran_by, pass_step, pass_from, passed_l
 use Rattle.page_laws.proofs.Lists.Local.{none_some, some_is}
 use Rattle.page_laws.proofs.Lists.Frames.{length_set_frame}
 use Rattle.page_laws.proofs.Ownership.Pages.{touch_owner, touch_turns}
-use Rattle.page_laws.proofs.Moves.Stays.{Steady, Stays, move_stays}
-use Rattle.page_laws.proofs.Ends.Forcing.{move_stands}
-use Rattle.page_laws.proofs.Ends.Hands.{SameHands, hands_self, hands_stand, fill_hands, get_all_hands, reclaim_hands, done_hands}
-use Rattle.page_laws.proofs.Bytes.Others.{put_steady, touch_steady}
-use Rattle.page_laws.proofs.Moves.KeptHands.{KeepsHands, keeps_same, steady_keep, entry_keep}
+use Rattle.page_laws.proofs.Moves.Stays.{Steady}
+use Rattle.page_laws.proofs.Bytes.Others.{touch_steady}
+use Rattle.page_laws.proofs.Moves.KeptHands.{steady_keep, entry_keep}
 use Rattle.page_laws.proofs.Blocks.Aside.{IsBusy, turn_aside, blocks_still}
 use Rattle.page_laws.proofs.Blocks.Steps.{place_entry_one}
 use Rattle.page_laws.proofs.Moves.Transfers.{entry_count}
@@ -41,17 +35,21 @@ use Rattle.page_laws.proofs.Swapper.PuttingOut.{unit_can, unit_shared, unit_few}
 
 -- Entries.
 
--- A paging entry, where there is room for the transfers that it begins.
-pub plain_sound : (size : ℕ) (k : Kernel) (locked : List Page) (e : Entry) → Sound size k → CanPlace k.place e → EntryShared k.place e → length k.place.transfers + begins e ≤ 16 → Sound size (plain_step k locked e)
-plain_sound size k locked e s c sh l =
+-- A paging entry, after which at most 16 transfers are in flight.
+pub entry_sound : (size : ℕ) (k : Kernel) (locked : List Page) (e : Entry) → Sound size k → CanPlace k.place e → EntryShared k.place e → length (Placement.transfers (place_entry locked (length (append k.journal e)) k.place e)) ≤ 16 → Sound size (plain_step k locked e)
+entry_sound size k locked e s c sh l =
     let o : OneOwner size (lives k.processes) k.place k.holdings = s.owner in
     let h = entry_keep locked (length (append k.journal e)) k.place e o.frames in
     record {
       owner = place_entry_one size (lives k.processes) k.holdings locked (length (append k.journal e)) k.place e o c sh;
       tokens = s.tokens ∙ sym h.frames;
       hands = h.stand s.hands;
-      few_transfers = let n = entry_count locked (length (append k.journal e)) k.place e in omega arith;
+      few_transfers = l;
     }
+
+-- A paging entry, where there is room for the transfers that it begins.
+pub plain_sound : (size : ℕ) (k : Kernel) (locked : List Page) (e : Entry) → Sound size k → CanPlace k.place e → EntryShared k.place e → length k.place.transfers + begins e ≤ 16 → Sound size (plain_step k locked e)
+plain_sound size k locked e s c sh l = entry_sound size k locked e s c sh (let n = entry_count locked (length (append k.journal e)) k.place e in omega arith)
 
 -- other bytes in the frames, and another journal
 frames_sound : (size : ℕ) (k : Kernel) (frames : List (List ℕ)) → Sound size k → length frames ≡ length k.frames → Sound size (record k { frames = frames })
@@ -277,13 +275,5 @@ pass_sound size k from to a b s = record {
 -- The whole machine stays sound through each unit, also where a clean page is put while 16 transfers are in flight.
 pub unit_sound : (size : ℕ) (k : Kernel) (locked : List Page) (pid sid : ℕ) → Sound size k → Sound size (plain_step k locked (put_out_unit k.place pid sid))
 unit_sound size k locked pid sid s =
-    let o : OneOwner size (lives k.processes) k.place k.holdings = s.owner in
     let e = put_out_unit k.place pid sid in
-    let at = length (append k.journal e) in
-    let h = entry_keep locked at k.place e o.frames in
-    record {
-      owner = place_entry_one size (lives k.processes) k.holdings locked at k.place e o (unit_can k.place pid sid) (unit_shared k.place pid sid);
-      tokens = s.tokens ∙ sym h.frames;
-      hands = h.stand s.hands;
-      few_transfers = unit_few locked at k.place pid sid s.few_transfers;
-    }
+    entry_sound size k locked e s (unit_can k.place pid sid) (unit_shared k.place pid sid) (unit_few locked (length (append k.journal e)) k.place pid sid s.few_transfers)

@@ -22,7 +22,7 @@ use Rattle.kernel_model.specs.Stands.{OutHold, holds_some, Stands}
 use Rattle.flat_state.specs.Lenders.{IsLender}
 use Rattle.kernel_model.specs.Kernel.{Kernel, Proc, StartBytes, New, HoldsSpace, write_step}
 use Rattle.kernel_model.specs.Sound.{is_start, has_start}
-use Rattle.kernel_model.specs.Coupled.{Coupled, SameTables}
+use Rattle.kernel_model.specs.Coupled.{SameTables}
 use Rattle.kernel_model.specs.ChangeStep.{ran_by, with_proc, orphaned_procs, left_procs, pass_step, change_step}
 use Rattle.page_laws.proofs.Lists.Pages.{mapped, same_page_self}
 use Rattle.page_laws.proofs.Moves.Stays.{Steady}

@@ -1,0 +1,5 @@
+pub mod Pages
+pub mod Borrowed
+pub mod Changes
+pub mod Units
+pub mod Waiting

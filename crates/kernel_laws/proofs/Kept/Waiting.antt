@@ -1,0 +1,87 @@
+-- Pieces that wait change nothing of what the kernel stands for, nor does the end of a transfer change what is asked.
+use Rattle.std.proofs.Common.{◌≡◌, ℕ, ◌*◌, List, [], ◌∷◌, ◌++◌, Option, Some, None, Ok, refl, sym, ap, ap₂, ◌∙◌}
+use Rattle.vm_facts.specs.declared.page.Page.TheVariants.{Data, Stack, Text}
+use Rattle.aout_image.specs.Image.{data_pages_of}
+use Rattle.swap_dmap.specs.Chunks.{pieces}
+use Rattle.swap_book.specs.declared.Owner.TheVariants as owners
+use Rattle.swap_book.specs.Holdings.{Holdings}
+use Rattle.swap_book.specs.Owners.{u_pieces}
+use Rattle.swap_book.specs.Placing.{Wanted, wanted, place_all}
+use Rattle.flat_state.specs.Flat.{NamedImage, image_numbered}
+use Rattle.flat_state.specs.PageNames.{number_of}
+use Rattle.flat_state.specs.declared.change.Change.{Change}
+use Rattle.flat_state.specs.declared.change.Change.TheVariants.{Keep, Resize, Fork, Lend, Exec, Reap, Sleep, End}
+use Rattle.page_model.specs.Placement.{Placement, Transfer, Part, Errand, Writes, Reads}
+use Rattle.page_model.specs.Moves.{done}
+use Rattle.page_model.specs.Ownership.{OneOwner, block_of, owner_of}
+use Rattle.page_model.specs.Stored.{store_at}
+use Rattle.kernel_model.specs.Kernel.{Kernel, done_step, store_all, image_after, image_after_of, image_after_by, frame_bytes}
+use Rattle.kernel_model.specs.Coupled.{Coupled}
+use Rattle.kernel_model.specs.Sound.{Sound, lives}
+use Rattle.kernel_model.specs.Stands.{Stands}
+use Rattle.kernel_model.specs.Asks.{further, text_asked, image_asked, change_asks, asked}
+use Rattle.kernel_model.specs.Unit.{KernelState, with_found}
+use Rattle.kernel_model.specs.Invariant.{WereFound, Invariant}
+use Rattle.page_laws.proofs.Moves.Stays.{Steady, done_steady}
+use Rattle.kernel_laws.proofs.Machine.Done.{oldest_store}
+use Rattle.kernel_laws.proofs.Machine.Images.{CanStore, AllStore}
+use Rattle.kernel_laws.proofs.Machine.Takes.{still_found, takes_coupled}
+
+-- The kernel with the pieces that wait.
+
+pub waits_coupled : (size : ℕ) (images : List NamedImage) (m : KernelState) → Invariant size images m → Coupled (with_found m) images m.image m.flat
+waits_coupled size images m i =
+    let f : WereFound size m.kernel.holdings m.found = i.found in
+    let st : Stands images m.kernel m.flat = i.stands in
+    takes_coupled size m.kernel images m.image m.flat f.pieces m.found st.texts f.placed i.coupled
+
+store_same : (size : ℕ) (k : Kernel) (new : Holdings) (ws : List Wanted) (xs : List Part) (image : List ℕ) → place_all size k.holdings ws ≡ Ok new → AllStore k xs → store_all (record k { holdings = new }) image xs ≡ store_all k image xs
+store_same size k new ws [] image e a = refl
+store_same size k new ws (x ∷ xs) image e a =
+    let c : CanStore k x = a.0 in
+    ap (λ (o : Option ℕ). store_all (record k { holdings = new }) (store_at image o (frame_bytes k x.frame)) xs) (still_found size k.holdings new ws (owner_of x.page) (number_of x.page) c.block e c.found ∙ sym c.found)
+    ∙ store_same size k new ws xs (store_at image (block_of k.holdings x.page) (frame_bytes k x.frame)) e a.1
+
+-- the end of a write stores the same, whether pieces wait or not
+pub waits_image : (size : ℕ) (images : List NamedImage) (m : KernelState) → Invariant size images m → image_after (with_found m) m.image ≡ image_after m.kernel m.image
+waits_image size images m i = go k.place.transfers refl
+  where
+    k : Kernel
+    k = m.kernel
+
+    f : WereFound size k.holdings m.found
+    f = i.found
+
+    st : Stands images k m.flat
+    st = i.stands
+
+    go : (ts : List Transfer) → k.place.transfers ≡ ts → image_after_of (with_found m) m.image ts ≡ image_after_of k m.image ts
+    go [] h = refl
+    go (t ∷ ts) h = by t.errand refl
+      where
+        by : (e : Errand) → t.errand ≡ e → image_after_by (with_found m) m.image t e ≡ image_after_by k m.image t e
+        by Writes e = store_same size k m.found f.pieces t.parts m.image f.placed (oldest_store size k images m.image m.flat t ts i.sound st.texts i.coupled h e)
+        by (Reads source demanded) e = refl
+
+-- What a change asks.
+
+asks_steady : (images : List NamedImage) (p q : Placement) (sid next : ℕ) (change : Change) → Steady p q → change_asks images q sid next change ≡ change_asks images p sid next change
+asks_steady images p q sid next Keep s = refl
+asks_steady images p q sid next (Resize d t) s = ap₂ (λ (a b : ℕ). further (owners.Data sid) a d ++ further (owners.Stack sid) b t) (s.sizes (Data sid 0)) (s.sizes (Stack sid 0))
+asks_steady images p q sid next (Fork child) s =
+    ap₂ (λ (a b : ℕ). wanted (owners.Data next) (pieces (2 * a)) ++ (wanted (owners.Stack next) (pieces (2 * b)) ++ wanted (owners.U child) (u_pieces 2))) (s.sizes (Data sid 0)) (s.sizes (Stack sid 0))
+asks_steady images p q sid next (Lend child) s = refl
+asks_steady images p q sid next (Exec image top) s = by (image_numbered images image)
+  where
+    by : (o : Option NamedImage) → image_asked q next image o ≡ image_asked p next image o
+    by None = refl
+    by (Some named) = ap₂ (λ (a b : ℕ). text_asked a image (2 * b) ++ (wanted (owners.Data next) (pieces (2 * data_pages_of named.image.facts)) ++ wanted (owners.Stack next) (pieces 2))) (s.sharing image) (s.sizes (Text image 0))
+asks_steady images p q sid next (Reap child) s = refl
+asks_steady images p q sid next Sleep s = refl
+asks_steady images p q sid next (End status) s = refl
+
+-- the end of a transfer changes nothing of what a change asks
+pub done_asks : (size : ℕ) (images : List NamedImage) (k : Kernel) (read : List (List ℕ)) (pid : ℕ) (change : Change) → Sound size k → asked images (done_step k read) pid change ≡ asked images k pid change
+done_asks size images k read pid change so =
+    let o : OneOwner size (lives k.processes) k.place k.holdings = so.owner in
+    asks_steady images k.place (done k.place) _ k.next_sid change (done_steady k.place o.frames)

@@ -1,0 +1,33 @@
+ghost use Rattle.std.specs.Prelude.{◌≡◌, ℕ, List};
+ghost use Rattle.flat_state.specs.Flat.{NamedImage};
+ghost use Rattle.flat_state.specs.declared.change.Change.{Change as AnyChange};
+ghost use Rattle.kernel_model.specs.Kernel.{Kernel, image_after, done_step};
+ghost use Rattle.kernel_model.specs.Coupled.{Coupled};
+ghost use Rattle.kernel_model.specs.Sound.{Sound};
+ghost use Rattle.kernel_model.specs.Start.{ImagesFit};
+ghost use Rattle.kernel_model.specs.Asks.{asked};
+ghost use Rattle.kernel_model.specs.Unit.{KernelUnit, KernelState, with_found, state_after, states_after};
+ghost use Rattle.kernel_model.specs.Invariant.{Invariant, May, MayAll};
+
+/// All that is so of the kernel between two units is so after each unit that it may make, and after each list of units,
+/// one after another: each frame and each block of swap has one owner, no two numbers are one, what is due waits to be
+/// filled, and the kernel's frames, its files and its swap image stand for the flat state, which changes by what processes
+/// do and by nothing else. It is so too while pieces that were found wait for the change that takes them.
+pub fn machine_kept()
+    ensures unit { (size : ℕ) (images : List NamedImage) (m : KernelState) (u : KernelUnit) → ImagesFit images
+        → Invariant size images m → May size images m u → Invariant size images (state_after images m u) }
+    ensures units { (size : ℕ) (images : List NamedImage) (us : List KernelUnit) (m : KernelState) → ImagesFit images
+        → Invariant size images m → MayAll size images m us → Invariant size images (states_after images m us) }
+{}
+
+/// Pieces that were found and wait for a change take nothing from others: also with them the kernel stands for the flat
+/// state, and the end of a write stores the same. And the end of a transfer changes nothing of what a change asks, so the
+/// pieces that were found before it are still those that the change takes.
+pub fn pieces_wait()
+    ensures coupled { (size : ℕ) (images : List NamedImage) (m : KernelState) → Invariant size images m
+        → Coupled (with_found m) images m.image m.flat }
+    ensures image { (size : ℕ) (images : List NamedImage) (m : KernelState) → Invariant size images m
+        → image_after (with_found m) m.image ≡ image_after m.kernel m.image }
+    ensures asks { (size : ℕ) (images : List NamedImage) (k : Kernel) (read : List (List ℕ)) (pid : ℕ) (change : AnyChange) → Sound size k
+        → asked images (done_step k read) pid change ≡ asked images k pid change }
+{}

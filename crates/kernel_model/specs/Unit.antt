@@ -1,0 +1,145 @@
+-- The steps of the kernel one by one: what each does to the machine, to the swap image, to the pieces that wait, and to
+-- the flat state.
+use Rattle.std.specs.Prelude.{ℕ, ◌==◌, Bool, true, false, ◌||◌, cond, List, [], ◌∷◌, length, Option, Some, None}
+use Rattle.vm_facts.specs.Answers.{ByteWrite}
+use Rattle.vm_facts.specs.declared.page.Page.{Page}
+use Rattle.vm_facts.specs.declared.page.Page.TheVariants.{Data, Stack}
+use Rattle.vm_facts.specs.declared.regs.Regs.{Regs}
+use Rattle.vm_facts.specs.declared.entry.Entry.{Entry}
+use Rattle.swap_book.specs.declared.Owner.TheVariants as owners
+use Rattle.swap_book.specs.Holdings.{Holdings, block_in}
+use Rattle.flat_state.specs.Flat.{FlatState, NamedImage}
+use Rattle.flat_state.specs.Change.{apply_change, apply_writes}
+use Rattle.flat_state.specs.declared.change.Change.{Change}
+use Rattle.flat_state.specs.declared.change.Change.TheVariants.{Keep, Lend, Exec, End}
+use Rattle.page_model.specs.Pages.{numbered}
+use Rattle.page_model.specs.Placement.{slots_of}
+use Rattle.page_model.specs.Stored.{stored_at, store_at}
+use Rattle.kernel_model.specs.Kernel.{Kernel, Proc, Life, New, HoldsSpace, LendsSpace, Ended, zero_step, copy_step, get_step, reclaim_step, hand_step, push_step, done_step, write_step, note_step, out_step, in_step, image_after}
+use Rattle.kernel_model.specs.UPage.{u_page, regs_in}
+use Rattle.kernel_model.specs.ChangeStep.{change_step, ran_by, pass_step, space_of_life}
+
+-- Spaces that are lent.
+
+abbrev pub lends_life : ℕ → Life → Bool
+lends_life pid New = false
+lends_life pid (HoldsSpace sid) = false
+lends_life pid (LendsSpace sid child) = child == pid
+lends_life pid (Ended status) = false
+
+-- the first process that lent a space to this one
+abbrev pub lender_among : List Proc → ℕ → ℕ
+lender_among [] pid = 0
+lender_among (p ∷ ps) pid = cond (lends_life pid p.life) p.pid (lender_among ps pid)
+
+-- some process lent a space to this one
+abbrev pub has_lender : List Proc → ℕ → Bool
+has_lender [] pid = false
+has_lender (p ∷ ps) pid = lends_life pid p.life || has_lender ps pid
+
+-- who has a space of its own, or keeps the one that it borrowed; a space that it lends passes to the child
+abbrev pub keeps_step : List NamedImage → Kernel → ℕ → Regs → Entry → Change → Kernel
+keeps_step images k pid regs e (Lend child) = pass_step (change_step images k pid regs e (Lend child)) pid child
+keeps_step images k pid regs e change = change_step images k pid regs e change
+
+-- who borrowed its space gives it back before a new image and before its end
+abbrev pub back_step : List NamedImage → Kernel → ℕ → Regs → Entry → Change → Kernel
+back_step images k pid regs e (Exec image top) = change_step images (pass_step k pid (lender_among k.processes pid)) pid regs e (Exec image top)
+back_step images k pid regs e (End status) = change_step images (pass_step k pid (lender_among k.processes pid)) pid regs e (End status)
+back_step images k pid regs e change = keeps_step images k pid regs e change
+
+-- an entry of a process with its change, and with the space that passes, by whether the process borrowed its space
+abbrev pub passing_change : Bool → List NamedImage → Kernel → ℕ → Regs → Entry → Change → Kernel
+passing_change true = back_step
+passing_change false = keeps_step
+
+-- U pages.
+
+-- the u page of a process
+abbrev pub u_bytes : Kernel → Option Proc → List ℕ
+u_bytes k None = []
+u_bytes k (Some p) = u_page p.regs (length (slots_of k.place (Data (space_of_life p.life) 0))) (length (slots_of k.place (Stack (space_of_life p.life) 0)))
+
+abbrev pub proc_of : Kernel → ℕ → Option Proc
+proc_of k pid = numbered (λ (p : Proc). p.pid) pid k.processes
+
+-- Units.
+
+-- What the kernel does at once: it fills a page, with zeros or with what is kept for it, or with its parent's bytes;
+-- begins a read of pages; takes a page back that is on the free list; moves the hands once, with these pages locked;
+-- begins a write, or frees a clean page; completes the oldest transfer, of a read with what was read; writes a byte that
+-- a process writes into its page's frame; notes an entry; ends an instruction; finds pieces of swap, with which the
+-- holdings are these; ends a process's step with its change, which takes the pieces that were found; and puts a process
+-- out, or brings it in.
+pub data KernelUnit : Type 0 where
+  ZeroUnit : Page → KernelUnit
+  CopyUnit : Page → KernelUnit
+  GetUnit : Page → ℕ → ℕ → KernelUnit
+  ReclaimUnit : Page → KernelUnit
+  HandsUnit : List Page → KernelUnit
+  PutUnit : Page → ℕ → KernelUnit
+  DoneUnit : List (List ℕ) → KernelUnit
+  WriteUnit : ℕ → ByteWrite → Page → ℕ → ℕ → KernelUnit
+  NoteUnit : Entry → KernelUnit
+  RanUnit : ℕ → Regs → Entry → KernelUnit
+  FindUnit : Holdings → KernelUnit
+  ChangeUnit : ℕ → Regs → Entry → Change → KernelUnit
+  OutUnit : ℕ → KernelUnit
+  InUnit : ℕ → KernelUnit
+
+-- The kernel between two units. Its holdings are those of its spaces and processes; pieces that were found for a change
+-- to come wait beside them, and stand in `found`, which is the holdings where none wait.
+pub record KernelState : Type 0 where
+  pub kernel : Kernel
+  -- the holdings with the pieces that were found
+  pub found : Holdings
+  -- the swap image
+  pub image : List ℕ
+  -- what it stands for
+  pub flat : FlatState
+
+-- a change takes the pieces that were found
+abbrev pub with_found : KernelState → Kernel
+with_found m = record (m.kernel) { holdings = m.found }
+
+abbrev pub kernel_step : List NamedImage → KernelState → KernelUnit → Kernel
+kernel_step images m (ZeroUnit q) = zero_step m.kernel q
+kernel_step images m (CopyUnit q) = copy_step m.kernel q
+kernel_step images m (GetUnit q lo n) = get_step m.kernel q lo n
+kernel_step images m (ReclaimUnit q) = reclaim_step m.kernel q
+kernel_step images m (HandsUnit locked) = hand_step m.kernel locked
+kernel_step images m (PutUnit q n) = push_step m.kernel q n
+kernel_step images m (DoneUnit read) = done_step m.kernel read
+kernel_step images m (WriteUnit pid w q f at) = write_step m.kernel q f at w.byte
+kernel_step images m (NoteUnit e) = note_step m.kernel e
+kernel_step images m (RanUnit pid regs e) = ran_by m.kernel pid regs e
+kernel_step images m (FindUnit found) = m.kernel
+kernel_step images m (ChangeUnit pid regs e change) = passing_change (has_lender m.kernel.processes pid) images (with_found m) pid regs e change
+kernel_step images m (OutUnit pid) = out_step m.kernel pid
+kernel_step images m (InUnit pid) = in_step m.kernel pid (regs_in (stored_at m.image (block_in m.kernel.holdings (owners.U pid) 0)))
+
+-- after a change no pieces wait
+abbrev pub found_after : List NamedImage → KernelState → KernelUnit → Holdings
+found_after images m (FindUnit found) = found
+found_after images m (ChangeUnit pid regs e change) = let k : Kernel = kernel_step images m (ChangeUnit pid regs e change) in k.holdings
+found_after images m u = m.found
+
+-- the end of a write fills the blocks of its pages, and who goes out its u page's
+abbrev pub swap_after : KernelState → KernelUnit → List ℕ
+swap_after m (DoneUnit read) = image_after m.kernel m.image
+swap_after m (OutUnit pid) = store_at m.image (block_in m.kernel.holdings (owners.U pid) 0) (u_bytes m.kernel (proc_of m.kernel pid))
+swap_after m u = m.image
+
+-- the flat state changes by what processes do, and by nothing else
+abbrev pub flat_after : List NamedImage → FlatState → KernelUnit → FlatState
+flat_after images flat (WriteUnit pid w q f at) = apply_writes flat pid (w ∷ [])
+flat_after images flat (RanUnit pid regs e) = apply_change images flat pid regs Keep
+flat_after images flat (ChangeUnit pid regs e change) = apply_change images flat pid regs change
+flat_after images flat u = flat
+
+abbrev pub state_after : List NamedImage → KernelState → KernelUnit → KernelState
+state_after images m u = record { kernel = kernel_step images m u; found = found_after images m u; image = swap_after m u; flat = flat_after images m.flat u }
+
+abbrev pub states_after : List NamedImage → KernelState → List KernelUnit → KernelState
+states_after images m [] = m
+states_after images m (u ∷ us) = states_after images (state_after images m u) us
