@@ -1,5 +1,5 @@
 -- Decoding is exact against the grammar.
-use Rattle.std.proofs.Common.{◌≡◌, ◌≢◌, ◌∙◌, ℕ, List, [], ◌∷◌, ◌++◌, suc, Ok, Err, refl, ap, sym, subst, arith, Fits, w8, get_or}
+use Rattle.std.proofs.Common.{◌≡◌, ◌≢◌, ◌↔◌, ◌∙◌, ℕ, List, [], ◌∷◌, ◌++◌, suc, Ok, Err, refl, ap, sym, subst, arith, Fits, w8, get_or}
 use Rattle.vax_code.specs.declared.reader.Fault.TheVariants.{Short, Bad}
 use Rattle.vax_code.specs.declared.instr.Instr.{Instr}
 use Rattle.vax_code.specs.declared.instr.Decoded.{Decoded}
@@ -115,6 +115,14 @@ exact bytes found octets e =
       need_more = (prefix bytes octets, needs_more bytes);
       reserved = (nothing bytes, is_reserved bytes octets);
     })
+
+allowed_is_read : (bytes : List ℕ) (result : Decoded) → AreOctets bytes → DecodesAs bytes result → result ≡ decoded bytes
+allowed_is_read bytes (decodings.Is instr) octets h = sym (is_decoded bytes instr ((h.is instr).0 refl))
+allowed_is_read bytes decodings.NeedMore octets h = sym (needs_more bytes (h.need_more.0 refl))
+allowed_is_read bytes decodings.Reserved octets h = sym (is_reserved bytes octets (h.reserved.0 refl))
+
+pub reading_is_the_grammar : (bytes : List ℕ) (result : Decoded) → AreOctets bytes → DecodesAs bytes result ↔ (result ≡ decoded bytes)
+reading_is_the_grammar bytes result octets = (allowed_is_read bytes result octets, exact bytes result octets)
 
 -- the bytes of a slice are bytes
 pub slice_octets : (bytes : List ℕ) → ((i : ℕ) → Fits w8 (get_or bytes i 0)) → AreOctets bytes

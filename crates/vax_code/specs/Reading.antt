@@ -1,4 +1,5 @@
--- Reading one instruction from the front of some bytes.
+-- Reading one instruction from the front of some bytes, as a function. Which bytes are an instruction is the grammar's
+-- to say: this is derived from it, and `reading_is_the_grammar` proves that both give the same.
 use Rattle.std.specs.Prelude.{◌≡◌, ℕ, ◌+◌, ◌-◌, ◌*◌, ◌/◌, ◌%◌, List, [], ◌∷◌, ◌≤◌, length, take, drop, Option, Some, None, Result, Ok, Err, nat_lt, ◌==◌, ◌&&◌, ◌||◌, if◌then◌else◌, ℤ}
 use Rattle.std.specs.Int.{from_le_bytes, cast_signed}
 use Rattle.vax_code.specs.declared.instr.Operand.{Operand}
