@@ -4,6 +4,7 @@ pub mod Pushing
 pub mod Writing
 pub mod Allowed
 pub mod Fetching
+pub mod OwnSignals
 pub mod Order
 pub mod Saving
 pub mod Restoring

@@ -6,7 +6,7 @@ use Rattle.vax_alu.specs.declared.Sum.{Sum}
 use Rattle.vax_alu.specs.Results.{quotient_of}
 use Rattle.user_vax.specs.declared.operand.Place.{Place}
 use Rattle.user_vax.specs.declared.operand.Place.TheVariants as places
-use Rattle.user_vax.specs.declared.refused.TheConstants.{SIGFPE}
+use Rattle.user_vax.specs.Signals.{sigfpe}
 use Rattle.user_vax.specs.Program.{Program, Gives, Refuses, ◌>>=◌}
 use Rattle.user_vax.specs.Operands.{register, with_register, past, back, number_at}
 
@@ -79,7 +79,7 @@ count_effect regs place sum test target =
 -- the quotient goes to its place; a divisor 0 is a signal
 unfoldable pub division : Regs → Place → ℕ → ℕ → Program Effect
 division regs place dividend divisor =
-    if divisor == 0 then Refuses SIGFPE else Gives (result_effect regs 4 place (quotient_of dividend divisor))
+    if divisor == 0 then Refuses sigfpe else Gives (result_effect regs 4 place (quotient_of dividend divisor))
 
 -- the call of a subroutine: the address of the next instruction is pushed
 abbrev pub entry_effect : Regs → ℕ → Effect

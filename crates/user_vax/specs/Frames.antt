@@ -1,7 +1,7 @@
 -- The frame of a procedure: what CALLS and CALLG push, and what RET takes from it.
 use Rattle.std.specs.Prelude.{ℕ, zero, suc, ◌+◌, ◌-◌, ◌*◌, ◌/◌, ◌%◌, ◌^◌, Bool, true, false, List, [], ◌∷◌, ◌++◌, if◌then◌else◌, ◌==◌, nat_le, slice_index}
 use Rattle.vm_facts.specs.declared.regs.Regs.{Regs}
-use Rattle.user_vax.specs.declared.refused.TheConstants.{SIGILL}
+use Rattle.user_vax.specs.Signals.{sigill}
 use Rattle.user_vax.specs.Program.{Program, Gives, Refuses, ◌>>=◌}
 use Rattle.user_vax.specs.Operands.{register, with_register, past, number_at}
 use Rattle.user_vax.specs.Effects.{Effect, registers_only, push_onto, pop, pop_into}
@@ -56,7 +56,7 @@ procedure_entry pushed ap target =
 unfoldable pub procedure_call : Effect → Bool → ℕ → ℕ → Program Effect
 procedure_call before counted ap target = do
   mask ← number_at 2 target
-  if nat_le (2 ^ 12) mask then Refuses SIGILL
+  if nat_le (2 ^ 12) mask then Refuses sigill
       else Gives (procedure_entry (with_frame before counted mask) ap target)
 
 -- the registers of a mask are popped, the lowest first; so many of R0 to R11 are left
@@ -98,4 +98,4 @@ procedure_return regs = do
   state ← pop (with_register regs 14 (past (register regs 13) 4))
   if state.1 / 2 ^ 4 % 2 ^ 12 == 0
       then (unwound state.1 state.0 >>= λ after. Gives (registers_only (with_state_codes after state.1)))
-      else Refuses SIGILL
+      else Refuses sigill

@@ -11,7 +11,7 @@ use Rattle.vax_code.specs.Table.{row_for, slot_in}
 use Rattle.vax_code.specs.Reading.{decoded}
 use Rattle.user_vax.specs.declared.refused.Refused.{Refused}
 use Rattle.user_vax.specs.declared.refused.Refused.TheVariants as refusals
-use Rattle.user_vax.specs.declared.refused.TheConstants.{SIGILL}
+use Rattle.user_vax.specs.Signals.{sigill}
 use Rattle.user_vax.specs.declared.operand.Evaluated.{Evaluated}
 use Rattle.user_vax.specs.declared.stepping.Stepped.{Stepped}
 use Rattle.user_vax.specs.declared.stepping.Stepped.TheVariants as answers
@@ -22,12 +22,12 @@ use Rattle.user_vax.specs.Computation.{computation}
 
 abbrev pub on_decoded : Decoded → Program Instr → Program Instr
 on_decoded (decodings.Is instr) more = Gives instr
-on_decoded decodings.Reserved more = Refuses SIGILL
+on_decoded decodings.Reserved more = Refuses sigill
 on_decoded decodings.NeedMore more = more
 
 -- the instruction at pc, of which these bytes were read; so many more may come
 unfoldable pub fetch : ℕ → ℕ → List ℕ → Program Instr
-fetch zero pc bytes = Refuses SIGILL
+fetch zero pc bytes = Refuses sigill
 fetch (suc more) pc bytes =
     on_decoded (decoded bytes) (Reads (past pc (length bytes)) (λ byte. fetch more pc (bytes ++ byte ∷ [])))
 
@@ -61,7 +61,7 @@ execution row regs instr = do
   tested_effect effect
 
 unfoldable pub execution_by : Option Row → Regs → Instr → Program Effect
-execution_by None regs instr = Refuses SIGILL
+execution_by None regs instr = Refuses sigill
 execution_by (Some row) regs instr = execution row (with_register regs 15 (past (register regs 15) instr.length)) instr
 
 -- the instruction that PC names: it is fetched and decoded whole, its operands are evaluated, it computes,

@@ -7,21 +7,21 @@ use Rattle.vm_facts.specs.declared.memory.MayWrite.{MayWrite}
 use Rattle.vm_facts.specs.declared.memory.MayWrite.TheVariants as tests
 use Rattle.user_vax.specs.declared.refused.Refused.{Refused}
 use Rattle.user_vax.specs.declared.refused.Refused.TheVariants.{Miss, Below, Signal}
-use Rattle.user_vax.specs.declared.refused.TheConstants.{SIGBUS, SIGSEGV}
+use Rattle.user_vax.specs.Signals.{sigill, sigfpe, sigbus, sigsegv}
 use Rattle.user_vax.specs.Program.{Program, run, Access, ReadOf, TestOf, accesses}
 
 abbrev pub read_refusal : ByteRead → ℕ → Option Refused
 read_refusal (bytes.Is byte) address = None
 read_refusal bytes.Miss address = Some (Miss address false)
 read_refusal bytes.Below address = Some (Below address)
-read_refusal bytes.Outside address = Some (Signal SIGSEGV)
+read_refusal bytes.Outside address = Some (Signal sigsegv)
 
 abbrev pub test_refusal : MayWrite → ℕ → Option Refused
 test_refusal tests.May address = None
 test_refusal tests.Miss address = Some (Miss address true)
 test_refusal tests.Below address = Some (Below address)
-test_refusal tests.Text address = Some (Signal SIGBUS)
-test_refusal tests.Outside address = Some (Signal SIGSEGV)
+test_refusal tests.Text address = Some (Signal sigbus)
+test_refusal tests.Outside address = Some (Signal sigsegv)
 
 -- how a memory refuses an access, if it does
 abbrev pub refusal : Answers → Access → Option Refused
@@ -36,12 +36,20 @@ AllGranted memory (access ∷ more) = (refusal memory access ≡ None) × AllGra
 abbrev pub EndsRefused : Answers → List Access → Refused → Type 0
 EndsRefused memory list refused = (front : List Access) × (last : Access) × (list ≡ front ++ last ∷ []) × AllGranted memory front × (refusal memory last ≡ Some refused)
 
--- a computation that gives something was granted each access; a miss and a fall below the stack name the
--- one access that was refused, after which there is none
+-- A signal comes of the last access, which was refused so: SIGBUS and SIGSEGV. Or each access was granted and the
+-- instruction itself is at fault: SIGILL and SIGFPE.
+abbrev pub SignalFrom : Answers → List Access → ℕ → Type 0
+SignalFrom memory list number =
+    (((number ≡ sigbus) ⊎ (number ≡ sigsegv)) × EndsRefused memory list (Signal number))
+    ⊎ (((number ≡ sigill) ⊎ (number ≡ sigfpe)) × AllGranted memory list)
+
+-- a computation that gives something was granted each access; a miss, a fall below the stack, and a signal that an
+-- access is answered by, name the one access that was refused, after which there is none
 pub record KeepsOrder {A : Type 0} (memory : Answers) (p : Program A) : Type 0 where
   pub gives : (x : A) → run memory p ≡ Ok x → AllGranted memory (accesses memory p)
   pub misses : (address : ℕ) (write : Bool) → run memory p ≡ Err (Miss address write) → EndsRefused memory (accesses memory p) (Miss address write)
   pub falls : (address : ℕ) → run memory p ≡ Err (Below address) → EndsRefused memory (accesses memory p) (Below address)
+  pub signals : (number : ℕ) → run memory p ≡ Err (Signal number) → SignalFrom memory (accesses memory p) number
 
 -- some answers as other does, where it doesn't miss
 pub record Covers (some other : Answers) : Type 0 where

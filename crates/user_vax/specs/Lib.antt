@@ -1,3 +1,4 @@
+pub mod Signals
 pub mod Program
 pub mod Laws
 pub mod Operands

@@ -8,7 +8,7 @@ use Rattle.vm_facts.specs.declared.memory.MayWrite.{MayWrite}
 use Rattle.vm_facts.specs.declared.memory.MayWrite.TheVariants as tests
 use Rattle.user_vax.specs.declared.refused.Refused.{Refused}
 use Rattle.user_vax.specs.declared.refused.Refused.TheVariants.{Miss, Below, Signal}
-use Rattle.user_vax.specs.declared.refused.TheConstants.{SIGBUS, SIGSEGV}
+use Rattle.user_vax.specs.Signals.{sigbus, sigsegv}
 
 -- It gives a value, refuses by a signal, reads a byte and goes on from it, or tests a byte and goes on.
 pub data Program (A : Type 0) : Type 0 where
@@ -29,14 +29,14 @@ abbrev pub after_read : {A : Type 0} → ByteRead → ℕ → (ℕ → Result A 
 after_read (bytes.Is byte) address next = next byte
 after_read bytes.Miss address next = Err (Miss address false)
 after_read bytes.Below address next = Err (Below address)
-after_read bytes.Outside address next = Err (Signal SIGSEGV)
+after_read bytes.Outside address next = Err (Signal sigsegv)
 
 abbrev pub after_test : {A : Type 0} → MayWrite → ℕ → Result A Refused → Result A Refused
 after_test tests.May address next = next
 after_test tests.Miss address next = Err (Miss address true)
 after_test tests.Below address next = Err (Below address)
-after_test tests.Text address next = Err (Signal SIGBUS)
-after_test tests.Outside address next = Err (Signal SIGSEGV)
+after_test tests.Text address next = Err (Signal sigbus)
+after_test tests.Outside address next = Err (Signal sigsegv)
 
 -- what the computation comes to over the answers of a memory
 abbrev pub run : {A : Type 0} → Answers → Program A → Result A Refused

@@ -21,7 +21,7 @@ mod stepping;
 
 pub use laws::{first_refusal_decides, missing_bytes_only_stop, writes_are_allowed};
 pub use reading::{read_byte, read_long};
-pub use refused::{Refused, SIGBUS, SIGFPE, SIGILL, SIGSEGV};
+pub use refused::{Refused, SIGBUS, SIGFPE, SIGILL, SIGSEGV, signals_are_numbered};
 pub use stepping::{Stepped, step};
 
 #[cfg(test)]

@@ -1,10 +1,13 @@
-/// The signal of a reserved opcode or operand mode, by the number of 4.3BSD.
+ghost use Rattle.std.specs.Prelude.{◌≡◌};
+ghost use Rattle.user_vax.specs.Signals.{sigill, sigfpe, sigbus, sigsegv};
+
+/// The signal of a reserved opcode or operand mode, by its number in 4.3BSD.
 pub const SIGILL: u8 = 4;
-/// The signal of a division by 0, by the number of 4.3BSD.
+/// The signal of a division by 0, by its number in 4.3BSD.
 pub const SIGFPE: u8 = 8;
-/// The signal of a write to the text, by the number of 4.3BSD.
+/// The signal of a write to the text, by its number in 4.3BSD.
 pub const SIGBUS: u8 = 10;
-/// The signal of an address in no segment, by the number of 4.3BSD.
+/// The signal of an address in no segment, by its number in 4.3BSD.
 pub const SIGSEGV: u8 = 11;
 
 /// Why an instruction changed nothing.
@@ -17,3 +20,11 @@ pub enum Refused {
     /// The instruction ends the process with this signal.
     Signal(u8),
 }
+
+/// The numbers of the signals are those of 4.3BSD, which the clauses of `step` speak of.
+pub fn signals_are_numbered()
+    ensures illegal { SIGILL ≡ sigill }
+    ensures arithmetic { SIGFPE ≡ sigfpe }
+    ensures bus { SIGBUS ≡ sigbus }
+    ensures segmentation { SIGSEGV ≡ sigsegv }
+{}
