@@ -10,7 +10,6 @@ mod page;
 mod params;
 mod regs;
 mod stop;
-mod writing;
 
 pub use bytes::Bytes;
 pub use entry::Entry;
@@ -20,4 +19,6 @@ pub use page::{Page, PageState};
 pub use params::Params;
 pub use regs::Regs;
 pub use stop::{NoMemory, Stop};
-pub use writing::write_both;
+
+#[cfg(test)]
+mod tests;

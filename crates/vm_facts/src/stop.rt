@@ -1,6 +1,26 @@
-/// Want of memory: the allocator refused.
+ghost use Rattle.std.specs.Prelude.{◌≡◌};
+
+use std::alloc::{AllocError, AllocFailed};
+
+/// Want of memory: the allocator refused. An operator `?` on what `std` answers then makes it.
 #[derive(Clone, Copy, Debug, PartialEq, Eq, Drop)]
 pub struct NoMemory;
+
+impl From<AllocError> for NoMemory {
+    ghost from_gives = { λ _ e. e ≡ record {} };
+
+    fn from(_e: AllocError) -> NoMemory {
+        NoMemory
+    }
+}
+
+impl<T: Drop> From<AllocFailed<T>> for NoMemory {
+    ghost from_gives = { λ _ e. e ≡ record {} };
+
+    fn from(_e: AllocFailed<T>) -> NoMemory {
+        NoMemory
+    }
+}
 
 /// Why a run stops before its end.
 #[derive(Clone, Copy, Debug, PartialEq, Eq, Drop)]
