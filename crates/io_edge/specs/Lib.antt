@@ -1,4 +1,7 @@
 pub mod Count
+pub mod Plan
+pub mod PlanLaws
+pub mod Calls
 pub mod FileHolding
 pub mod SwapImage
 pub mod Written

@@ -1,6 +1,7 @@
 // Counts of faults, and the calls of a form in memory that are to fail.
-ghost use Rattle.std.specs.Prelude.{◌≡◌, ◌≤◌};
+ghost use Rattle.std.specs.Prelude.{◌≡◌, ◌≤◌, ◌↔◌, IsTrue};
 ghost use Rattle.io_edge.specs.Count.{Rose, next_count};
+ghost use Rattle.io_edge.specs.Plan.{FailsNext, IsNewPlan, LaterCalls, NextCall};
 
 // The count after one more fault.
 pub(crate) fn raised(count: u64) -> u64
@@ -10,21 +11,28 @@ pub(crate) fn raised(count: u64) -> u64
     count.saturating_add(1)
 }
 
-// Which calls of a kind are to fail, by their numbers from 1 on.
+// Which calls of a kind are to fail, by their numbers from 1 on, and how many were made so far. That
+// count stands still at its last value.
 #[derive(Drop)]
 pub(crate) struct FaultPlan {
-    fail: Vec<u64>,
-    calls: u64,
+    pub(crate) fail: Vec<u64>,
+    pub(crate) calls: u64,
 }
 
 impl FaultPlan {
-    pub(crate) fn new(fail: Vec<u64>) -> FaultPlan {
+    pub(crate) fn new(fail: Vec<u64>) -> FaultPlan
+        ensures { IsNewPlan result fail.items }
+    {
         FaultPlan { fail, calls: 0 }
     }
 
     // Counts one more call, and says whether it is to fail.
-    pub(crate) fn next_fails(&mut self) -> bool {
-        self.calls = self.calls.saturating_add(1);
+    pub(crate) fn next_fails(&mut self) -> bool
+        ensures call { NextCall self.old self.new }
+        ensures later { LaterCalls self.old self.new }
+        ensures fails { IsTrue result ↔ FailsNext self.old }
+    {
+        self.calls = raised(self.calls);
         self.fail.contains(&self.calls)
     }
 }

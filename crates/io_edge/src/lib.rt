@@ -26,6 +26,7 @@ pub use out_sink::OutSink;
 pub use sink::Sink;
 pub use swap_dev::SwapDev;
 pub use swap_pair::SwapPair;
+pub use vm_facts::NoMemory;
 
 /// What `Files::find` answers for a name.
 #[derive(Clone, Copy, PartialEq, Eq, Debug)]
@@ -46,10 +47,6 @@ pub enum Moved {
     /// It failed; a count of faults rose.
     Failed,
 }
-
-/// The memory that a value needs wasn't there.
-#[derive(Clone, Copy, PartialEq, Eq, Debug)]
-pub struct NoMemory;
 
 #[cfg(test)]
 mod tests;

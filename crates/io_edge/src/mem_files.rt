@@ -1,7 +1,11 @@
 // Files in memory: some that never fail, and some with calls that are to fail.
-ghost use Rattle.std.specs.Prelude.{◌≡◌, ◌+◌, ◌^◌, ◌<◌, ◌≤◌, Some, map, refl, length, position, bytes_eq, string_bytes, vec_len};
+ghost use Rattle.std.specs.Prelude.{◌≡◌, ◌+◌, ◌^◌, ◌<◌, ◌≤◌, ◌↔◌, Some, map, refl, length, position, bytes_eq, string_bytes, vec_len};
 ghost use Rattle.std.proofs.Common.{◌∙◌, ap, le_refl, le_trans, lit≤};
-ghost use Rattle.io_edge.specs.FileHolding.{named_file, file_range};
+ghost use Rattle.io_edge.specs.Calls.{KeepsFiles};
+ghost use Rattle.io_edge.specs.Count.{Counts, OnDone};
+ghost use Rattle.io_edge.specs.FileHolding.{AnswersName, CountsFind, HasRange, HoldsRange, named_file, file_range};
+ghost use Rattle.io_edge.specs.Plan.{FailsNext, IsNewPlan, LaterCalls, NextCall};
+ghost use Rattle.io_edge.specs.PlanLaws.{later_itself, later_through};
 
 use crate::count::{FaultPlan, raised};
 use crate::{Files, Found, Moved};
@@ -91,6 +95,7 @@ impl MemFiles {
         ensures holds { ⟦<MemFiles as Files>⟧.holds result ≡ Some (map named_file files.items) }
         ensures open_faults { ⟦<MemFiles as Files>⟧.open_faults result ≡ 0 }
         ensures page_faults { ⟦<MemFiles as Files>⟧.page_faults result ≡ 0 }
+        ensures plan { IsNewPlan result.plan fail.items }
     {
         MemFiles {
             store: SureFiles::new(files),
@@ -108,9 +113,19 @@ impl Files for MemFiles {
 
     ghost page_faults = { λ f. f.page_faults };
 
-    ghost leads = { λ a b. (map named_file b.store.files.items ≡ map named_file a.store.files.items) × (a.open_faults ≤ b.open_faults) × (a.page_faults ≤ b.page_faults) };
+    ghost leads = { λ a b. (map named_file b.store.files.items ≡ map named_file a.store.files.items) × (a.open_faults ≤ b.open_faults)
+        × (a.page_faults ≤ b.page_faults) × LaterCalls a.plan b.plan };
 
-    fn find(&mut self, name: &str) -> Found {
+    fn find(&mut self, name: &str) -> Found
+        ensures kept { KeepsFiles ⟦<MemFiles as Files>⟧ self.old self.new }
+        ensures answer { AnswersName (⟦<MemFiles as Files>⟧.holds self.old) name.now result }
+        ensures open_faults { CountsFind result self.old.open_faults self.new.open_faults }
+        ensures page_faults { self.new.page_faults ≡ self.old.page_faults }
+
+        // Just the calls whose numbers are listed fail.
+        ensures fails { (result ≡ Found.Failed) ↔ FailsNext self.old.plan }
+        ensures plan { NextCall self.old.plan self.new.plan }
+    {
         if self.plan.next_fails() {
             self.open_faults = raised(self.open_faults);
             return Found::Failed;
@@ -118,7 +133,19 @@ impl Files for MemFiles {
         self.store.find(name)
     }
 
-    fn read_at(&mut self, id: u32, offset: u64, buf: &mut [u8]) -> Moved {
+    fn read_at(&mut self, id: u32, offset: u64, buf: &mut [u8]) -> Moved
+        requires { HasRange (⟦<MemFiles as Files>⟧.holds self.old) id offset (length buf.old) }
+        ensures kept { KeepsFiles ⟦<MemFiles as Files>⟧ self.old self.new }
+        ensures done { OnDone result (HoldsRange (⟦<MemFiles as Files>⟧.holds self.old) id offset buf.new) }
+        ensures open_faults { offset ≡ 0 → Counts result self.old.open_faults self.new.open_faults }
+        ensures open_stays { 0 < offset → self.new.open_faults ≡ self.old.open_faults }
+        ensures page_faults { 0 < offset → Counts result self.old.page_faults self.new.page_faults }
+        ensures page_stays { offset ≡ 0 → self.new.page_faults ≡ self.old.page_faults }
+
+        // Just the calls whose numbers are listed fail.
+        ensures fails { (result ≡ Moved.Failed) ↔ FailsNext self.old.plan }
+        ensures plan { NextCall self.old.plan self.new.plan }
+    {
         if self.plan.next_fails() {
             if offset == 0 {
                 self.open_faults = raised(self.open_faults);
@@ -130,9 +157,14 @@ impl Files for MemFiles {
         self.store.read_at(id, offset, buf)
     }
 
-    ghost leads_nowhere = { λ f. (refl, le_refl f.open_faults, le_refl f.page_faults) };
+    ghost leads_nowhere = { λ f. (refl, le_refl f.open_faults, le_refl f.page_faults, later_itself f.plan) };
 
-    ghost leads_through = { λ _ _ _ first then. (then.0 ∙ first.0, le_trans first.1 then.1, le_trans first.2 then.2) };
+    ghost leads_through = { λ a b c first then. (
+      then.0 ∙ first.0,
+      le_trans first.1 then.1,
+      le_trans first.2 then.2,
+      later_through a.plan b.plan c.plan first.3 then.3,
+    ) };
 
     ghost leads_same = { λ _ _ led. ap Some led.0 };
 

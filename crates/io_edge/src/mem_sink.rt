@@ -1,6 +1,10 @@
 // Output in memory.
-ghost use Rattle.std.specs.Prelude.{◌≡◌, ◌≤◌, Some, None, [], take, length, vec_len, IfOk, refl};
-ghost use Rattle.std.proofs.Common.{le_refl, le_trans, lit≤};
+ghost use Rattle.std.specs.Prelude.{◌≡◌, ◌≤◌, ◌<◌, ◌+◌, ◌⊎◌, ◌↔◌, Some, None, [], take, length, vec_len, IfOk, refl};
+ghost use Rattle.std.proofs.Common.{◌∙◌, le_refl, le_trans, lit≤};
+ghost use Rattle.io_edge.specs.Calls.{PutsBytes};
+ghost use Rattle.io_edge.specs.Count.{OnFailed};
+ghost use Rattle.io_edge.specs.Plan.{FailsNext, IsNewPlan, LaterCalls, NextCall};
+ghost use Rattle.io_edge.specs.PlanLaws.{later_itself, later_through};
 ghost use Rattle.io_edge.specs.Told.{extends_itself, extends_through};
 ghost use Rattle.io_edge.specs.Written.{Extends};
 
@@ -25,16 +29,15 @@ impl MemSink {
     pub fn new(alloc: Global, room: usize, fail: Vec<u64>) -> Result<MemSink, NoMemory>
         ensures written { IfOk result (λ sink. ⟦<MemSink as Sink>⟧.written sink ≡ Some []) }
         ensures faults { IfOk result (λ sink. ⟦<MemSink as Sink>⟧.faults sink ≡ 0) }
+        ensures room { IfOk result (λ sink. vec_len sink.room ≡ room) }
+        ensures plan { IfOk result (λ sink. IsNewPlan sink.plan fail.items) }
     {
-        match vec![in alloc; 0u8; room] {
-            Ok(room) => Ok(MemSink {
-                room,
-                len: 0,
-                plan: FaultPlan::new(fail),
-                faults: 0,
-            }),
-            Err(_) => Err(NoMemory),
-        }
+        Ok(MemSink {
+            room: vec![in alloc; 0u8; room]?,
+            len: 0,
+            plan: FaultPlan::new(fail),
+            faults: 0,
+        })
     }
 
     /// All bytes that were written, in order.
@@ -50,9 +53,19 @@ impl Sink for MemSink {
 
     ghost faults = { λ s. s.faults };
 
-    ghost leads = { λ a b. Extends (Some (take a.len a.room.items)) (Some (take b.len b.room.items)) × (a.faults ≤ b.faults) };
+    ghost leads = { λ a b. Extends (Some (take a.len a.room.items)) (Some (take b.len b.room.items)) × (a.faults ≤ b.faults)
+        × LaterCalls a.plan b.plan × (vec_len b.room ≡ vec_len a.room) };
 
-    fn put(&mut self, bytes: &[u8]) -> Moved {
+    fn put(&mut self, bytes: &[u8]) -> Moved
+        ensures puts { PutsBytes ⟦<MemSink as Sink>⟧ bytes.now result self.old self.new }
+
+        // Just the calls whose numbers are listed fail, and those whose piece has no room; a failed one
+        // appends nothing.
+        ensures fails { (result ≡ Moved.Failed) ↔ (FailsNext self.old.plan ⊎ (vec_len self.old.room < self.old.len + length bytes.now)) }
+        ensures unchanged { OnFailed result (⟦<MemSink as Sink>⟧.written self.new ≡ ⟦<MemSink as Sink>⟧.written self.old) }
+        ensures room { vec_len self.new.room ≡ vec_len self.old.room }
+        ensures plan { NextCall self.old.plan self.new.plan }
+    {
         if self.plan.next_fails() || bytes.len() > self.room.len() - self.len {
             self.faults = raised(self.faults);
             return Moved::Failed;
@@ -63,9 +76,19 @@ impl Sink for MemSink {
         Moved::Done
     }
 
-    ghost leads_nowhere = { λ s. (extends_itself (Some (take s.len s.room.items)), le_refl s.faults) };
+    ghost leads_nowhere = { λ s. (
+      extends_itself (Some (take s.len s.room.items)),
+      le_refl s.faults,
+      later_itself s.plan,
+      refl,
+    ) };
 
-    ghost leads_through = { λ a b c first then. (extends_through (Some (take a.len a.room.items)) (Some (take b.len b.room.items)) (Some (take c.len c.room.items)) first.0 then.0, le_trans first.1 then.1) };
+    ghost leads_through = { λ a b c first then. (
+      extends_through (Some (take a.len a.room.items)) (Some (take b.len b.room.items)) (Some (take c.len c.room.items)) first.0 then.0,
+      le_trans first.1 then.1,
+      later_through a.plan b.plan c.plan first.2 then.2,
+      then.3 ∙ first.3,
+    ) };
 
     ghost leads_more = { λ _ _ led. led.0 };
 

@@ -1,7 +1,11 @@
 // Swap devices in memory.
-ghost use Rattle.std.specs.Prelude.{◌≡◌, ◌+◌, ◌*◌, ◌≤◌, ℕ, Some, List, length, IfOk, replicate, refl};
+ghost use Rattle.std.specs.Prelude.{◌≡◌, ◌+◌, ◌*◌, ◌%◌, ◌≤◌, ◌↔◌, ℕ, Some, List, length, IfOk, replicate, refl};
 ghost use Rattle.std.proofs.Common.{◌∙◌, le_refl, le_trans, lit≤};
-ghost use Rattle.io_edge.specs.SwapImage.{page_at, put_page};
+ghost use Rattle.io_edge.specs.Calls.{ReadsSwap, WritesSwap};
+ghost use Rattle.io_edge.specs.Count.{Counts, OnDone, OnFailed};
+ghost use Rattle.io_edge.specs.Plan.{FailsNext, IsNewPlan, LaterCalls, NextCall};
+ghost use Rattle.io_edge.specs.PlanLaws.{later_itself, later_through};
+ghost use Rattle.io_edge.specs.SwapImage.{HoldsPage, SpoilsPage, page_at, put_page};
 ghost use Rattle.io_edge.specs.Told.{told_length};
 
 use crate::count::{FaultPlan, raised};
@@ -42,10 +46,8 @@ impl SureSwap {
         ensures blocks { IfOk result (λ swap. ⟦<SureSwap as SwapDev>⟧.blocks swap ≡ blocks) }
         ensures zeros { IfOk result (λ swap. ⟦<SureSwap as SwapDev>⟧.image swap ≡ Some (replicate (512 * blocks) 0)) }
     {
-        match vec![in alloc; 0u8; blocks as usize * 512] {
-            Ok(image) => Ok(SureSwap { image, blocks }),
-            Err(_) => Err(NoMemory),
-        }
+        let image = vec![in alloc; 0u8; blocks as usize * 512]?;
+        Ok(SureSwap { image, blocks })
     }
 }
 
@@ -111,6 +113,8 @@ impl MemSwap {
         ensures zeros { IfOk result (λ swap. ⟦<MemSwap as SwapDev>⟧.image swap ≡ Some (replicate (512 * blocks) 0)) }
         ensures read_faults { IfOk result (λ swap. ⟦<MemSwap as SwapDev>⟧.read_faults swap ≡ 0) }
         ensures write_faults { IfOk result (λ swap. ⟦<MemSwap as SwapDev>⟧.write_faults swap ≡ 0) }
+        ensures reads { IfOk result (λ swap. IsNewPlan swap.reads fail_reads.items) }
+        ensures writes { IfOk result (λ swap. IsNewPlan swap.writes fail_writes.items) }
     {
         Ok(MemSwap {
             store: SureSwap::new(alloc, blocks)?,
@@ -131,13 +135,25 @@ impl SwapDev for MemSwap {
 
     ghost write_faults = { λ d. d.write_faults };
 
-    ghost leads = { λ a b. (b.store.blocks ≡ a.store.blocks) × (a.read_faults ≤ b.read_faults) × (a.write_faults ≤ b.write_faults) };
+    ghost leads = { λ a b. (b.store.blocks ≡ a.store.blocks) × (a.read_faults ≤ b.read_faults) × (a.write_faults ≤ b.write_faults)
+        × LaterCalls a.reads b.reads × LaterCalls a.writes b.writes };
 
     fn blocks(&self) -> u32 {
         self.store.blocks
     }
 
-    fn read(&mut self, block: u32, buf: &mut [u8; 1024]) -> Moved {
+    fn read(&mut self, block: u32, buf: &mut [u8; 1024]) -> Moved
+        requires even { block % 2 ≡ 0 }
+        requires inside { block + 2 ≤ self.old.store.blocks }
+        ensures kept { ReadsSwap ⟦<MemSwap as SwapDev>⟧ self.old self.new }
+        ensures done { OnDone result (HoldsPage (Some self.old.store.image.items) block buf.new) }
+        ensures read_faults { Counts result self.old.read_faults self.new.read_faults }
+
+        // Just the reads whose numbers are listed fail.
+        ensures fails { (result ≡ Moved.Failed) ↔ FailsNext self.old.reads }
+        ensures reads { NextCall self.old.reads self.new.reads }
+        ensures writes { self.new.writes ≡ self.old.writes }
+    {
         if self.reads.next_fails() {
             self.read_faults = raised(self.read_faults);
             return Moved::Failed;
@@ -145,7 +161,20 @@ impl SwapDev for MemSwap {
         self.store.read(block, buf)
     }
 
-    fn write(&mut self, block: u32, bytes: &[u8; 1024]) -> Moved {
+    fn write(&mut self, block: u32, bytes: &[u8; 1024]) -> Moved
+        requires even { block % 2 ≡ 0 }
+        requires inside { block + 2 ≤ self.old.store.blocks }
+        ensures kept { WritesSwap ⟦<MemSwap as SwapDev>⟧ self.old self.new }
+        ensures done { OnDone result (self.new.store.image.items ≡ put_page self.old.store.image.items block bytes.now) }
+        ensures failed { OnFailed result (SpoilsPage (Some self.old.store.image.items) block (Some self.new.store.image.items)) }
+        ensures write_faults { Counts result self.old.write_faults self.new.write_faults }
+
+        // Just the writes whose numbers are listed fail, and a failed one changes no block.
+        ensures fails { (result ≡ Moved.Failed) ↔ FailsNext self.old.writes }
+        ensures unchanged { OnFailed result (self.new.store.image.items ≡ self.old.store.image.items) }
+        ensures reads { self.new.reads ≡ self.old.reads }
+        ensures writes { NextCall self.old.writes self.new.writes }
+    {
         if self.writes.next_fails() {
             self.write_faults = raised(self.write_faults);
             return Moved::Failed;
@@ -155,9 +184,15 @@ impl SwapDev for MemSwap {
 
     ghost whole = { λ d bytes told. told_length d.store.image.items bytes (512 * d.store.blocks) told d.store.whole };
 
-    ghost leads_nowhere = { λ d. (refl, le_refl d.read_faults, le_refl d.write_faults) };
+    ghost leads_nowhere = { λ d. (refl, le_refl d.read_faults, le_refl d.write_faults, later_itself d.reads, later_itself d.writes) };
 
-    ghost leads_through = { λ _ _ _ first then. (then.0 ∙ first.0, le_trans first.1 then.1, le_trans first.2 then.2) };
+    ghost leads_through = { λ a b c first then. (
+      then.0 ∙ first.0,
+      le_trans first.1 then.1,
+      le_trans first.2 then.2,
+      later_through a.reads b.reads c.reads first.3 then.3,
+      later_through a.writes b.writes c.writes first.4 then.4,
+    ) };
 
     ghost blocks_stay = { λ _ _ led. led.0 };
 

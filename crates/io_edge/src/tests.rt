@@ -1,11 +1,11 @@
-// What no clause says: which calls of a form in memory fail, that the calls that take memory succeed,
-// and what the adapters do over a real folder and over a runtime that gives up.
+// What no clause says: that the calls that take memory succeed, and what the adapters do over a real
+// folder and over a runtime that gives up.
 ghost use Rattle.std.specs.Prelude.{◌≡◌, ◌+◌, ◌%◌, ◌≤◌, Some, IfOk, vec_len};
 ghost use Rattle.io_edge.specs.Count.{Rose};
 
 use crate::{
-    DirFiles, FileSwap, Files, Found, MemFiles, MemSink, MemSwap, Moved, OutSink, Sink, SureFiles,
-    SureSink, SureSwap, SwapDev, SwapPair,
+    DirFiles, FileSwap, Files, Found, MemSink, MemSwap, Moved, OutSink, Sink, SureFiles, SureSink,
+    SureSwap, SwapDev, SwapPair,
 };
 use std::alloc::{AllocError, Allocator, Global};
 use std::cell::Cell;
@@ -35,22 +35,6 @@ fn finds_and_reads_files_in_memory(rt: HostRuntime) -> Result<(), Fail> {
     };
     assert_eq!(rt; len, 2);
     let mut buf = [0];
-    assert_eq!(rt; files.read_at(id, 1, &mut buf), Moved::Done);
-    assert_eq!(rt; buf, [8]);
-    Ok(())
-}
-
-#[test]
-fn fails_the_numbered_calls_of_files(rt: HostRuntime) -> Result<(), Fail> {
-    let fail = [2, 3].to_vec(rt.alloc())?;
-    let mut files = MemFiles::new(two_files(rt.alloc())?, fail);
-    let Found::Is { id, len } = files.find("hi") else {
-        return Err(Fail::from("not found"));
-    };
-    assert_eq!(rt; len, 2);
-    let mut buf = [0];
-    assert_eq!(rt; files.read_at(id, 1, &mut buf), Moved::Failed);
-    assert_eq!(rt; files.find("hi"), Found::Failed);
     assert_eq!(rt; files.read_at(id, 1, &mut buf), Moved::Done);
     assert_eq!(rt; buf, [8]);
     Ok(())
