@@ -1,5 +1,5 @@
 //! The page table of one segment, an entry a page.
-ghost use Rattle.std.specs.Prelude.{◌≡◌, ◌<◌, ◌≤◌, ◌^◌, ◌-◌, ◌++◌, [], length, take, replicate, slice_get, slice_set, IfOk, OnOk, OnErr};
+ghost use Rattle.std.specs.Prelude.{◌≡◌, ◌<◌, ◌≤◌, ◌^◌, ◌-◌, ◌++◌, [], length, take, replicate, slice_get, slice_set, IfOk, IsOk, OnOk, OnErr};
 ghost use Rattle.aout_image.specs.Image.{IsSound};
 ghost use Rattle.vax_pte.specs.Words.{IsInRange};
 ghost use Rattle.vax_pte.specs.declared.Place.TheVariants.{Zero};
@@ -73,9 +73,7 @@ impl PageTable {
         ensures { IfOk result (λ t. t ≡ first_places facts.now text pages) }
     {
         let user_write = !text;
-        let Ok(mut words) = Vec::with_capacity(alloc, pages as usize) else {
-            return Err(NoMemory);
-        };
+        let mut words = Vec::with_capacity(alloc, pages as usize)?;
         for v in 0..pages {
             let place = first_place(facts, text, v);
             words.push_reserved(pack(Pte { user_write, place }));
@@ -116,6 +114,7 @@ impl PageTable {
     pub fn grow(&mut self, pages: u32) -> Result<(), NoMemory>
         ensures ok { OnOk result (self.new ≡ self.old ++ replicate (pages - length self.old) Zero) }
         ensures err { OnErr result (self.new ≡ self.old) }
+        ensures enough { pages ≤ length self.old → IsOk result }
     {
         if pages as usize <= self.words.len() {
             return Ok(());
@@ -124,10 +123,8 @@ impl PageTable {
             user_write: self.user_write,
             place: Place::Zero,
         });
-        match self.words.resize(pages as usize, zeros) {
-            Ok(()) => Ok(()),
-            Err(_) => Err(NoMemory),
-        }
+        self.words.resize(pages as usize, zeros)?;
+        Ok(())
     }
 
     /// Drops the last pages beyond so many.

@@ -1,5 +1,5 @@
 // The map itself, over the tables of its three segments.
-ghost use Rattle.std.specs.Prelude.{◌≡◌, ◌≤◌, true, false, length, replicate, IfOk, OnOk, OnErr, IsSome};
+ghost use Rattle.std.specs.Prelude.{◌≡◌, ◌≤◌, true, false, length, replicate, IfOk, IsOk, OnOk, OnErr, IsSome};
 ghost use Rattle.aout_image.specs.Image.{IsSound, text_pages_of};
 ghost use Rattle.vax_pte.specs.Words.{IsInRange};
 ghost use Rattle.vax_pte.specs.declared.Place.TheVariants.{Zero};
@@ -132,7 +132,7 @@ impl SpaceMap {
     }
 
     /// Cuts or lengthens data and stack to so many pages. Those that are kept stay in place, and those that come to it
-    /// are to be filled with zeros. It takes memory only to lengthen; without it nothing changes.
+    /// are to be filled with zeros. It takes memory only where one of them is lengthened; without it nothing changes.
     pub fn resize(&mut self, data_pages: u32, stack_pages: u32) -> Result<(), NoMemory>
         requires data_fits { data_pages ≤ 4096 }
         requires stack_fits { stack_pages ≤ 512 }
@@ -141,12 +141,13 @@ impl SpaceMap {
           stack = resized self.old.stack stack_pages;
         }) }
         ensures err { OnErr result (self.new ≡ self.old) }
+        ensures shrink { data_pages ≤ length self.old.data → stack_pages ≤ length self.old.stack → IsOk result }
     {
         let before = self.data.len();
         self.data.grow(data_pages)?;
-        if self.stack.grow(stack_pages).is_err() {
+        if let Err(refused) = self.stack.grow(stack_pages) {
             self.data.cut(before);
-            return Err(NoMemory);
+            return Err(refused);
         }
         self.data.cut(data_pages);
         self.stack.cut(stack_pages);

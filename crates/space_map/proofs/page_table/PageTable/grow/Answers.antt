@@ -1,4 +1,4 @@
-use Rattle.std.proofs.Common.{◌≡◌, ◌≤◌, ◌-◌, ◌++◌, ℕ, Bool, true, List, sym, ap, ap₂, ◌∙◌, subst, arith, length, map, take, replicate, is_ok, vec_len, if◌then◌else◌}
+use Rattle.std.proofs.Common.{◌≡◌, ◌≤◌, ◌-◌, ◌++◌, ℕ, List, sym, ap, ap₂, ◌∙◌, subst, length, map, replicate, is_ok, vec_len, arith}
 use Rattle.std.proofs.lemmas.Grind.{common_steps}
 use Rattle.std.proofs.lemmas.List.{length-map}
 use Rattle.vax_pte.specs.declared.Place.{Place}
@@ -6,10 +6,9 @@ use Rattle.vax_pte.specs.declared.Place.TheVariants.{Zero}
 use Rattle.space_map.specs.Tables.{place_named, IsWord}
 use Rattle.space_map.proofs.WordLaws.{named, is_word, grown_words, grown_places}
 use Rattle.space_map.proofs.page_table.PageTable.grow.Goals as goal
-use Rattle.space_map.proofs.page_table.PageTable.grow.Goals.{in-Ok, in-Err}
 
-pub invariant_of-self : goal.invariant_of-self
-invariant_of-self c =
+pub invariant_of-self-2 : goal.invariant_of-self-2
+invariant_of-self-2 c =
     let u = c.self.inside.user_write in
     record {
       words = grown_words u c.self.inside.words.items c.resize.new.self.items (is_ok c.resize.result) c.args.pages
@@ -17,22 +16,14 @@ invariant_of-self c =
           (subst (IsWord u) (sym c.pack-zeros.ensures) (is_word u Zero tt)) c.self.invariant.words;
     }
 
-grown : (c : goal.Joined-resize) → is_ok c.resize.result ≡ true
-    → map place_named c.resize.new.self.items ≡ c.args.self.now ++ replicate (c.args.pages - length c.args.self.now) Zero
-grown c ok =
+pub returns-clause-ok : goal.returns-clause-ok
+returns-clause-ok c =
     let words = c.self.inside.words.items in
     let more = c.args.pages - vec_len c.self.inside.words in
     let zeros = c.pack-zeros.result in
     let fewer : length words ≤ c.args.pages = grind (arith, common_steps) in
     let counted : vec_len c.self.inside.words ≡ length words = grind (arith, common_steps) in
     let same : vec_len c.self.inside.words ≡ length c.args.self.now = counted ∙ sym (length-map words place_named) ∙ ap (λ (ps : List Place). length ps) c.self.view_is in
-    ap (map place_named) (c.resize.ensures.items ∙ ap (λ (b : Bool). if b then take c.args.pages words ++ replicate more zeros else words) ok) ∙
+    ap (map place_named) c.in_ok-resize.ensures.items ∙
     grown_places words c.args.pages more zeros Zero fewer (ap place_named c.pack-zeros.ensures ∙ named c.self.inside.user_write Zero tt) ∙
     ap₂ (λ (ps : List Place) (n : ℕ). ps ++ replicate (c.args.pages - n) Zero) c.self.view_is same
-
-pub returns-clause-ok : goal.returns-clause-ok
-returns-clause-ok c =
-    elim c.match-resize.branch [
-      | in-Ok w ↦ rw w.result-is (grown c (ap is_ok w.in-Ok.is))
-      | in-Err w ↦ rw w.result-is tt
-    ]
