@@ -19,12 +19,10 @@ ghost use Rattle.frame_state.specs.Lending.{LendsFillingBytes, LendsResidentByte
 use std::alloc::Global;
 use std::marker::Model;
 
+pub use vm_facts::NoMemory;
+
 #[cfg(test)]
 mod tests;
-
-/// No memory was found.
-#[derive(Clone, Copy, Debug, PartialEq, Eq)]
-pub struct NoMemory;
 
 /// A frame that nothing uses. It may still have the bytes of a page that it held.
 pub struct Free {
@@ -95,10 +93,8 @@ impl Free {
     pub fn make(alloc: Global, number: u32) -> Result<Free, NoMemory>
         ensures { IfOk result (λ free. free ≡ zero_frame number) }
     {
-        match Box::new(alloc, [0; 1024]) {
-            Ok(page) => Ok(Free { number, page }),
-            Err(_) => Err(NoMemory),
-        }
+        let page = Box::new(alloc, [0; 1024])?;
+        Ok(Free { number, page })
     }
 
     /// The number of the frame.

@@ -22,9 +22,7 @@ use replay::Replay;
 use resident::Resident;
 use std::alloc::Global;
 
-/// Memory ran out.
-#[derive(Clone, Copy, Debug, PartialEq, Eq)]
-pub struct NoMemory;
+pub use vm_facts::NoMemory;
 
 /// A page that leaves the cache.
 #[derive(Clone, Copy, Debug, PartialEq, Eq)]
@@ -110,10 +108,8 @@ fn make_room(
     }
     let page = resident.evict(refs);
     let at = i as u32 + 1;
-    match victims.push(Victim { at, page }) {
-        Ok(()) => Ok(()),
-        Err(_) => Err(NoMemory),
-    }
+    victims.push(Victim { at, page })?;
+    Ok(())
 }
 
 /// The faults of a plan, and none exactly where the victims are no plan. In a plan a reference to a page in

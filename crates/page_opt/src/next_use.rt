@@ -12,15 +12,10 @@ pub(crate) fn next_uses(alloc: Global, refs: &[u32]) -> Result<Vec<Option<u32>>,
     ensures len { IfOk result (λ next. vec_len next ≡ length refs.now) }
     ensures next { IfOk result (λ next. (i : ℕ) (d : Option ℕ) → i < length refs.now → slice_index_or next.items i d ≡ next_at (i + 1) (slice_index refs.now i) (drop (i + 1) refs.now)) }
 {
-    let Ok(mut next) = vec![in alloc; None; refs.len()] else {
-        return Err(NoMemory);
-    };
+    let mut next = vec![in alloc; None; refs.len()]?;
     let mut seen = BTreeMap::new(alloc);
     for i in (0..refs.len()).rev() {
-        next[i] = match seen.insert(refs[i], i as u32) {
-            Ok(later) => later,
-            Err(_) => return Err(NoMemory),
-        };
+        next[i] = seen.insert(refs[i], i as u32)?;
     }
     Ok(next)
 }

@@ -67,9 +67,7 @@ impl<'a> Replay<'a> {
         if self.cache.len() >= frames as usize {
             return Ok(false);
         }
-        if self.cache.insert(page).is_err() {
-            return Err(NoMemory);
-        }
+        self.cache.insert(page)?;
         self.faults += 1;
         Ok(true)
     }

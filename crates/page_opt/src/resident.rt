@@ -74,8 +74,6 @@ fn add(set: &mut BTreeSet<u32>, number: u32) -> Result<(), NoMemory>
     ensures changes { OnOk result (Changes set.old set.new number true) }
     ensures len { OnOk result (in_set set.old number ≡ false → btree_set_len set.new ≡ btree_set_len set.old + 1) }
 {
-    match set.insert(number) {
-        Ok(_) => Ok(()),
-        Err(_) => Err(NoMemory),
-    }
+    set.insert(number)?;
+    Ok(())
 }

@@ -49,9 +49,7 @@ impl ProcTable {
     pub fn new(alloc: Global) -> Result<ProcTable, NoMemory>
         ensures { IfOk result (λ t. t ≡ []) }
     {
-        let Ok(records) = Slab::with_capacity(alloc, ROOM) else {
-            return Err(NoMemory);
-        };
+        let records = Slab::with_capacity(alloc, ROOM)?;
         Ok(ProcTable { records })
     }
 

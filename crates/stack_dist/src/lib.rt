@@ -16,9 +16,7 @@ mod tree;
 use recency::hits_by_depth;
 use std::alloc::Global;
 
-/// Memory ran out.
-#[derive(Clone, Copy, Debug, PartialEq, Eq)]
-pub struct NoMemory;
+pub use vm_facts::NoMemory;
 
 /// The page faults of LRU at each size of memory: entry n - 1 has the faults with room for n pages, from 1
 /// to as many as there are distinct pages. The references are page numbers, the first one first (LRU as in

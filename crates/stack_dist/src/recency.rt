@@ -27,9 +27,7 @@ pub fn hits_by_depth(alloc: Global, refs: &[u32]) -> Result<Vec<u32>, NoMemory>
     let mut place = refs.len();
     for page in refs {
         place -= 1;
-        let Ok(before) = last.insert(*page, place) else {
-            return Err(NoMemory);
-        };
+        let before = last.insert(*page, place)?;
         let depth = take_off(&mut marks, before);
         marks.mark(place);
         count(&mut hits, depth)?;
@@ -65,6 +63,9 @@ fn count(hits: &mut Vec<u32>, depth: Option<u32>) -> Result<(), NoMemory>
             hits[depth as usize] += 1;
             Ok(())
         }
-        None => hits.push(0).map_err(|_| NoMemory),
+        None => {
+            hits.push(0)?;
+            Ok(())
+        }
     }
 }

@@ -31,9 +31,7 @@ impl CountTree {
         requires { size < 2 ^ 32 }
         ensures { IfOk result (λ counts. counts ≡ replicate size 0) }
     {
-        let Ok(sums) = vec![in alloc; 0; size + size] else {
-            return Err(NoMemory);
-        };
+        let sums = vec![in alloc; 0; size + size]?;
         Ok(CountTree { sums, size })
     }
 

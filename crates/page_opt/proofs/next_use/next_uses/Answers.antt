@@ -8,7 +8,7 @@ use Rattle.page_opt.proofs.next_use.next_uses.Goals as goal
 
 pub loop-i-init : goal.loop-i-init
 loop-i-init c = record {
-  len = c.in-Ok.ensures.len;
+  len = c.in_ok-next.ensures.len;
   seen = λ q. ap (λ es. lookup (is_at (nat_cmp q)) es) c.new-seen.ensures.empty ∙ next_at_end c.args.refs.now q;
   next = λ k d low high. absurd (omega arith);
 }
@@ -20,16 +20,16 @@ loop-i-preserved c =
     let seen = c.loop-i.invariant.seen in
     let last : c.loop-i.i ≡ j + 1 = omega arith in
     let l : j < length refs = omega arith in
-    let u = c.in-Ok-insert.ensures.updates in
+    let u = c.in_ok-next-2.ensures.updates in
     record {
       len = search rules;
       seen = seen_more refs j (get nat_cmp c.loop-i.seen) (get nat_cmp c.insert.new.self) l
           (subst (λ (i : ℕ). (q : ℕ) → get nat_cmp c.loop-i.seen q ≡ next_at i q (drop i refs)) last seen)
           u.1
           (λ q other. u.2 q (apart (get_or refs j 0) q other));
-      next = next_more refs j c.loop-i.next.items c.in-Ok-insert.later (omega arith)
+      next = next_more refs j c.loop-i.next.items c.in_ok-next-2.field-0 (omega arith)
           (subst (λ (i : ℕ). AreNext refs i c.loop-i.next.items) last c.loop-i.invariant.next)
-          (c.in-Ok-insert.ensures.old ∙ subst (λ (i : ℕ). get nat_cmp c.loop-i.seen (get_or refs j 0) ≡ next_at i (get_or refs j 0) (drop i refs)) last (seen (get_or refs j 0)));
+          (c.in_ok-next-2.ensures.old ∙ subst (λ (i : ℕ). get nat_cmp c.loop-i.seen (get_or refs j 0) ≡ next_at i (get_or refs j 0) (drop i refs)) last (seen (get_or refs j 0)));
     }
 
 pub returns-clause-next : goal.returns-clause-next

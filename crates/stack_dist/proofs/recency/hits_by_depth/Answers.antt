@@ -18,14 +18,14 @@ pub take_off-depth-requires : goal.take_off-depth-requires
 take_off-depth-requires c x is =
     mark_there (after (take c.loop-page.page-index c.args.refs.now) []) (get nat_cmp c.loop-page.last) c.loop-page.place
     (get_or c.args.refs.now c.loop-page.page-index 0) x c.loop-page.marks c.loop-page.hits.items c.loop-page.invariant.follows
-    (sym c.in-Ok.ensures.old ∙ is)
+    (sym c.in_ok-before.ensures.old ∙ is)
 
 now_ready : (c : goal.After-marks-in-loop-page-2-1)
     → Ready c.loop-page.place (length (after (take c.loop-page.page-index c.args.refs.now) [])) c.take_off-depth.new.marks
 now_ready c =
     ready (after (take c.loop-page.page-index c.args.refs.now) []) (get nat_cmp c.loop-page.last) c.loop-page.place
-    (get_or c.args.refs.now c.loop-page.page-index 0) c.loop-page.marks c.loop-page.hits.items c.take_off-depth.new.marks c.in-Ok.before
-    c.loop-page.invariant.follows (omega arith) c.in-Ok.ensures.old c.take_off-depth.ensures.unmarked
+    (get_or c.args.refs.now c.loop-page.page-index 0) c.loop-page.marks c.loop-page.hits.items c.take_off-depth.new.marks c.in_ok-before.before
+    c.loop-page.invariant.follows (omega arith) c.in_ok-before.ensures.old c.take_off-depth.ensures.unmarked
 
 pub mark-requires-clause-within : goal.mark-requires-clause-within
 mark-requires-clause-within c = (now_ready c).within
@@ -41,8 +41,8 @@ depth_is_counted : (c : goal.After-hits-1) (depth : ℕ) → c.take_off-depth.re
     → (depth < length c.loop-page.hits.items) × (get_or c.loop-page.hits.items depth 0 ≤ length (after (take c.loop-page.page-index c.args.refs.now) []))
 depth_is_counted c depth is =
     depth_counts (after (take c.loop-page.page-index c.args.refs.now) []) (get nat_cmp c.loop-page.last) c.loop-page.place
-    (get_or c.args.refs.now c.loop-page.page-index 0) depth c.loop-page.marks c.loop-page.hits.items c.in-Ok.before c.loop-page.invariant.follows
-    c.in-Ok.ensures.old (sym c.take_off-depth.ensures.depth ∙ is)
+    (get_or c.args.refs.now c.loop-page.page-index 0) depth c.loop-page.marks c.loop-page.hits.items c.in_ok-before.before c.loop-page.invariant.follows
+    c.in_ok-before.ensures.old (sym c.take_off-depth.ensures.depth ∙ is)
 
 pub count-requires-clause-within : goal.count-requires-clause-within
 count-requires-clause-within c depth is =
@@ -59,9 +59,9 @@ loop-page-preserved c = record {
   places = omega arith;
   follows =
       follows_step c.args.refs.now c.loop-page.page-index (get nat_cmp c.loop-page.last) (get nat_cmp c.insert.new.self) c.loop-page.place c.loop-page.marks
-      c.take_off-depth.new.marks c.mark.new.self c.loop-page.hits.items c.count.new.hits.items c.in-Ok.before c.take_off-depth.result
-      c.loop-page-test.true c.loop-page.invariant.follows (omega arith) c.in-Ok.ensures.old c.take_off-depth.ensures.depth
-      c.take_off-depth.ensures.unmarked c.mark.ensures c.in_ok-count.ensures (λ q. c.in-Ok.ensures.updates.0 q);
+      c.take_off-depth.new.marks c.mark.new.self c.loop-page.hits.items c.count.new.hits.items c.in_ok-before.before c.take_off-depth.result
+      c.loop-page-test.true c.loop-page.invariant.follows (omega arith) c.in_ok-before.ensures.old c.take_off-depth.ensures.depth
+      c.take_off-depth.ensures.unmarked c.mark.ensures c.in_ok-count.ensures (λ q. c.in_ok-before.ensures.updates.0 q);
 }
 
 all : (c : goal.After-drop-last-2)
