@@ -45,12 +45,8 @@ impl CoreMap {
         ensures slots { IfOk result (λ map. map.slots ≡ fresh_slots frames) }
         ensures none_away { IfOk result (λ map. (frame : ℕ) → IsAway map frame → ⊥) }
     {
-        let Ok(free) = frame_list::first_frames(alloc, frames) else {
-            return Err(NoMemory);
-        };
-        let Ok(text) = TextIndex::new(alloc, frames as usize + 1) else {
-            return Err(NoMemory);
-        };
+        let free = frame_list::first_frames(alloc, frames)?;
+        let text = TextIndex::new(alloc, frames as usize + 1)?;
         let slots = slot::fresh(alloc, frames)?;
         Ok(CoreMap { slots, free, text })
     }

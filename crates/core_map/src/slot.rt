@@ -39,16 +39,14 @@ pub enum Slot {
 pub(crate) fn fresh(alloc: Global, frames: u32) -> Result<Vec<Slot>, NoMemory>
     ensures { IfOk result (λ s. s.items ≡ fresh_slots frames) }
 {
-    let Ok(mut slots) = Vec::with_capacity(alloc, frames as usize + 1) else {
-        return Err(NoMemory);
-    };
+    let mut slots = Vec::with_capacity(alloc, frames as usize + 1)?;
     slots.push_reserved(Slot::Away);
     for f in 0..frames {
         match Free::make(alloc, f + 1) {
             Ok(token) => slots.push_reserved(Slot::Free { token, page: None }),
-            Err(_) => {
+            Err(refused) => {
                 end_all(slots);
-                return Err(NoMemory);
+                return Err(refused);
             }
         }
     }

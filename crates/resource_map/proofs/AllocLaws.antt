@@ -14,16 +14,6 @@ use Rattle.resource_map.proofs.RoomLaws.{HasRoom, lowest_room_is, lowest_room_no
 use Rattle.resource_map.proofs.BlockLaws.{length-free_blocks, is_free-free_blocks, free_blocks_marked}
 use Rattle.resource_map.proofs.ExtentLaws.{in_from, in_low, in_high, in_below, in_above, covers_at, InOne, run_in_one, lies_at, lowest_at, all_short, order_at, set_order, remove_order, remove_covers_in, remove_covers_out, set_covers_in, set_covers_out, same_tests}
 
--- what a call promises at Ok, where its answer is no error
-pub reserved_ok : (r : Result (Unit {0}) AllocError) (P : Type 0) → is_err r ≡ false → OnOk r P → P
-reserved_ok (Ok u) P no_error p = p
-reserved_ok (Err e) P no_error p = absurd (true≢false no_error)
-
--- what a `push` leaves, where its answer is no error
-pub pushed : {X : Type 0} {E : Type 0} (r : Result (Unit {0}) E) (xs ys zs : List X) → is_err r ≡ false → zs ≡ cond (is_ok r) xs ys → zs ≡ xs
-pushed (Ok u) xs ys zs no_error is = is
-pushed (Err e) xs ys zs no_error is = absurd (true≢false no_error)
-
 pub position-None : {X : Type 0} (p : X → Bool) (xs : List X) (k : ℕ) (d : X) → position p xs ≡ None → k < length xs → p (get_or xs k d) ≡ false
 position-None p xs k d none lt = elim (cases_Bool (nat_lt (position_or_len p xs) (length xs))) [
   | inl found ↦ let e = sym none ∙ cond-true (nat_lt (position_or_len p xs) (length xs)) (Some (position_or_len p xs)) None found in cc

@@ -17,12 +17,10 @@ ghost use Rattle.resource_map.specs.Extents.{InOrder, free_blocks, covers, joins
 use std::alloc::Global;
 use std::marker::Model;
 
+pub use vm_facts::NoMemory;
+
 /// The blocks of one unit; no extent crosses a multiple of it.
 const UNIT: u32 = 1024;
-
-/// Memory ran out.
-#[derive(Clone, Copy, Debug, PartialEq, Eq)]
-pub struct NoMemory;
 
 /// A run of free blocks.
 #[derive(Clone, Copy, Debug, PartialEq, Eq)]
@@ -79,9 +77,7 @@ impl ResourceMap {
         let Some(at) = first_fit(&self.extents, n) else {
             return Ok(None);
         };
-        if self.extents.reserve(self.spare + 1).is_err() {
-            return Err(NoMemory);
-        }
+        self.extents.reserve(self.spare + 1)?;
         let start = take_front(&mut self.extents, at, n);
         self.spare += 1;
         Ok(Some(start))
@@ -126,9 +122,7 @@ fn whole_units(alloc: Global, size: u32) -> Result<Vec<Extent>, NoMemory>
     let mut start = 0;
     while start < size {
         let length = (size - start).min(UNIT);
-        if extents.push(Extent { start, length }).is_err() {
-            return Err(NoMemory);
-        }
+        extents.push(Extent { start, length })?;
         start += length;
     }
     Ok(extents)

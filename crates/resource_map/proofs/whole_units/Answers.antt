@@ -2,7 +2,6 @@ use Rattle.std.proofs.Common.{◌≡◌, ℕ, ◌+◌, true, List, ◌++◌, [],
 use Rattle.resource_map.specs.declared.Extent.{Extent}
 use Rattle.resource_map.specs.Extents.{InOrder, covers}
 use Rattle.resource_map.proofs.ExtentLaws.{order_push, covers_push}
-use Rattle.resource_map.proofs.AllocLaws.{pushed}
 use Rattle.resource_map.proofs.whole_units.Goals as goal
 
 pub loop-start-preserved : goal.loop-start-preserved
@@ -10,7 +9,7 @@ loop-start-preserved c =
     let es = c.loop-start.extents.items in
     let m = c.loop-start.start in
     let n = c.min-length.result in
-    let items = pushed c.push.result (es ++ record { start = m; length = n } ∷ []) es c.push.new.self.items (sym c.is_err.ensures.value ∙ c.if-is_err.false) c.push.ensures.items in
+    let items : c.push.new.self.items ≡ es ++ record { start = m; length = n } ∷ [] = c.in_ok-push.ensures.items in
     let whole = c.loop-start.invariant.whole c.loop-start-test.true in
     let least = c.min-length.ensures in
     record {

@@ -7,7 +7,7 @@ use Rattle.resource_map.specs.Blocks.{Blocks, is_free, marked}
 use Rattle.resource_map.specs.Room.{lowest_room}
 use Rattle.resource_map.specs.Extents.{InOrder, free_blocks, cut_front}
 use Rattle.resource_map.proofs.ExtentLaws.{lies_at}
-use Rattle.resource_map.proofs.AllocLaws.{first_fit_is, no_fit, reserved_ok, cut_order, cut_is_marked}
+use Rattle.resource_map.proofs.AllocLaws.{first_fit_is, no_fit, cut_order, cut_is_marked}
 use Rattle.resource_map.proofs.ResourceMap.alloc.Goals as goal
 
 abbrev blocks_with : List Bool → ℕ → Blocks
@@ -69,9 +69,7 @@ invariant_of-self-2 c =
       order =
           subst (λ (fs : List Extent). InOrder 0 fs c.self.inside.size) (sym (cut c))
           (cut_order 0 c.self.inside.extents.items c.self.inside.size c.in-Some.at c.args.n none_here c.self.invariant.order at.0 c.requires at.1);
-      room =
-          let reserved = reserved_ok c.reserve.result _ (sym c.is_err.ensures.value ∙ c.if-is_err.false) c.reserve.ensures.ok in
-          omega arith;
+      room = omega (arith, c.in_ok-reserve.ensures.ok);
     }
 
 pub returns-clause-lowest : goal.returns-clause-lowest

@@ -7,9 +7,9 @@ use Rattle.core_map.proofs.map.CoreMap.new.Goals as goal
 
 pub invariant_of-result : goal.invariant_of-result
 invariant_of-result c = record {
-  bound = omega (arith, length-fresh c.args.frames, ap length c.in_ok-slots.ensures, c.in-Ok.ensures);
-  text = rw (c.in-Ok-new.ensures, c.in_ok-slots.ensures) (text_fresh c.args.frames);
-  sound = rw (c.in-Ok.ensures.1, c.in_ok-slots.ensures) (fresh_sound c.args.frames (omega arith));
+  bound = omega (arith, length-fresh c.args.frames, ap length c.in_ok-slots.ensures, c.in_ok-free.ensures);
+  text = rw (c.in_ok-text.ensures, c.in_ok-slots.ensures) (text_fresh c.args.frames);
+  sound = rw (c.in_ok-free.ensures.1, c.in_ok-slots.ensures) (fresh_sound c.args.frames (omega arith));
 }
 
 pub returns-clause-none_away : goal.returns-clause-none_away
