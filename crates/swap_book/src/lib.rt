@@ -109,9 +109,9 @@ impl SwapBook {
                 self.cut(before);
                 Ok(Grown::NoFit(n))
             }
-            Err(NoMemory) => {
+            Err(refused) => {
                 self.cut(before);
-                Err(NoMemory)
+                Err(refused)
             }
         }
     }
@@ -178,9 +178,7 @@ impl SwapBook {
         ensures size { self.new.size ≡ self.old.size }
         ensures err { OnErr result (self.new ≡ self.old) }
     {
-        if self.holdings.reserve(1).is_err() {
-            return Err(NoMemory);
-        }
+        self.holdings.reserve(1)?;
         let Some(start) = self.map.alloc(length)? else {
             return Ok(false);
         };
