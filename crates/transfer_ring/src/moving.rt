@@ -3,6 +3,7 @@ ghost use Rattle.std.specs.Prelude.{◌≡◌, length, take, drop, replicate, �
 ghost use Rattle.transfer_ring.specs.Moving.{OnFilled, CountsFile, CountsSwap};
 ghost use Rattle.transfer_ring.specs.Sound.{IsSource, IsThere, AreSources, AreThere, AreBlocks};
 ghost use Rattle.transfer_ring.specs.Parts.{HasRead, IsSamePart, AreSameParts, AreRead, WritesParts, SpoilsParts};
+ghost use Rattle.io_edge.specs.Calls.{ReadsPages, ReadsSwap, WritesSwap};
 ghost use Rattle.io_edge.specs.Count.{Counts, OnDone, OnFailed};
 ghost use Rattle.io_edge.specs.FileHolding.{HasRange, HoldsRange};
 
@@ -28,11 +29,9 @@ fn fill_from_file<F: Files>(
     requires above { 0 < offset }
     requires fits { count ≤ 1024 }
     requires there { HasRange (F.holds files.old) id offset count }
-    ensures leads { F.leads files.old files.new }
-    ensures holds { F.holds files.new ≡ F.holds files.old }
+    ensures files { ReadsPages F.Files files.old files.new }
     ensures done { OnDone result (HoldsRange (F.holds files.old) id offset (take count page.new)) }
     ensures zeros { OnDone result (drop count page.new ≡ replicate (1024 - count) 0) }
-    ensures open_faults { F.open_faults files.new ≡ F.open_faults files.old }
     ensures page_faults { Counts result (F.page_faults files.old) (F.page_faults files.new) }
 {
     let (range, rest) = page.split_at_mut(count as usize);
@@ -46,15 +45,10 @@ fn fill<F: Files, D: SwapDev>(part: &mut Inbound, files: &mut F, swap: &mut D) -
     requires there { IsThere (F.holds files.old) (D.blocks swap.old) part.old.source }
     ensures same { IsSamePart part.old part.new }
     ensures read { OnFilled result (HasRead (F.holds files.old) (D.image swap.old) part.old.source part.new.token.bytes) }
-    ensures files_lead { F.leads files.old files.new }
-    ensures swap_leads { D.leads swap.old swap.new }
-    ensures holds { F.holds files.new ≡ F.holds files.old }
-    ensures blocks { D.blocks swap.new ≡ D.blocks swap.old }
-    ensures image { D.image swap.new ≡ D.image swap.old }
-    ensures open_faults { F.open_faults files.new ≡ F.open_faults files.old }
+    ensures files { ReadsPages F.Files files.old files.new }
+    ensures swap { ReadsSwap D.SwapDev swap.old swap.new }
     ensures page_faults { CountsFile result (F.page_faults files.old) (F.page_faults files.new) }
     ensures read_faults { CountsSwap result (D.read_faults swap.old) (D.read_faults swap.new) }
-    ensures write_faults { D.write_faults swap.new ≡ D.write_faults swap.old }
 {
     match part.source {
         Source::Swap(block) => match swap.read(block, part.token.bytes_mut()) {
@@ -81,15 +75,10 @@ pub(crate) fn fill_all<F: Files, D: SwapDev>(
     requires there { AreThere (F.holds files.old) (D.blocks swap.old) parts.old }
     ensures same { AreSameParts parts.old parts.new }
     ensures read { OnFilled result (AreRead (F.holds files.old) (D.image swap.old) parts.new) }
-    ensures files_lead { F.leads files.old files.new }
-    ensures swap_leads { D.leads swap.old swap.new }
-    ensures holds { F.holds files.new ≡ F.holds files.old }
-    ensures blocks { D.blocks swap.new ≡ D.blocks swap.old }
-    ensures image { D.image swap.new ≡ D.image swap.old }
-    ensures open_faults { F.open_faults files.new ≡ F.open_faults files.old }
+    ensures files { ReadsPages F.Files files.old files.new }
+    ensures swap { ReadsSwap D.SwapDev swap.old swap.new }
     ensures page_faults { CountsFile result (F.page_faults files.old) (F.page_faults files.new) }
     ensures read_faults { CountsSwap result (D.read_faults swap.old) (D.read_faults swap.new) }
-    ensures write_faults { D.write_faults swap.new ≡ D.write_faults swap.old }
 {
     match parts.split_first_mut() {
         None => Filled::Done,
@@ -106,9 +95,7 @@ pub(crate) fn write_all<D: SwapDev>(parts: &[Outbound], swap: &mut D) -> Moved
     requires { AreBlocks (D.blocks swap.old) parts.now }
     ensures done { OnDone result (WritesParts parts.now (D.image swap.old) (D.image swap.new)) }
     ensures failed { OnFailed result (SpoilsParts parts.now (D.image swap.old) (D.image swap.new)) }
-    ensures leads { D.leads swap.old swap.new }
-    ensures blocks { D.blocks swap.new ≡ D.blocks swap.old }
-    ensures read_faults { D.read_faults swap.new ≡ D.read_faults swap.old }
+    ensures swap { WritesSwap D.SwapDev swap.old swap.new }
     ensures write_faults { Counts result (D.write_faults swap.old) (D.write_faults swap.new) }
 {
     match parts {

@@ -1,6 +1,7 @@
 //! The ring of transfers in flight.
 ghost use Rattle.std.specs.Prelude.{◌≡◌, ◌+◌, ◌<◌, ◌≤◌, ◌∷◌, ◌++◌, [], List, length, drop, slice_get, slice_set, IfOk, IfSome, IsNone, IsSome, Some, None, ◌↔◌};
 ghost use Rattle.std.specs.List.{list_any};
+ghost use Rattle.io_edge.specs.Calls.{KeepsSwap, ReadsPages};
 ghost use Rattle.transfer_ring.specs.Beginning.{Begins, IsRefused};
 ghost use Rattle.transfer_ring.specs.Ending.{EndsOldest, CountsPages, CountsReads, CountsWrites, Ends};
 ghost use Rattle.transfer_ring.specs.Naming.{names_page_of, names_space, names_text};
@@ -88,15 +89,9 @@ impl TransferRing {
     pub fn new(alloc: Global) -> Result<TransferRing, NoMemory>
         ensures { IfOk result (λ ring. ring ≡ []) }
     {
-        let Ok(order) = HeapCircularBuffer::with_capacity(alloc, MOST as usize) else {
-            return Err(NoMemory);
-        };
-        let Ok(mut spare) = Vec::with_capacity(alloc, MOST as usize) else {
-            return Err(NoMemory);
-        };
-        let Ok(mut slots) = Vec::with_capacity(alloc, MOST as usize) else {
-            return Err(NoMemory);
-        };
+        let order = HeapCircularBuffer::with_capacity(alloc, MOST as usize)?;
+        let mut spare = Vec::with_capacity(alloc, MOST as usize)?;
+        let mut slots = Vec::with_capacity(alloc, MOST as usize)?;
         for slot in 0..MOST {
             slots.push_reserved(None);
             spare.push_reserved(slot);
@@ -167,11 +162,8 @@ impl TransferRing {
         requires { AreReachable (F.holds files.old) (D.blocks swap.old) self.old }
         ensures rest { self.new ≡ drop 1 self.old }
         ensures ends { EndsOldest self.old (F.holds files.old) (D.image swap.old) (D.image swap.new) result }
-        ensures files_lead { F.leads files.old files.new }
-        ensures swap_leads { D.leads swap.old swap.new }
-        ensures holds { F.holds files.new ≡ F.holds files.old }
-        ensures blocks { D.blocks swap.new ≡ D.blocks swap.old }
-        ensures open_faults { F.open_faults files.new ≡ F.open_faults files.old }
+        ensures files { ReadsPages F.Files files.old files.new }
+        ensures swap { KeepsSwap D.SwapDev swap.old swap.new }
         ensures page_faults { CountsPages result (F.page_faults files.old) (F.page_faults files.new) }
         ensures read_faults { CountsReads result (D.read_faults swap.old) (D.read_faults swap.new) }
         ensures write_faults { CountsWrites result (D.write_faults swap.old) (D.write_faults swap.new) }
@@ -243,11 +235,8 @@ fn complete<F: Files, D: SwapDev>(transfer: Transfer, files: &mut F, swap: &mut 
     requires sources { HasSources transfer }
     requires there { IsReachable (F.holds files.old) (D.blocks swap.old) transfer }
     ensures ends { Ends transfer (F.holds files.old) (D.image swap.old) (D.image swap.new) result }
-    ensures files_lead { F.leads files.old files.new }
-    ensures swap_leads { D.leads swap.old swap.new }
-    ensures holds { F.holds files.new ≡ F.holds files.old }
-    ensures blocks { D.blocks swap.new ≡ D.blocks swap.old }
-    ensures open_faults { F.open_faults files.new ≡ F.open_faults files.old }
+    ensures files { ReadsPages F.Files files.old files.new }
+    ensures swap { KeepsSwap D.SwapDev swap.old swap.new }
     ensures page_faults { CountsPages result (F.page_faults files.old) (F.page_faults files.new) }
     ensures read_faults { CountsReads result (D.read_faults swap.old) (D.read_faults swap.new) }
     ensures write_faults { CountsWrites result (D.write_faults swap.old) (D.write_faults swap.new) }
