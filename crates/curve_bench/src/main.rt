@@ -64,9 +64,7 @@ fn references(alloc: Global, count: u32) -> Result<Vec<u32>, NoMemory>
     let mut state = 1u32;
     for place in 0..count {
         state = state.wrapping_mul(1_664_525).wrapping_add(1_013_904_223);
-        if refs.push((state >> 8) % PAGES).is_err() {
-            return Err(NoMemory);
-        }
+        refs.push((state >> 8) % PAGES)?;
     }
     Ok(refs)
 }

@@ -118,9 +118,7 @@ fn make_references(alloc: Global, size: Size) -> Result<Vec<u32>, NoMemory>
             .wrapping_mul(6_364_136_223_846_793_005)
             .wrapping_add(1_442_695_040_888_963_407);
         let page = (state >> 33) % u64::from(size.pages);
-        if refs.push(page as u32).is_err() {
-            return Err(NoMemory);
-        }
+        refs.push(page as u32)?;
     }
     Ok(refs)
 }
