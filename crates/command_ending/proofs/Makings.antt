@@ -51,8 +51,8 @@ pub completed : {R : Type 0} (Ends : R → Faults → Ending → Type 0) (told :
     (before after : Option (List ℕ)) (old new status : ℕ) (ending : Ending) → ((read : R) → Ends read f (Err NoMemory)) → Made Ends told holds f ending
     → WritesSome before after old new ending status → Completes Ends told holds f before after old new status
 completed Ends told holds f before after old new status ending forget made (inl writes) = record { ending = ending; made = made; writes = writes }
-completed Ends told holds f before after old new status ending forget made (inr writes) = record {
+completed Ends told holds f before after old new status ending forget made (inr lost) = record {
   ending = Err NoMemory;
   made = record { read = made.read; is_told = made.is_told; ends = forget made.read };
-  writes = writes;
+  writes = lost.1;
 }

@@ -4,7 +4,7 @@ use Rattle.io_edge.specs.Count.{Rose}
 use Rattle.io_edge.specs.FileHolding.{NamedFile}
 use Rattle.io_edge.specs.Written.{Appends, AppendsSome}
 use Rattle.command_ending.specs.declared.fault.Fault.TheVariants.{NoMemory}
-use Rattle.command_ending.specs.Ending.{Ending, text_of, status_of, sink_fault}
+use Rattle.command_ending.specs.Ending.{Ending, text_of, status_of, sink_fault, CanBeLost}
 
 -- the two counts of the files' faults, before and after
 pub record Faults : Type 0 where
@@ -37,11 +37,11 @@ abbrev pub WritesEnding : Option (List ℕ) → Option (List ℕ) → ℕ → �
 WritesEnding before after old_faults new_faults ending status =
     Writes before after old_faults new_faults (text_of ending) (status_of ending) status
 
--- an ending is written, or one that found no memory
+-- an ending is written; or, where its text could be lost, want of memory
 abbrev pub WritesSome : Option (List ℕ) → Option (List ℕ) → ℕ → ℕ → Ending → ℕ → Type 0
 WritesSome before after old_faults new_faults ending status =
     WritesEnding before after old_faults new_faults ending status
-    ⊎ WritesEnding before after old_faults new_faults (Err NoMemory) status
+    ⊎ (CanBeLost ending × WritesEnding before after old_faults new_faults (Err NoMemory) status)
 
 -- A command's status and text: there is one ending, by what was read, and its text was written.
 pub record Completes {R : Type 0} (Ends : R → Faults → Ending → Type 0) (told : List NamedFile → R) (holds : Option (List NamedFile)) (f : Faults)

@@ -3,6 +3,8 @@ use Rattle.std.specs.Prelude.{ℕ, List, ◌++◌, codes, decimal, Vec, Result, 
 use Rattle.std.specs.Borrow.{Bor}
 use Rattle.run_files.specs.declared.answers.Unread.{Unread}
 use Rattle.run_files.specs.declared.answers.Unread.TheVariants as unreads
+use Rattle.command_ending.specs.declared.lines.Line.{Line}
+use Rattle.command_ending.specs.declared.lines.Line.TheVariants.{Fixed, Made}
 use Rattle.command_ending.specs.declared.fault.Fault.{Fault}
 use Rattle.command_ending.specs.declared.fault.Fault.TheVariants.{Absent, NotImage, FileFault, NoMemory, NotFlatRun, BadTranscript, TooLong, BadSource}
 
@@ -31,6 +33,11 @@ fault_status (BadTranscript line) = 15
 fault_status TooLong = 16
 fault_status (BadSource line) = 17
 
+-- the bytes of a line about a fault
+abbrev pub bytes_of : Line → List ℕ
+bytes_of (Fixed line) = line.now
+bytes_of (Made line) = line.items
+
 abbrev pub absent_line : List ℕ → List ℕ
 absent_line name = codes "vmrun: absent " ++ name ++ codes "\n"
 
@@ -51,6 +58,22 @@ fault_line (NotFlatRun line) = numbered_line (codes "not a flat run: line ") lin
 fault_line (BadTranscript line) = numbered_line (codes "vmrun: bad transcript line ") line
 fault_line TooLong = codes "vmrun: transcript too long\n"
 fault_line (BadSource line) = numbered_line (codes "vmrun: bad source line ") line
+
+-- a fault whose line has a name or a number in it, so that memory is needed to write it
+abbrev pub NeedsMemory : Fault → Type 0
+NeedsMemory (Absent name) = Unit {0}
+NeedsMemory (NotImage name reason) = Unit {0}
+NeedsMemory FileFault = ⊥
+NeedsMemory NoMemory = ⊥
+NeedsMemory (NotFlatRun line) = Unit {0}
+NeedsMemory (BadTranscript line) = Unit {0}
+NeedsMemory TooLong = ⊥
+NeedsMemory (BadSource line) = Unit {0}
+
+-- an ending whose text can be lost for want of memory: what was made is at hand
+abbrev pub CanBeLost : Ending → Type 0
+CanBeLost (Ok output) = ⊥
+CanBeLost (Err fault) = NeedsMemory fault
 
 -- what is written at an ending: what was made, or the line of the fault
 abbrev pub text_of : Ending → List ℕ

@@ -1,7 +1,7 @@
-ghost use Rattle.std.specs.Prelude.{◌≡◌, IfOk};
-ghost use Rattle.command_ending.specs.Ending.{fault_of, fault_status, fault_line};
+ghost use Rattle.std.specs.Prelude.{◌≡◌, IfOk, IfErr};
+ghost use Rattle.command_ending.specs.Ending.{fault_of, fault_status, fault_line, bytes_of, NeedsMemory};
 
-use crate::lines::{NO_MEMORY, absent_line, not_image_line, numbered_line};
+use crate::lines::{Line, NO_MEMORY, absent_line, not_image_line, numbered_line};
 use run_files::Unread;
 use std::alloc::{AllocError, Global};
 
@@ -55,21 +55,24 @@ impl<'a> Fault<'a> {
         }
     }
 
-    /// The line that is written in place of what the command is for.
-    pub fn line(self, alloc: Global) -> Result<Vec<u8>, AllocError>
-        ensures { IfOk result (λ line. line.items ≡ fault_line self.entry) }
+    /// The line that is written in place of what the command is for. Only one with a name or a number in
+    /// it needs memory.
+    pub fn line(self, alloc: Global) -> Result<Line, AllocError>
+        ensures line { IfOk result (λ line. bytes_of line ≡ fault_line self.entry) }
+        ensures lost { IfErr result (λ _. NeedsMemory self.entry) }
     {
-        match self {
+        let made = match self {
             Fault::Absent(name) => absent_line(alloc, name),
             Fault::NotImage(name, reason) => not_image_line(alloc, name, reason),
-            Fault::FileFault => Vec::from_slice(alloc, b"vmrun: file fault\n"),
-            Fault::NoMemory => Vec::from_slice(alloc, NO_MEMORY),
+            Fault::FileFault => return Ok(Line::Fixed(b"vmrun: file fault\n")),
+            Fault::NoMemory => return Ok(Line::Fixed(NO_MEMORY)),
             Fault::NotFlatRun(line) => numbered_line(alloc, b"not a flat run: line ", line),
             Fault::BadTranscript(line) => {
                 numbered_line(alloc, b"vmrun: bad transcript line ", line)
             }
-            Fault::TooLong => Vec::from_slice(alloc, b"vmrun: transcript too long\n"),
+            Fault::TooLong => return Ok(Line::Fixed(b"vmrun: transcript too long\n")),
             Fault::BadSource(line) => numbered_line(alloc, b"vmrun: bad source line ", line),
-        }
+        }?;
+        Ok(Line::Made(made))
     }
 }

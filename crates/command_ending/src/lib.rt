@@ -6,5 +6,5 @@ mod lines;
 mod writing;
 
 pub use fault::Fault;
-pub use lines::{NO_MEMORY, absent_line, not_image_line, numbered_line, put_number};
+pub use lines::{Line, NO_MEMORY, absent_line, not_image_line, numbered_line, put_number};
 pub use writing::write_ending;

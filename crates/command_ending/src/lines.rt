@@ -1,12 +1,33 @@
 // The lines about faults, which the commands share.
 ghost use Rattle.std.specs.Prelude.{◌≡◌, ◌++◌, IfOk, OnOk, decimal};
-ghost use Rattle.command_ending.specs.Ending.{absent_line, not_image_line, numbered_line};
+ghost use Rattle.command_ending.specs.Ending.{bytes_of, absent_line, not_image_line, numbered_line};
 
 use itoa::Buffer;
 use std::alloc::{AllocError, Global};
 
 /// The line of want of memory.
 pub const NO_MEMORY: &[u8; 17] = b"vmrun: no memory\n";
+
+/// A line about a fault.
+#[derive(Drop)]
+pub enum Line {
+    /// It is the same for each fault of its kind.
+    Fixed(&'static [u8]),
+    /// It was made, of a name or a number.
+    Made(Vec<u8>),
+}
+
+impl Line {
+    /// Its bytes.
+    pub fn as_slice(&self) -> &[u8]
+        ensures { result.now ≡ bytes_of self.now }
+    {
+        match self {
+            Line::Fixed(line) => line,
+            Line::Made(line) => line.as_slice(),
+        }
+    }
+}
 
 /// Puts a number in decimal.
 pub fn put_number(line: &mut Vec<u8>, number: u32) -> Result<(), AllocError>
