@@ -4,15 +4,15 @@
 //! do, and which pages each of their instructions touches. All rules are those of `flat_model`.
 #![tactic(auto)]
 
-pub mod calling;
-pub mod deed;
-pub mod machine;
-pub mod present;
-pub mod process;
-pub mod program;
-pub mod replaying;
-pub mod space;
-pub mod touching;
+mod calling;
+mod deed;
+mod machine;
+mod present;
+mod process;
+mod program;
+mod replaying;
+mod space;
+mod touching;
 
 pub use program::{Flat, are_images, are_numbers};
 pub use replaying::{Verdict, replay};

@@ -1,4 +1,4 @@
-ghost use Rattle.std.specs.Prelude.{◌≡◌, ℕ, ◌+◌, ◌-◌, ◌*◌, ◌^◌, ◌<◌, ◌≤◌, ◌++◌, ◌∷◌, [], List, length, take, drop, slice_get, string_bytes, bytes_eq, min, All, IfOk, OnOk, Ok, true, false, IsTrue, is_ok, IsSome, Some};
+ghost use Rattle.std.specs.Prelude.{◌≡◌, ◌↔◌, ℕ, ◌+◌, ◌-◌, ◌*◌, ◌^◌, ◌<◌, ◌≤◌, ◌++◌, ◌∷◌, [], List, length, take, drop, slice_get, string_bytes, bytes_eq, min, All, IfOk, OnOk, Ok, true, false, IsTrue, is_ok, IsSome, Some};
 ghost use Rattle.aout_image.specs.Image.{Loaded, IsSound, image_of, loaded, in_pages, text_offset, text_given, data_given, text_pages_of, data_pages_of, file_length_of};
 ghost use Rattle.flat_state.specs.Flat.{NamedImage, image_numbered};
 ghost use Rattle.replay_check.specs.Images.{FlatFile, IsImageFile, AreNumbers, images_of, IsFit, IsNumbered};
@@ -176,8 +176,9 @@ fn same(some: &[u8], other: &[u8]) -> bool
     some == other
 }
 
+// Whether this is an image, whose name is short enough.
 fn is_image(flat: &Flat) -> bool
-    ensures { IsTrue result → IsImageFile flat.now }
+    ensures { IsTrue result ↔ IsImageFile flat.now }
 {
     let bytes = flat.bytes.as_slice();
     match read_image(head(bytes), bytes.len() as u64) {
@@ -188,26 +189,18 @@ fn is_image(flat: &Flat) -> bool
 
 /// Whether each of these is an image, whose name has at most 63 bytes.
 pub fn are_images(images: &[Flat]) -> bool
-    ensures { IsTrue result → All IsImageFile images.now }
+    ensures { IsTrue result ↔ All IsImageFile images.now }
 {
-    for image in images {
-        if !is_image(image) {
-            return false;
-        }
-    }
-    true
+    images.iter().all(is_image)
 }
 
 /// Whether each of these is a number of so many images, which count from 1.
 pub fn are_numbers(images: usize, first: &[u32]) -> bool
-    ensures { IsTrue result → AreNumbers images first.now }
+    ensures { IsTrue result ↔ AreNumbers images first.now }
 {
-    for number in first {
-        if *number == 0 || *number as usize > images {
-            return false;
-        }
-    }
-    true
+    first
+        .iter()
+        .all(|number| (1..=images).contains(&(*number as usize)))
 }
 
 /// The number, from 1 on, of the image of this name.
