@@ -1,11 +1,9 @@
 -- What a command makes of what it reads.
 use Rattle.std.proofs.Common.{◌≡◌, inl, inr, ℕ, List, Option, Some, None, Err, refl, sym, ap, subst}
 use Rattle.io_edge.specs.FileHolding.{NamedFile}
-use Rattle.run_files.specs.declared.answers.Unread.TheVariants as unreads
-use Rattle.run_files.specs.Answering.{CountsFaults}
 use Rattle.command_ending.specs.declared.fault.Fault.TheVariants.{NoMemory}
 use Rattle.command_ending.specs.Ending.{Ending}
-use Rattle.command_ending.specs.Command.{Faults, OneRose, Made, Completes, WritesSome}
+use Rattle.command_ending.specs.Command.{Faults, Made, Completes, WritesSome}
 
 -- something that may have been read, and is what is told where the files are told
 record Reading {R : Type 0} (P : R → Type 0) (told : List NamedFile → R) (holds : Option (List NamedFile)) : Type 0 where
@@ -40,11 +38,6 @@ pub made_by : {R E : Type 0} (Ends : R → Faults → E → Type 0) (told : List
     → ((files : List NamedFile) → holds ≡ Some files → told files ≡ read) → Ends read f ending → Made Ends told holds f ending
 made_by {R} Ends told holds f ending read tells ends =
     made_where (λ (r : R). r ≡ read) Ends read told holds f ending refl tells (λ r is. subst (λ (x : R). Ends x f ending) (sym is) ends)
-
--- a file failed
-pub one_rose : (f : Faults) → CountsFaults {A = ℕ} (Err unreads.FileFault) f.open_before f.open_after f.page_before f.page_after → OneRose f
-one_rose f (inl first) = inl first.0
-one_rose f (inr second) = inr second.1
 
 -- the ending was written, or forgotten for want of memory
 pub completed : {R : Type 0} (Ends : R → Faults → Ending → Type 0) (told : List NamedFile → R) (holds : Option (List NamedFile)) (f : Faults)

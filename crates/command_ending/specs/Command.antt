@@ -18,9 +18,21 @@ pub record NoFaults (f : Faults) : Type 0 where
   pub open_same : f.open_after ≡ f.open_before
   pub page_same : f.page_after ≡ f.page_before
 
--- one of them rose
-abbrev pub OneRose : Faults → Type 0
-OneRose f = Rose f.open_before f.open_after ⊎ Rose f.page_before f.page_after
+-- a file failed on the way to its first bytes
+abbrev pub OpenFailed : Faults → Type 0
+OpenFailed f = Rose f.open_before f.open_after × (f.page_after ≡ f.page_before)
+
+-- a file failed behind its first bytes
+abbrev pub PageFailed : Faults → Type 0
+PageFailed f = (f.open_after ≡ f.open_before) × Rose f.page_before f.page_after
+
+-- one file failed
+abbrev pub OneFailed : Faults → Type 0
+OneFailed f = OpenFailed f ⊎ PageFailed f
+
+-- one file failed, and where that was behind its first bytes, all that comes before was good
+abbrev pub FailedBehind : Type 0 → Faults → Type 0
+FailedBehind Good f = OpenFailed f ⊎ (PageFailed f × Good)
 
 -- an end by what was read, which is what is told where the files are told
 pub record Made {R E : Type 0} (Ends : R → Faults → E → Type 0) (told : List NamedFile → R) (holds : Option (List NamedFile)) (f : Faults) (ending : E) : Type 0 where

@@ -11,7 +11,7 @@ use Rattle.replay_check.specs.Images.{FlatFile}
 use Rattle.command_ending.specs.declared.fault.Fault.{Fault}
 use Rattle.command_ending.specs.declared.fault.Fault.TheVariants as faults
 use Rattle.command_ending.specs.Ending.{Ending}
-use Rattle.command_ending.specs.Command.{Faults, NoFaults, OneRose, Made}
+use Rattle.command_ending.specs.Command.{Faults, NoFaults, OneFailed, Made}
 use Rattle.command_ending.proofs.Makings.{made_where, made_nothing}
 use Rattle.replay_command.specs.Reading.{Why, Read, HasEntries, EndsTranscript, AnswersNamed, FaultsBy, images_told, read_told}
 use Rattle.replay_command.specs.Command.{EndsVerdict, EndsReplay}
@@ -23,7 +23,7 @@ whole name list = whole_told list name 67108864
 transcript_fault : (name : List ℕ) (words : List (List ℕ)) (f : Faults) (fault : Fault) (read : Read) → EndsTranscript name read.transcript f (Err fault) → EndsReplay name words read f (Err fault)
 transcript_fault name words f (faults.Absent absent) read ends = inl ends
 transcript_fault name words f (faults.NotImage file reason) read ends = absurd ends
-transcript_fault name words f faults.FileFault read ends = ends
+transcript_fault name words f faults.FileFault read ends = inl ends
 transcript_fault name words f faults.NoMemory read ends = tt
 transcript_fault name words f (faults.NotFlatRun line) read ends = absurd ends
 transcript_fault name words f (faults.BadTranscript line) read ends = ends
@@ -44,10 +44,12 @@ refused name words holds f =
 -- counts that stayed, and then rose or stayed
 none_before : (open_before open_between open_after page_before page_between page_after : ℕ)
     → NoFaults (record { open_before = open_before; open_after = open_between; page_before = page_before; page_after = page_between })
-    → OneRose (record { open_before = open_between; open_after = open_after; page_before = page_between; page_after = page_after })
-    → OneRose (record { open_before = open_before; open_after = open_after; page_before = page_before; page_after = page_after })
-none_before open_before open_between open_after page_before page_between page_after none (inl rose) = inl (subst (λ (n : ℕ). Rose n open_after) none.open_same rose)
-none_before open_before open_between open_after page_before page_between page_after none (inr rose) = inr (subst (λ (n : ℕ). Rose n page_after) none.page_same rose)
+    → OneFailed (record { open_before = open_between; open_after = open_after; page_before = page_between; page_after = page_after })
+    → OneFailed (record { open_before = open_before; open_after = open_after; page_before = page_before; page_after = page_after })
+none_before open_before open_between open_after page_before page_between page_after none (inl failed) =
+    inl (subst (λ (n : ℕ). Rose n open_after) none.open_same failed.0, failed.1 ∙ none.page_same)
+none_before open_before open_between open_after page_before page_between page_after none (inr failed) =
+    inr (failed.0 ∙ none.open_same, subst (λ (n : ℕ). Rose n page_after) none.page_same failed.1)
 
 -- the transcript's entries were read, and this of the images
 record Reads (name : List ℕ) (words : List (List ℕ)) (holds : Option (List NamedFile)) (entries : List Entry) (images : Result (List FlatFile) Why) : Type 0 where
@@ -86,8 +88,9 @@ images_end name words holds open_before open_between open_after page_before page
     (record { read = made.read; has = made.ends.1; transcript_told = made.is_told; images_are = answers })
     (λ read has. ((entries, has.has), has.images_are))
 images_end name words holds open_before open_between open_after page_before page_between page_after entries faults.FileFault made view answers by =
-    made_nothing (EndsReplay name words) (record { transcript = Ok None; images = Ok [] }) (read_told name words) holds _ (Err faults.FileFault)
-    (λ read. none_before open_before open_between open_after page_before page_between page_after made.ends.0 by)
+    made_where (λ (read : Read). HasEntries read.transcript entries) (EndsReplay name words) (record { transcript = made.read; images = Ok [] }) (read_told name words) holds _ (Err faults.FileFault)
+    made.ends.1 (λ list told. subst (λ (read : Result (Option (List ℕ)) Unread). HasEntries read entries) (made.is_told list told) made.ends.1)
+    (λ read has. elim (none_before open_before open_between open_after page_before page_between page_after made.ends.0 by) [ inl first ↦ inl first | inr behind ↦ inr (behind, (entries, has)) ])
 images_end name words holds open_before open_between open_after page_before page_between page_after entries faults.NoMemory made view answers by = refused name words holds _
 images_end name words holds open_before open_between open_after page_before page_between page_after entries (faults.NotFlatRun line) made view answers by = absurd by
 images_end name words holds open_before open_between open_after page_before page_between page_after entries (faults.BadTranscript line) made view answers by = absurd by

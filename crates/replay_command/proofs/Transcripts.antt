@@ -1,5 +1,5 @@
 -- The transcript that was read, or wasn't.
-use Rattle.std.proofs.Common.{◌≡◌, inl, ℕ, suc, ◌≤◌, List, [], ◌∷◌, length, Option, Some, Result, Ok, Err, Bor, refl, ap, arith}
+use Rattle.std.proofs.Common.{◌≡◌, ℕ, suc, ◌≤◌, List, [], ◌∷◌, length, Option, Some, Result, Ok, Err, Bor, refl, ap, arith}
 use Rattle.io_edge.specs.FileHolding.{NamedFile}
 use Rattle.vm_facts.specs.declared.entry.Entry.{Entry}
 use Rattle.run_files.specs.declared.answers.Unread.{Unread}
@@ -39,9 +39,9 @@ ends_read name bytes f (Err (faults.BadSource line)) none ends = absurd ends
 
 -- a transcript that wasn't read
 pub unread_transcript : {A : Type 0} (view : A → Option (List ℕ)) (name : Bor (List ℕ)) (told : List NamedFile → Result (Option (List ℕ)) Unread) (holds : Option (List NamedFile)) (f : Faults) (unread : Unread)
-    → ((files : List NamedFile) → holds ≡ Some files → Answers view (told files) (Err unread)) → IsOfAnyFile unread → CountsFault {A = A} (Err unread) f.open_before f.open_after
+    → ((files : List NamedFile) → holds ≡ Some files → Answers view (told files) (Err unread)) → IsOfAnyFile unread → CountsFault {A = A} (Err unread) f.open_before f.open_after → f.page_after ≡ f.page_before
     → Made {E = Result (List Entry) Fault} (EndsTranscript name.now) told holds f (Err (fault_of name unread))
-unread_transcript view name told holds f unreads.Absent answers kind counts = made_by (EndsTranscript name.now) told holds f (Err (faults.Absent name)) (Err unreads.Absent) answers (refl, refl)
-unread_transcript view name told holds f (unreads.NotImage reason) answers kind counts = absurd kind
-unread_transcript view name told holds f unreads.FileFault answers kind counts = made_nothing (EndsTranscript name.now) (Err unreads.NoMemory) told holds f (Err faults.FileFault) (λ read. inl counts)
-unread_transcript view name told holds f unreads.NoMemory answers kind counts = made_nothing (EndsTranscript name.now) (Err unreads.NoMemory) told holds f (Err faults.NoMemory) (λ read. tt)
+unread_transcript view name told holds f unreads.Absent answers kind counts stays = made_by (EndsTranscript name.now) told holds f (Err (faults.Absent name)) (Err unreads.Absent) answers (refl, refl)
+unread_transcript view name told holds f (unreads.NotImage reason) answers kind counts stays = absurd kind
+unread_transcript view name told holds f unreads.FileFault answers kind counts stays = made_nothing (EndsTranscript name.now) (Err unreads.NoMemory) told holds f (Err faults.FileFault) (λ read. (counts, stays))
+unread_transcript view name told holds f unreads.NoMemory answers kind counts stays = made_nothing (EndsTranscript name.now) (Err unreads.NoMemory) told holds f (Err faults.NoMemory) (λ read. tt)

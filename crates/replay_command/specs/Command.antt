@@ -9,7 +9,7 @@ use Rattle.replay_check.specs.Images.{FlatFile, images_of}
 use Rattle.replay_check.specs.Verdicts.{first_bad}
 use Rattle.command_ending.specs.declared.fault.Fault.TheVariants.{Absent, NotImage, FileFault, NoMemory, NotFlatRun, BadTranscript, TooLong}
 use Rattle.command_ending.specs.Ending.{Ending}
-use Rattle.command_ending.specs.Command.{Faults, NoFaults, OneRose, Completes}
+use Rattle.command_ending.specs.Command.{Faults, NoFaults, FailedBehind, Completes}
 use Rattle.replay_command.specs.Reading.{Why, Read, HasEntries, HasBadLine, read_told}
 
 -- the line of a run
@@ -41,9 +41,13 @@ IsRun words read output = (entries : List Entry) × IsJudged words read entries 
 abbrev pub IsNoRun : List (List ℕ) → Read → ℕ → Type 0
 IsNoRun words read line = (entries : List Entry) × IsJudged words read entries (Some line)
 
+-- the transcript was good
+abbrev pub IsGood : Read → Type 0
+IsGood read = (entries : List Entry) × HasEntries read.transcript entries
+
 -- the transcript was good, but an image wasn't read
 abbrev pub LacksImage : Read → Why → Type 0
-LacksImage read why = ((entries : List Entry) × HasEntries read.transcript entries) × (read.images ≡ Err why)
+LacksImage read why = IsGood read × (read.images ≡ Err why)
 
 -- How the replay of the transcript of this name over the images of these words ends, by what is read. The transcript
 -- comes first, then the images in their order, then the verdict.
@@ -52,7 +56,7 @@ EndsReplay name words read f (Ok output) = NoFaults f × IsRun words read output
 EndsReplay name words read f (Err (Absent absent)) =
     ((absent.now ≡ name) × (read.transcript ≡ Err unreads.Absent)) ⊎ LacksImage read (absent.now, unreads.Absent)
 EndsReplay name words read f (Err (NotImage file reason)) = LacksImage read (file.now, unreads.NotImage reason)
-EndsReplay name words read f (Err FileFault) = OneRose f
+EndsReplay name words read f (Err FileFault) = FailedBehind (IsGood read) f
 EndsReplay name words read f (Err NoMemory) = Unit {0}
 EndsReplay name words read f (Err (NotFlatRun line)) = IsNoRun words read line
 EndsReplay name words read f (Err (BadTranscript line)) = HasBadLine read.transcript line

@@ -12,7 +12,7 @@ use Rattle.run_text.specs.Transcript.{IsEntryLine}
 use Rattle.replay_check.specs.Images.{FlatFile}
 use Rattle.command_ending.specs.declared.fault.Fault.{Fault}
 use Rattle.command_ending.specs.declared.fault.Fault.TheVariants.{Absent, NotImage, FileFault, NoMemory, BadTranscript, TooLong}
-use Rattle.command_ending.specs.Command.{Faults, NoFaults, OneRose}
+use Rattle.command_ending.specs.Command.{Faults, NoFaults, OpenFailed, OneFailed}
 use Rattle.replay_command.specs.LastLine.{without_fault_line}
 
 -- a name, and why its file isn't read
@@ -56,7 +56,7 @@ abbrev pub FaultsBy : {A : Type 0} → Result A Fault → Faults → Type 0
 FaultsBy (Ok x) f = NoFaults f
 FaultsBy (Err (Absent name)) f = Unit {0}
 FaultsBy (Err (NotImage name reason)) f = Unit {0}
-FaultsBy (Err FileFault) f = OneRose f
+FaultsBy (Err FileFault) f = OneFailed f
 FaultsBy (Err NoMemory) f = Unit {0}
 FaultsBy (Err _) f = ⊥
 
@@ -89,7 +89,7 @@ EndsLines bytes (Err _) = ⊥
 abbrev pub EndsTranscript : List ℕ → Result (Option (List ℕ)) Unread → Faults → Result (List Entry) Fault → Type 0
 EndsTranscript name read f (Ok entries) = NoFaults f × HasEntries read entries
 EndsTranscript name read f (Err (Absent absent)) = (absent.now ≡ name) × (read ≡ Err unreads.Absent)
-EndsTranscript name read f (Err FileFault) = OneRose f
+EndsTranscript name read f (Err FileFault) = OpenFailed f
 EndsTranscript name read f (Err NoMemory) = Unit {0}
 EndsTranscript name read f (Err (BadTranscript line)) = HasBadLine read line
 EndsTranscript name read f (Err TooLong) = read ≡ Ok None

@@ -1,6 +1,6 @@
 -- What was read of a file's front is what is told.
 use Rattle.std.proofs.Common.{◌≡◌, ◌⊎◌, inl, inr, ℕ, ◌+◌, ◌-◌, ◌<◌, ◌≤◌, min, List, [], ◌∷◌, ◌++◌, length, take, drop, replicate, Option, Some, None, Result, Ok, Err, refl, sym, ap, ◌∙◌, subst, arith}
-use Rattle.std.specs.Prelude.{IfOk, IfErr, Bool, true, false, is_ok, is_err, if◌then◌else◌}
+use Rattle.std.specs.Prelude.{IfOk, IfErr, IsTrue, Bool, true, false, is_ok, is_err, if◌then◌else◌}
 use Rattle.std.proofs.lemmas.Bool.{cases_lt}
 use Rattle.std.proofs.lemmas.List.{take_all, length-append, length-replicate, length-drop, length-take-le, take-take, take-append-drop, take-append-le}
 use Rattle.std.proofs.lemmas.Slice.{between_to_end, between-put_mid}
@@ -8,14 +8,14 @@ use borrow.Rule.Slice.PartMut.{put_mid, same_len_mid}
 use Rattle.std.proofs.Math.Seq.{take-add, take-append_seam}
 use Rattle.io_edge.specs.declared.Moved.{Moved}
 use Rattle.io_edge.specs.declared.Moved.TheVariants.{Done, Failed}
-use Rattle.io_edge.specs.Count.{OnDone}
+use Rattle.io_edge.specs.Count.{OnDone, Rose}
 use Rattle.io_edge.specs.FileHolding.{NamedFile, place_of, bytes_at, file_range, HoldsRange}
 use Rattle.aout_image.specs.declared.Image.{Image}
 use Rattle.aout_image.specs.declared.Judged.TheVariants.{Is, NotImage as No}
 use Rattle.aout_image.specs.Image.{Loaded, image_of, judged_of, file_length_of, is_paged, NeedsNoMore}
 use Rattle.run_files.specs.declared.answers.Unread.{Unread}
 use Rattle.run_files.specs.declared.answers.Unread.TheVariants.{Absent, NotImage, FileFault, NoMemory}
-use Rattle.run_files.specs.Answering.{Answers, IsFailure}
+use Rattle.run_files.specs.Answering.{Answers, CountsFault, FailsInOrder, IsFailure}
 use Rattle.run_files.specs.Told.{bytes_told, bytes_told_at, image_in, IsImageOf}
 
 take_least : (bytes : List ℕ) (most : ℕ) → take (min (length bytes) most) bytes ≡ take most bytes
@@ -76,6 +76,20 @@ judged_is bytes front (Ok image) facts e same =
     let is : image.facts ≡ facts = let other : facts ≡ image.facts = cc in sym other in
     ap (λ (i : Image). Ok (i, take (file_length_of i) bytes)) is ∙ ap (λ (xs : List ℕ). Ok (facts, xs)) (sym same)
 judged_is bytes front (Err reason) facts e same = absurd cc
+
+-- a file that is judged to be an image is told as one
+pub told_image : (bytes : List ℕ) (r : Result Loaded ℕ) (facts : Image) → Is facts ≡ judged_of r → IsTrue (is_ok (image_in bytes r))
+told_image bytes (Ok image) facts e = refl
+told_image bytes (Err reason) facts e = absurd cc
+
+-- what is read behind the header of an image fails in order
+pub rest_fails : (A C : Type 0) {B : Type 0} (told : Result B Unread) (unread : Unread) (open_old open_new page_old page_between page_new : ℕ) → IsTrue (is_ok told) → open_new ≡ open_old → page_between ≡ page_old
+    → CountsFault {A = A} (Err unread) page_between page_new → FailsInOrder {A = C} told (Err unread) open_old open_new page_old page_new
+rest_fails A C told Absent open_old open_new page_old page_between page_new ok open_same page_same counts = tt
+rest_fails A C told (NotImage reason) open_old open_new page_old page_between page_new ok open_same page_same counts = tt
+rest_fails A C told FileFault open_old open_new page_old page_between page_new ok open_same page_same counts =
+    inr ((open_same, subst (λ (n : ℕ). Rose n page_new) page_same counts), ok)
+rest_fails A C told NoMemory open_old open_new page_old page_between page_new ok open_same page_same counts = tt
 
 is_image : (r : Result Loaded ℕ) (facts : Image) → IsImageOf r facts → (image : Loaded) × (r ≡ Ok image) × (image.facts ≡ facts)
 is_image (Ok image) facts is = (image, refl, is)

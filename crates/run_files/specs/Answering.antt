@@ -1,5 +1,5 @@
 -- What an answer says of the files and of their counts of faults.
-use Rattle.std.specs.Prelude.{◌≡◌, ◌⊎◌, ℕ, Result, Ok, Err}
+use Rattle.std.specs.Prelude.{◌≡◌, ◌⊎◌, ℕ, Result, Ok, Err, IsTrue, is_ok}
 use Rattle.io_edge.specs.Count.{Rose}
 use Rattle.run_files.specs.declared.answers.Unread.{Unread}
 use Rattle.run_files.specs.declared.answers.Unread.TheVariants.{Absent, NotImage, FileFault, NoMemory}
@@ -37,9 +37,17 @@ CountsFault (Err NoMemory) old new = new ≡ old
 abbrev pub BothStay : ℕ → ℕ → ℕ → ℕ → Type 0
 BothStay open_old open_new page_old page_new = (open_new ≡ open_old) × (page_new ≡ page_old)
 
+-- a file failed on the way to its first bytes
+abbrev pub OpenRose : ℕ → ℕ → ℕ → ℕ → Type 0
+OpenRose open_old open_new page_old page_new = Rose open_old open_new × (page_new ≡ page_old)
+
+-- a file failed behind its first bytes
+abbrev pub PageRose : ℕ → ℕ → ℕ → ℕ → Type 0
+PageRose open_old open_new page_old page_new = (open_new ≡ open_old) × Rose page_old page_new
+
 abbrev pub OneRose : ℕ → ℕ → ℕ → ℕ → Type 0
 OneRose open_old open_new page_old page_new =
-    (Rose open_old open_new × (page_new ≡ page_old)) ⊎ ((open_new ≡ open_old) × Rose page_old page_new)
+    OpenRose open_old open_new page_old page_new ⊎ PageRose open_old open_new page_old page_new
 
 -- both counts of faults over a call: one rises where a file failed, and else both stay
 abbrev pub CountsFaults : {A : Type 0} → Result A Unread → ℕ → ℕ → ℕ → ℕ → Type 0
@@ -48,3 +56,12 @@ CountsFaults (Err Absent) open_old open_new page_old page_new = BothStay open_ol
 CountsFaults (Err (NotImage reason)) open_old open_new page_old page_new = BothStay open_old open_new page_old page_new
 CountsFaults (Err FileFault) open_old open_new page_old page_new = OneRose open_old open_new page_old page_new
 CountsFaults (Err NoMemory) open_old open_new page_old page_new = BothStay open_old open_new page_old page_new
+
+-- Where a file failed behind its first bytes, these are as they have to be.
+abbrev pub FailsInOrder : {A B : Type 0} → Result B Unread → Result A Unread → ℕ → ℕ → ℕ → ℕ → Type 0
+FailsInOrder told (Ok x) open_old open_new page_old page_new = Unit {0}
+FailsInOrder told (Err Absent) open_old open_new page_old page_new = Unit {0}
+FailsInOrder told (Err (NotImage reason)) open_old open_new page_old page_new = Unit {0}
+FailsInOrder told (Err FileFault) open_old open_new page_old page_new =
+    OpenRose open_old open_new page_old page_new ⊎ (PageRose open_old open_new page_old page_new × IsTrue (is_ok told))
+FailsInOrder told (Err NoMemory) open_old open_new page_old page_new = Unit {0}

@@ -2,7 +2,7 @@ ghost use Rattle.std.specs.Prelude.{◌≡◌, ◌≤◌, ℕ, List, Some, IfOk,
 ghost use Rattle.io_edge.specs.Count.{Counts, OnDone};
 ghost use Rattle.io_edge.specs.FileHolding.{NamedFile, bytes_at, HasRange, HoldsRange};
 ghost use Rattle.aout_image.specs.Image.{IsSound, file_length_of, image_of};
-ghost use Rattle.run_files.specs.Answering.{Answers, CountsFault, CountsFaults, IsFailure};
+ghost use Rattle.run_files.specs.Answering.{Answers, CountsFault, CountsFaults, FailsInOrder, IsFailure};
 ghost use Rattle.run_files.specs.Told.{image_told, image_in, IsImageOf};
 
 use crate::answers::{Loaded, Unread};
@@ -55,6 +55,8 @@ fn load_found<F: Files>(alloc: Global, files: &mut F, id: u32, len: u64) -> Resu
     requires range { HasRange (F.holds files.old) id 0 len }
     ensures answers { (list : List NamedFile) → F.holds files.old ≡ Some list → len ≡ length (bytes_at list id)
         → Answers (λ loaded. (loaded.image, loaded.bytes.items)) (image_in (bytes_at list id) (image_of (bytes_at list id))) result }
+    ensures order { (list : List NamedFile) → F.holds files.old ≡ Some list → len ≡ length (bytes_at list id)
+        → FailsInOrder (image_in (bytes_at list id) (image_of (bytes_at list id))) result (F.open_faults files.old) (F.open_faults files.new) (F.page_faults files.old) (F.page_faults files.new) }
     ensures image { IfOk result (λ loaded. IsImageOf (image_of loaded.bytes.items) loaded.image) }
     ensures sound { IfOk result (λ loaded. IsSound loaded.image) }
     ensures size { IfOk result (λ loaded. length loaded.bytes.items ≡ file_length_of loaded.image) }
@@ -77,6 +79,8 @@ fn load_found<F: Files>(alloc: Global, files: &mut F, id: u32, len: u64) -> Resu
 pub fn load_image<F: Files>(alloc: Global, files: &mut F, name: &str) -> Result<Loaded, Unread>
     ensures answers { (list : List NamedFile) → F.holds files.old ≡ Some list
         → Answers (λ loaded. (loaded.image, loaded.bytes.items)) (image_told list name.now) result }
+    ensures order { (list : List NamedFile) → F.holds files.old ≡ Some list
+        → FailsInOrder (image_told list name.now) result (F.open_faults files.old) (F.open_faults files.new) (F.page_faults files.old) (F.page_faults files.new) }
     ensures image { IfOk result (λ loaded. IsImageOf (image_of loaded.bytes.items) loaded.image) }
     ensures sound { IfOk result (λ loaded. IsSound loaded.image) }
     ensures size { IfOk result (λ loaded. length loaded.bytes.items ≡ file_length_of loaded.image) }

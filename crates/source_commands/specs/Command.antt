@@ -1,5 +1,5 @@
 -- Assembling and listing: how they end, by what was read.
-use Rattle.std.specs.Prelude.{◌≡◌, ◌+◌, ℕ, List, Option, Result, Ok, Err}
+use Rattle.std.specs.Prelude.{◌≡◌, ◌+◌, ℕ, List, Option, Result, Ok, Err, IsTrue, is_ok}
 use Rattle.io_edge.specs.FileHolding.{NamedFile}
 use Rattle.aout_image.specs.declared.Image.{Image}
 use Rattle.vax_asm.specs.Program.{IsProgramOf, IsFirstBad}
@@ -8,7 +8,7 @@ use Rattle.run_files.specs.declared.answers.Unread.TheVariants as unreads
 use Rattle.run_files.specs.Told.{bytes_told, image_told}
 use Rattle.command_ending.specs.declared.fault.Fault.TheVariants.{Absent, NotImage, FileFault, NoMemory, BadSource}
 use Rattle.command_ending.specs.Ending.{Ending}
-use Rattle.command_ending.specs.Command.{Faults, NoFaults, OneRose, Completes}
+use Rattle.command_ending.specs.Command.{Faults, NoFaults, OpenFailed, FailedBehind, Completes}
 use Rattle.source_commands.specs.ProgramFile.{program_file}
 use Rattle.source_commands.specs.Listing.{code_at, IsListing}
 
@@ -33,7 +33,7 @@ HasFirstBad (Err unread) line = ⊥
 abbrev pub EndsAssembly : List ℕ → Result (List ℕ) Unread → Faults → Ending → Type 0
 EndsAssembly name read f (Ok output) = NoFaults f × MakesFile read output
 EndsAssembly name read f (Err (Absent absent)) = (absent.now ≡ name) × (read ≡ Err unreads.Absent)
-EndsAssembly name read f (Err FileFault) = OneRose f
+EndsAssembly name read f (Err FileFault) = OpenFailed f
 EndsAssembly name read f (Err NoMemory) = Unit {0}
 EndsAssembly name read f (Err (BadSource line)) = HasFirstBad read line
 EndsAssembly name read f (Err _) = ⊥
@@ -50,7 +50,7 @@ abbrev pub EndsListing : List ℕ → Result (Image × List ℕ) Unread → Faul
 EndsListing name read f (Ok output) = NoFaults f × MakesListing read output
 EndsListing name read f (Err (Absent absent)) = (absent.now ≡ name) × (read ≡ Err unreads.Absent)
 EndsListing name read f (Err (NotImage file reason)) = (file.now ≡ name) × (read ≡ Err (unreads.NotImage reason))
-EndsListing name read f (Err FileFault) = OneRose f
+EndsListing name read f (Err FileFault) = FailedBehind (IsTrue (is_ok read)) f
 EndsListing name read f (Err NoMemory) = Unit {0}
 EndsListing name read f (Err _) = ⊥
 

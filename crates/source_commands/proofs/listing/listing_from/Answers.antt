@@ -22,7 +22,7 @@ returns-in-Err g c =
     } in
     subst (λ (e : Fault). Made (EndsListing c.args.name.now) (λ (list : List NamedFile). image_told list c.args.name.now) (g.F.Files.holds c.args.files.now) f (Err e)) (sym c.of_unread.ensures)
     (unread_image {A = Loaded} (λ loaded. (loaded.image, loaded.bytes.items)) c.args.name (λ (list : List NamedFile). image_told list c.args.name.now) (g.F.Files.holds c.args.files.now) f c.in-Err.unread
-    c.in-Err.ensures.answers c.in-Err.ensures.faults)
+    c.in-Err.ensures.answers c.in-Err.ensures.faults c.in-Err.ensures.order)
 
 pub returns-in-Ok-listing_of : goal.returns-in-Ok-listing_of
 returns-in-Ok-listing_of g c =

@@ -22,7 +22,7 @@ returns-in-Err g c =
     } in
     subst (λ (e : Fault). Made (EndsAssembly c.args.name.now) (λ (list : List NamedFile). bytes_told list c.args.name.now 495617) (g.F.Files.holds c.args.files.now) f (Err e)) (sym c.of_unread.ensures)
     (unread_source {A = Vec ℕ Global} (λ bytes. bytes.items) c.args.name (λ (list : List NamedFile). bytes_told list c.args.name.now 495617) (g.F.Files.holds c.args.files.now) f c.in-Err.unread
-    c.in-Err.ensures.answers c.in-Err.ensures.error c.in-Err.ensures.open_faults)
+    c.in-Err.ensures.answers c.in-Err.ensures.error c.in-Err.ensures.open_faults c.in-Err.ensures.page_faults)
 
 pub file_of-requires : goal.file_of-requires
 file_of-requires g c = program_limit c.as_slice.result.now c.in-Ok-Is.program.bytes.items c.in-Ok-Is.program.bss (subst (AssemblesAs c.as_slice.result.now) c.in-Ok-Is.field-0-is c.in-Ok-Is.ensures)
