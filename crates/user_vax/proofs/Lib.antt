@@ -6,6 +6,7 @@ pub mod Allowed
 pub mod Fetching
 pub mod OwnSignals
 pub mod Order
+pub mod SignalOrder
 pub mod Saving
 pub mod Restoring
 pub mod ArrayLemmas

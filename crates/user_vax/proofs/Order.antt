@@ -1,30 +1,24 @@
 -- The laws of Laws, by induction on the computation.
-use Rattle.std.proofs.Common.{◌≡◌, ℕ, Bool, true, false, List, [], ◌∷◌, ◌++◌, Some, None, Result, Ok, Err, refl, ap, subst, inl, inr, ◌⊎◌}
+use Rattle.std.proofs.Common.{◌≡◌, ℕ, Bool, true, false, List, [], ◌∷◌, ◌++◌, None, Result, Ok, Err, refl, ap, subst, inl, inr, ◌⊎◌}
 use Rattle.vm_facts.specs.Answers.{Answers}
-use Rattle.vm_facts.specs.declared.regs.Regs.{Regs}
-use Rattle.vm_facts.specs.declared.memory.ByteRead.{ByteRead}
 use Rattle.vm_facts.specs.declared.memory.ByteRead.TheVariants as bytes
-use Rattle.vm_facts.specs.declared.memory.MayWrite.{MayWrite}
 use Rattle.vm_facts.specs.declared.memory.MayWrite.TheVariants as tests
 use Rattle.user_vax.specs.declared.refused.Refused.{Refused}
 use Rattle.user_vax.specs.declared.refused.Refused.TheVariants.{Miss, Below, Signal}
 use Rattle.user_vax.specs.Program.{Program, Gives, Refuses, Reads, Tests, run, after_read, after_test, Access, ReadOf, TestOf, accesses, rest_of_read, rest_of_test}
-use Rattle.user_vax.specs.Signals.{sigill, sigfpe, sigbus, sigsegv}
-use Rattle.user_vax.specs.Laws.{refusal, read_refusal, test_refusal, AllGranted, EndsRefused, SignalFrom, KeepsOrder, Covers, SameOrMisses}
-use Rattle.user_vax.specs.Instruction.{instruction}
-use Rattle.user_vax.proofs.OwnSignals.{HasOwnSignals, instruction_signals}
+use Rattle.user_vax.specs.Signals.{sigbus, sigsegv}
+use Rattle.user_vax.specs.Laws.{refusal, read_refusal, test_refusal, AllGranted, EndsRefused, KeepsOrder, Covers, SameOrMisses}
 
--- what comes of a computation whose accesses are all granted
-abbrev OfItself : {A : Type 0} → Result A Refused → Type 0
-OfItself (Ok x) = Unit {0}
-OfItself (Err (Signal number)) = (number ≡ sigill) ⊎ (number ≡ sigfpe)
-OfItself (Err (Miss address write)) = ⊥
-OfItself (Err (Below address)) = ⊥
+abbrev NotByAccess : {A : Type 0} → Result A Refused → Type 0
+NotByAccess (Ok x) = Unit {0}
+NotByAccess (Err (Signal number)) = Unit {0}
+NotByAccess (Err (Miss address write)) = ⊥
+NotByAccess (Err (Below address)) = ⊥
 
 -- either each access is granted, or the last one alone is refused, and so is the whole
 abbrev Ends : {A : Type 0} → Answers → List Access → Result A Refused → Type 0
 Ends memory list result =
-    (AllGranted memory list × OfItself result)
+    (AllGranted memory list × NotByAccess result)
     ⊎ ((refused : Refused) × (result ≡ Err refused) × EndsRefused memory list refused)
 
 after_one : {A : Type 0} (memory : Answers) (access : Access) (list : List Access) (result : Result A Refused) → refusal memory access ≡ None → Ends memory list result → Ends memory (access ∷ list) result
@@ -32,19 +26,19 @@ after_one memory access list result here (inl all) = inl ((here, all.0), all.1)
 after_one memory access list result here (inr last) =
     inr (last.0, last.1, (access ∷ last.2.0, last.2.1, ap (λ (l : List Access). access ∷ l) last.2.2, (here, last.2.3), last.2.4))
 
-ends : {A : Type 0} (memory : Answers) (p : Program A) → HasOwnSignals p → Ends memory (accesses memory p) (run memory p)
-ends memory (Gives x) own = inl (tt, tt)
-ends memory (Refuses signal) own = inl (tt, own)
-ends memory (Reads address next) own =
+ends : {A : Type 0} (memory : Answers) (p : Program A) → Ends memory (accesses memory p) (run memory p)
+ends memory (Gives x) = inl (tt, tt)
+ends memory (Refuses signal) = inl (tt, tt)
+ends memory (Reads address next) =
     (elim (memory.read address) as (λ answer. memory.read address ≡ answer → Ends memory (ReadOf address ∷ rest_of_read answer (λ byte. accesses memory (next byte))) (after_read answer address (λ byte. run memory (next byte)))) [
-      | bytes.Is byte ↦ λ e. after_one memory (ReadOf address) (accesses memory (next byte)) (run memory (next byte)) (ap (λ answer. read_refusal answer address) e) (ends memory (next byte) (own byte))
+      | bytes.Is byte ↦ λ e. after_one memory (ReadOf address) (accesses memory (next byte)) (run memory (next byte)) (ap (λ answer. read_refusal answer address) e) (ends memory (next byte))
       | bytes.Miss ↦ λ e. inr (Miss address false, refl, ([], ReadOf address, refl, tt, ap (λ answer. read_refusal answer address) e))
       | bytes.Below ↦ λ e. inr (Below address, refl, ([], ReadOf address, refl, tt, ap (λ answer. read_refusal answer address) e))
       | bytes.Outside ↦ λ e. inr (Signal sigsegv, refl, ([], ReadOf address, refl, tt, ap (λ answer. read_refusal answer address) e))
     ]) refl
-ends memory (Tests address next) own =
+ends memory (Tests address next) =
     (elim (memory.may_write address) as (λ answer. memory.may_write address ≡ answer → Ends memory (TestOf address ∷ rest_of_test answer (accesses memory next)) (after_test answer address (run memory next))) [
-      | tests.May ↦ λ e. after_one memory (TestOf address) (accesses memory next) (run memory next) (ap (λ answer. test_refusal answer address) e) (ends memory next own)
+      | tests.May ↦ λ e. after_one memory (TestOf address) (accesses memory next) (run memory next) (ap (λ answer. test_refusal answer address) e) (ends memory next)
       | tests.Miss ↦ λ e. inr (Miss address true, refl, ([], TestOf address, refl, tt, ap (λ answer. test_refusal answer address) e))
       | tests.Below ↦ λ e. inr (Below address, refl, ([], TestOf address, refl, tt, ap (λ answer. test_refusal answer address) e))
       | tests.Text ↦ λ e. inr (Signal sigbus, refl, ([], TestOf address, refl, tt, ap (λ answer. test_refusal answer address) e))
@@ -56,55 +50,25 @@ gives_of memory list result x (inl all) h = all.0
 gives_of memory list result x (inr last) h = let e = last.1 in absurd (cc)
 
 misses_of : {A : Type 0} (memory : Answers) (list : List Access) (result : Result A Refused) (address : ℕ) (write : Bool) → Ends memory list result → result ≡ Err (Miss address write) → EndsRefused memory list (Miss address write)
-misses_of {A = A} memory list result address write (inl all) h = absurd (subst (λ (r : Result A Refused). OfItself r) h all.1)
+misses_of {A = A} memory list result address write (inl all) h = absurd (subst (λ (r : Result A Refused). NotByAccess r) h all.1)
 misses_of memory list result address write (inr last) h =
     let e = last.1 in
     let same : last.0 ≡ Miss address write = cc in
     subst (λ (refused : Refused). EndsRefused memory list refused) same last.2
 
 falls_of : {A : Type 0} (memory : Answers) (list : List Access) (result : Result A Refused) (address : ℕ) → Ends memory list result → result ≡ Err (Below address) → EndsRefused memory list (Below address)
-falls_of {A = A} memory list result address (inl all) h = absurd (subst (λ (r : Result A Refused). OfItself r) h all.1)
+falls_of {A = A} memory list result address (inl all) h = absurd (subst (λ (r : Result A Refused). NotByAccess r) h all.1)
 falls_of memory list result address (inr last) h =
     let e = last.1 in
     let same : last.0 ≡ Below address = cc in
     subst (λ (refused : Refused). EndsRefused memory list refused) same last.2
 
--- a refused access gives no signal but these
-signal_of_access : (memory : Answers) (access : Access) (number : ℕ) → refusal memory access ≡ Some (Signal number) → (number ≡ sigbus) ⊎ (number ≡ sigsegv)
-signal_of_access memory (ReadOf address) number h = of_read (memory.read address) h
-  where
-    of_read : (answer : ByteRead) → read_refusal answer address ≡ Some (Signal number) → (number ≡ sigbus) ⊎ (number ≡ sigsegv)
-    of_read (bytes.Is byte) e = absurd cc
-    of_read bytes.Miss e = absurd cc
-    of_read bytes.Below e = absurd cc
-    of_read bytes.Outside e = inr cc
-signal_of_access memory (TestOf address) number h = of_test (memory.may_write address) h
-  where
-    of_test : (answer : MayWrite) → test_refusal answer address ≡ Some (Signal number) → (number ≡ sigbus) ⊎ (number ≡ sigsegv)
-    of_test tests.May e = absurd cc
-    of_test tests.Miss e = absurd cc
-    of_test tests.Below e = absurd cc
-    of_test tests.Text e = inl cc
-    of_test tests.Outside e = inr cc
-
-signals_of : {A : Type 0} (memory : Answers) (list : List Access) (result : Result A Refused) (number : ℕ) → Ends memory list result → result ≡ Err (Signal number) → SignalFrom memory list number
-signals_of {A = A} memory list result number (inl all) h = inr (subst (λ (r : Result A Refused). OfItself r) h all.1, all.0)
-signals_of memory list result number (inr last) h =
-    let e = last.1 in
-    let same : last.0 ≡ Signal number = cc in
-    let ended : EndsRefused memory list (Signal number) = subst (λ (refused : Refused). EndsRefused memory list refused) same last.2 in
-    inl (signal_of_access memory ended.1 number ended.4, ended)
-
-pub keeps_order : {A : Type 0} (memory : Answers) (p : Program A) → HasOwnSignals p → KeepsOrder memory p
-keeps_order memory p own = record {
-  gives = λ x h. gives_of memory (accesses memory p) (run memory p) x (ends memory p own) h;
-  misses = λ address write h. misses_of memory (accesses memory p) (run memory p) address write (ends memory p own) h;
-  falls = λ address h. falls_of memory (accesses memory p) (run memory p) address (ends memory p own) h;
-  signals = λ number h. signals_of memory (accesses memory p) (run memory p) number (ends memory p own) h;
+pub keeps_order : {A : Type 0} (memory : Answers) (p : Program A) → KeepsOrder memory p
+keeps_order memory p = record {
+  gives = λ x h. gives_of memory (accesses memory p) (run memory p) x (ends memory p) h;
+  misses = λ address write h. misses_of memory (accesses memory p) (run memory p) address write (ends memory p) h;
+  falls = λ address h. falls_of memory (accesses memory p) (run memory p) address (ends memory p) h;
 }
-
-pub instruction_keeps_order : (memory : Answers) (regs : Regs) → KeepsOrder memory (instruction regs)
-instruction_keeps_order memory regs = keeps_order memory (instruction regs) (instruction_signals regs)
 
 -- one access over two memories, and what follows it
 one_same : {A : Type 0} (access : Access) (some_list other_list : List Access) (some other : Result A Refused)

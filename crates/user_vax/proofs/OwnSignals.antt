@@ -25,8 +25,8 @@ use Rattle.user_vax.specs.declared.operand.Place.TheVariants as places
 use Rattle.user_vax.specs.Signals.{sigill, sigfpe}
 use Rattle.user_vax.specs.Program.{Program, Gives, Refuses, Reads, Tests, ◌>>=◌}
 use Rattle.user_vax.specs.Operands.{register, with_register, past, number_at, address_of, evaluation_at, evaluation_through, evaluation}
-use Rattle.user_vax.specs.Effects.{Effect, registers_only, result_effect, division, pop, pop_into, subroutine_return}
-use Rattle.user_vax.specs.Frames.{bit, procedure_call, restored, linkage, arguments_dropped, unwound, procedure_return, with_state_codes, procedure_entry, with_frame}
+use Rattle.user_vax.specs.Effects.{Effect, result_effect, division, pop, pop_into, subroutine_return}
+use Rattle.user_vax.specs.Frames.{bit, procedure_call, restored, linkage, arguments_dropped, unwound, registers_returned, procedure_return, with_state_codes, procedure_entry, with_frame}
 use Rattle.user_vax.specs.Computation.{computation}
 use Rattle.user_vax.specs.Instruction.{on_decoded, fetch, evaluations, write_tests, tested_effect, execution, execution_by, instruction}
 
@@ -140,13 +140,17 @@ unwinding state regs =
     bind (linkage regs) _ (linked regs) (λ after.
     bind (restored 12 (state / 2 ^ 16) after) _ (restore 12 _ after) (λ saved. dropped (bit state 29) _))
 
-returning : (regs : Regs) → HasOwnSignals (procedure_return regs)
-unfolding procedure_return
-returning regs = bind (pop (with_register regs 14 (past (register regs 13) 4))) _ (popped _) (λ state. after state.1 state.0 (state.1 / 2 ^ 4 % 2 ^ 12 == 0))
+registers : (regs : Regs) → HasOwnSignals (registers_returned regs)
+unfolding registers_returned
+registers regs = bind (pop (with_register regs 14 (past (register regs 13) 4))) _ (popped _) (λ state. after state.1 state.0 (state.1 / 2 ^ 4 % 2 ^ 12 == 0))
   where
-    after : (state : ℕ) (regs : Regs) (b : Bool) → HasOwnSignals (if b then (unwound state regs >>= λ left. Gives (registers_only (with_state_codes left state))) else Refuses sigill)
+    after : (state : ℕ) (regs : Regs) (b : Bool) → HasOwnSignals (if b then (unwound state regs >>= λ left. Gives (with_state_codes left state)) else Refuses sigill)
     after state regs true = bind (unwound state regs) _ (unwinding state regs) (λ left. tt)
     after state regs false = inl refl
+
+returning : (regs : Regs) → HasOwnSignals (procedure_return regs)
+unfolding procedure_return
+returning regs = bind (registers_returned regs) _ (registers regs) (λ after. tt)
 
 calling : (before : Effect) (counted : Bool) (ap target : ℕ) → HasOwnSignals (procedure_call before counted ap target)
 unfolding procedure_call

@@ -17,3 +17,10 @@ all_bytes_more writes count write within =
 pub sizes_more : (writes : List Write) (count : ℕ) (write : Write) → count < length writes → All (λ w. IsSize w.size) (take count writes) → IsSize write.size → All (λ w. IsSize w.size) (take (count + 1) (set writes count write))
 sizes_more writes count write within sizes size =
     subst (λ (ws : List Write). All (λ w. IsSize w.size) ws) (sym (take_more_set writes count write within)) (All-append (λ w. IsSize w.size) (take count writes) (write ∷ []) sizes (All-from_recursion (λ w. IsSize w.size) (write ∷ []) (size, tt)))
+
+-- the first number
+pub first_bytes : (writes : List Write) (write : Write) → 0 < length writes → all_bytes (take 1 (set writes 0 write)) ≡ bytes_of write
+first_bytes writes write within = all_bytes_more writes 0 write within
+
+pub first_sizes : (writes : List Write) (write : Write) → 0 < length writes → IsSize write.size → All (λ w. IsSize w.size) (take 1 (set writes 0 write))
+first_sizes writes write within size = sizes_more writes 0 write within (All-from_recursion (λ w. IsSize w.size) [] tt) size

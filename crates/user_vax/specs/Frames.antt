@@ -92,10 +92,14 @@ unwound state regs = do
 abbrev pub with_state_codes : Regs → ℕ → Regs
 with_state_codes regs state = record regs { n = bit state 3; z = bit state 2; v = bit state 1; c = bit state 0 }
 
--- the return from a procedure; bits 15 to 4 of the state are reserved, and are judged before more is popped
-unfoldable pub procedure_return : Regs → Program Effect
-procedure_return regs = do
+-- the registers after the return; bits 15 to 4 of the state are reserved, and are judged before more is popped
+unfoldable pub registers_returned : Regs → Program Regs
+registers_returned regs = do
   state ← pop (with_register regs 14 (past (register regs 13) 4))
   if state.1 / 2 ^ 4 % 2 ^ 12 == 0
-      then (unwound state.1 state.0 >>= λ after. Gives (registers_only (with_state_codes after state.1)))
+      then (unwound state.1 state.0 >>= λ after. Gives (with_state_codes after state.1))
       else Refuses sigill
+
+-- the return from a procedure
+unfoldable pub procedure_return : Regs → Program Effect
+procedure_return regs = registers_returned regs >>= λ after. Gives (registers_only after)

@@ -43,13 +43,12 @@ SignalFrom memory list number =
     (((number ≡ sigbus) ⊎ (number ≡ sigsegv)) × EndsRefused memory list (Signal number))
     ⊎ (((number ≡ sigill) ⊎ (number ≡ sigfpe)) × AllGranted memory list)
 
--- a computation that gives something was granted each access; a miss, a fall below the stack, and a signal that an
--- access is answered by, name the one access that was refused, after which there is none
+-- a computation that gives something was granted each access; a miss and a fall below the stack name the
+-- one access that was refused, after which there is none
 pub record KeepsOrder {A : Type 0} (memory : Answers) (p : Program A) : Type 0 where
   pub gives : (x : A) → run memory p ≡ Ok x → AllGranted memory (accesses memory p)
   pub misses : (address : ℕ) (write : Bool) → run memory p ≡ Err (Miss address write) → EndsRefused memory (accesses memory p) (Miss address write)
   pub falls : (address : ℕ) → run memory p ≡ Err (Below address) → EndsRefused memory (accesses memory p) (Below address)
-  pub signals : (number : ℕ) → run memory p ≡ Err (Signal number) → SignalFrom memory (accesses memory p) number
 
 -- some answers as other does, where it doesn't miss
 pub record Covers (some other : Answers) : Type 0 where

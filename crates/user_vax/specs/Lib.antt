@@ -7,5 +7,6 @@ pub mod Bytes
 pub mod Frames
 pub mod Computation
 pub mod Instruction
+pub mod Fetching
 pub mod Outcomes
 pub mod ArrayMemory

@@ -1,4 +1,4 @@
-ghost use Rattle.std.specs.Prelude.{◌≡◌, ◌<◌, ◌≤◌, ◌+◌, ◌++◌, ◌∷◌, ◌*◌, ◌^◌, ℕ, List, IfOk, if◌then◌else◌};
+ghost use Rattle.std.specs.Prelude.{◌≡◌, ◌<◌, ◌≤◌, ◌+◌, ◌++◌, ◌∷◌, ◌*◌, ◌^◌, ℕ, List, OnOk, if◌then◌else◌};
 ghost use Rattle.user_vax.specs.Program.{run};
 ghost use Rattle.user_vax.specs.Frames.{push_all, saved, state_longword, with_frame, procedure_entry, procedure_call};
 ghost use Rattle.user_vax.specs.Outcomes.{IsOutcome, ComesTo, effect_of};
@@ -6,7 +6,7 @@ ghost use Rattle.user_vax.specs.Outcomes.{IsOutcome, ComesTo, effect_of};
 use crate::outcome::Outcome;
 use crate::reading::read_word;
 use crate::refused::{Refused, SIGILL};
-use vm_facts::{Memory, Regs};
+use vm_facts::Memory;
 
 /// Pushes a longword where the test holds.
 #[tactic(auto, unfolding(crate::specs::Frames::push_all))]
@@ -67,46 +67,40 @@ fn push_frame(outcome: &mut Outcome, counted: bool, mask: u32)
 }
 
 /// The procedure entered, once its frame is pushed.
-fn enter_procedure(pushed: Outcome, ap: u32, target: u32) -> Outcome
-    requires { IsOutcome pushed }
-    ensures effect { effect_of result ≡ procedure_entry (effect_of pushed) ap target }
-    ensures sound { IsOutcome result }
+fn enter_procedure(pushed: &mut Outcome, ap: u32, target: u32)
+    requires { IsOutcome pushed.old }
+    ensures effect { effect_of pushed.new ≡ procedure_entry (effect_of pushed.old) ap target }
+    ensures sound { IsOutcome pushed.new }
 {
-    let mut r = pushed.regs.r;
-    r[12] = ap;
-    r[13] = r[14];
-    r[15] = target.wrapping_add(2);
-    Outcome {
-        regs: Regs {
-            r,
-            n: false,
-            z: false,
-            v: false,
-            c: false,
-        },
-        ..pushed
-    }
+    let regs = &mut pushed.regs;
+    regs.r[12] = ap;
+    regs.r[13] = regs.r[14];
+    regs.r[15] = target.wrapping_add(2);
+    regs.n = false;
+    regs.z = false;
+    regs.v = false;
+    regs.c = false;
 }
 
 /// The call of the procedure at a target, after what the instruction pushes before the frame.
 #[tactic(auto, using(crate::proofs::Runs::run_bind), unfolding(crate::specs::Frames::procedure_call))]
 pub fn call_procedure<M: Memory>(
     memory: &M,
-    before: Outcome,
+    outcome: &mut Outcome,
     counted: bool,
     ap: u32,
     target: u32,
-) -> Result<Outcome, Refused>
-    requires room { before.count ≤ 1 }
-    requires sound { IsOutcome before }
-    ensures value { ComesTo result (run (M.answers memory.now) (procedure_call (effect_of before) counted ap target)) }
-    ensures sound { IfOk result IsOutcome }
+) -> Result<(), Refused>
+    requires room { outcome.old.count ≤ 1 }
+    requires sound { IsOutcome outcome.old }
+    ensures value { ComesTo result outcome.new (run (M.answers memory.now) (procedure_call (effect_of outcome.old) counted ap target)) }
+    ensures sound { OnOk result (IsOutcome outcome.new) }
 {
     let mask = read_word(memory, target)?;
     if mask >= 0x1000 {
         return Err(Refused::Signal(SIGILL));
     }
-    let mut pushed = before;
-    push_frame(&mut pushed, counted, mask);
-    Ok(enter_procedure(pushed, ap, target))
+    push_frame(outcome, counted, mask);
+    enter_procedure(outcome, ap, target);
+    Ok(())
 }

@@ -1,130 +1,131 @@
-ghost use Rattle.std.specs.Prelude.{◌≡◌, ◌^◌, ◌%◌, ◌-◌, ℕ, [], Some, IfOk};
+ghost use Rattle.std.specs.Prelude.{◌≡◌, ◌^◌, ◌%◌, ◌-◌, ℕ, [], Some, OnOk};
 ghost use Rattle.std.specs.Int.{w16, cast_signed};
 ghost use Rattle.vm_facts.specs.Answers.{Answers};
 ghost use Rattle.user_vax.specs.Program.{run};
 ghost use Rattle.user_vax.specs.Computation.{computation};
 ghost use Rattle.user_vax.specs.Effects.{division, complement};
 ghost use Rattle.user_vax.specs.Operands.{IsPlace};
-ghost use Rattle.user_vax.specs.Outcomes.{IsOutcome, effect_of, ComesTo};
+ghost use Rattle.user_vax.specs.Outcomes.{IsFresh, IsOutcome, effect_of, ComesTo};
 
 use crate::byte::{decrement_byte, increment_byte, low_byte, narrow, widen};
 use crate::calling::call_procedure;
-use crate::effect::{count, enter, jump_if, move_to, push, store_result, test_to};
+use crate::effect::{count, enter, jump_if, move_to, push, push_moved, store_result, test_to};
 use crate::operand::{Evaluated, Place};
-use crate::outcome::{Outcome, registers_only};
+use crate::outcome::Outcome;
 use crate::refused::{Refused, SIGFPE};
-use crate::registers::{with_codes, with_move_codes, with_register, with_test_codes};
+use crate::registers::{set_codes, set_move_codes, set_test_codes};
 use crate::returning::return_from_procedure;
 use crate::stack::return_from_subroutine;
 use vax_alu::{add, compare, div, mul, neg, shift, sub};
 use vax_code::Name;
-use vm_facts::{Memory, Regs};
+use vm_facts::Memory;
 
-/// What an instruction computes from its operands.
+/// What an instruction computes from its operands, whose registers the outcome has.
 #[tactic(auto, unfolding(crate::specs::Computation::computation))]
 pub fn compute<M: Memory>(
     memory: &M,
     name: Name,
-    regs: Regs,
+    outcome: &mut Outcome,
     a: Evaluated,
     b: Evaluated,
     c: Evaluated,
-) -> Result<Outcome, Refused>
+) -> Result<(), Refused>
+    requires fresh { IsFresh outcome.old }
     requires a { IsPlace a.place }
     requires b { IsPlace b.place }
     requires c { IsPlace c.place }
-    ensures value { ComesTo result (run (M.answers memory.now) (computation name regs a b c)) }
-    ensures sound { IfOk result IsOutcome }
+    ensures value { ComesTo result outcome.new (run (M.answers memory.now) (computation name outcome.old.regs a b c)) }
+    ensures sound { OnOk result (IsOutcome outcome.new) }
 {
-    let outcome = match name {
-        Name::Nop => registers_only(regs),
-        Name::Ret => return return_from_procedure(memory, regs),
-        Name::Rsb => return return_from_subroutine(memory, regs),
-        Name::Bsbb | Name::Bsbw | Name::Jsb => enter(regs, a.value),
-        Name::Brb | Name::Brw | Name::Jmp => registers_only(with_register(regs, 15, a.value)),
-        Name::Bneq => jump_if(!regs.z, regs, a.value),
-        Name::Beql => jump_if(regs.z, regs, a.value),
-        Name::Bgtr => jump_if(!(regs.n || regs.z), regs, a.value),
-        Name::Bleq => jump_if(regs.n || regs.z, regs, a.value),
-        Name::Bgeq => jump_if(!regs.n, regs, a.value),
-        Name::Blss => jump_if(regs.n, regs, a.value),
-        Name::Bgtru => jump_if(!(regs.c || regs.z), regs, a.value),
-        Name::Blequ => jump_if(regs.c || regs.z, regs, a.value),
-        Name::Bvc => jump_if(!regs.v, regs, a.value),
-        Name::Bvs => jump_if(regs.v, regs, a.value),
-        Name::Bcc => jump_if(!regs.c, regs, a.value),
-        Name::Bcs => jump_if(regs.c, regs, a.value),
-        Name::Movb => move_to(regs, 1, b.place, a.value),
-        Name::Movw => move_to(regs, 2, b.place, a.value),
-        Name::Movl | Name::Movzbl | Name::Movab | Name::Moval => move_to(regs, 4, b.place, a.value),
-        Name::Cmpb => registers_only(with_codes(regs, compare(a.value, b.value, 1))),
-        Name::Cmpw => registers_only(with_codes(regs, compare(a.value, b.value, 2))),
-        Name::Cmpl => registers_only(with_codes(regs, compare(a.value, b.value, 4))),
-        Name::Clrb => move_to(regs, 1, a.place, 0),
-        Name::Clrl => move_to(regs, 4, a.place, 0),
-        Name::Tstb => registers_only(with_test_codes(regs, 1, a.value)),
-        Name::Tstl => registers_only(with_test_codes(regs, 4, a.value)),
-        Name::Pushab | Name::Pushal | Name::Pushl => push(
-            with_move_codes(regs, 4, a.value),
-            a.value,
+    match name {
+        Name::Nop => {},
+        Name::Ret => return return_from_procedure(memory, outcome),
+        Name::Rsb => return return_from_subroutine(memory, outcome),
+        Name::Bsbb | Name::Bsbw | Name::Jsb => enter(outcome, a.value),
+        Name::Brb | Name::Brw | Name::Jmp => outcome.regs.r[15] = a.value,
+        Name::Bneq => jump_if(outcome, !outcome.regs.z, a.value),
+        Name::Beql => jump_if(outcome, outcome.regs.z, a.value),
+        Name::Bgtr => jump_if(outcome, !(outcome.regs.n || outcome.regs.z), a.value),
+        Name::Bleq => jump_if(outcome, outcome.regs.n || outcome.regs.z, a.value),
+        Name::Bgeq => jump_if(outcome, !outcome.regs.n, a.value),
+        Name::Blss => jump_if(outcome, outcome.regs.n, a.value),
+        Name::Bgtru => jump_if(outcome, !(outcome.regs.c || outcome.regs.z), a.value),
+        Name::Blequ => jump_if(outcome, outcome.regs.c || outcome.regs.z, a.value),
+        Name::Bvc => jump_if(outcome, !outcome.regs.v, a.value),
+        Name::Bvs => jump_if(outcome, outcome.regs.v, a.value),
+        Name::Bcc => jump_if(outcome, !outcome.regs.c, a.value),
+        Name::Bcs => jump_if(outcome, outcome.regs.c, a.value),
+        Name::Movb => move_to(outcome, 1, b.place, a.value),
+        Name::Movw => move_to(outcome, 2, b.place, a.value),
+        Name::Movl | Name::Movzbl | Name::Movab | Name::Moval => move_to(
+            outcome, 4, b.place, a.value,
         ),
-        Name::Chmk => call(regs, a.value),
-        Name::Addl2 => store_result(regs, 4, b.place, add(b.value, a.value)),
-        Name::Addl3 => store_result(regs, 4, c.place, add(b.value, a.value)),
-        Name::Subl2 => store_result(regs, 4, b.place, sub(b.value, a.value)),
-        Name::Subl3 => store_result(regs, 4, c.place, sub(b.value, a.value)),
-        Name::Mull2 => store_result(regs, 4, b.place, mul(b.value, a.value)),
-        Name::Mull3 => store_result(regs, 4, c.place, mul(b.value, a.value)),
-        Name::Divl2 => return divide(regs, b.place, b.value, a.value),
-        Name::Divl3 => return divide(regs, c.place, b.value, a.value),
+        Name::Cmpb => set_codes(&mut outcome.regs, compare(a.value, b.value, 1)),
+        Name::Cmpw => set_codes(&mut outcome.regs, compare(a.value, b.value, 2)),
+        Name::Cmpl => set_codes(&mut outcome.regs, compare(a.value, b.value, 4)),
+        Name::Clrb => move_to(outcome, 1, a.place, 0),
+        Name::Clrl => move_to(outcome, 4, a.place, 0),
+        Name::Tstb => set_test_codes(&mut outcome.regs, 1, a.value),
+        Name::Tstl => set_test_codes(&mut outcome.regs, 4, a.value),
+        Name::Pushab | Name::Pushal | Name::Pushl => push_moved(outcome, a.value),
+        Name::Chmk => call(outcome, a.value),
+        Name::Addl2 => store_result(outcome, 4, b.place, add(b.value, a.value)),
+        Name::Addl3 => store_result(outcome, 4, c.place, add(b.value, a.value)),
+        Name::Subl2 => store_result(outcome, 4, b.place, sub(b.value, a.value)),
+        Name::Subl3 => store_result(outcome, 4, c.place, sub(b.value, a.value)),
+        Name::Mull2 => store_result(outcome, 4, b.place, mul(b.value, a.value)),
+        Name::Mull3 => store_result(outcome, 4, c.place, mul(b.value, a.value)),
+        Name::Divl2 => return divide(outcome, b.place, b.value, a.value),
+        Name::Divl3 => return divide(outcome, c.place, b.value, a.value),
         Name::Ashl => store_result(
-            regs,
+            outcome,
             4,
             c.place,
             shift(b.value, low_byte(a.value).cast_signed()),
         ),
-        Name::Mnegl => store_result(regs, 4, b.place, neg(a.value)),
-        Name::Cvtbl => test_to(regs, b.place, widen(a.value)),
-        Name::Cvtlb => store_result(regs, 1, b.place, narrow(a.value)),
-        Name::Bisl2 => move_to(regs, 4, b.place, b.value | a.value),
-        Name::Bisl3 => move_to(regs, 4, c.place, b.value | a.value),
-        Name::Bicl2 => move_to(regs, 4, b.place, b.value & complement(a.value)),
-        Name::Bicl3 => move_to(regs, 4, c.place, b.value & complement(a.value)),
-        Name::Xorl2 => move_to(regs, 4, b.place, b.value ^ a.value),
-        Name::Xorl3 => move_to(regs, 4, c.place, b.value ^ a.value),
-        Name::Mcoml => move_to(regs, 4, b.place, complement(a.value)),
-        Name::Bitl => registers_only(with_move_codes(regs, 4, a.value & b.value)),
-        Name::Incb => store_result(regs, 1, a.place, increment_byte(a.value)),
-        Name::Incl => store_result(regs, 4, a.place, add(a.value, 1)),
-        Name::Decb => store_result(regs, 1, a.place, decrement_byte(a.value)),
-        Name::Decl => store_result(regs, 4, a.place, sub(a.value, 1)),
-        Name::Callg => return call_procedure(memory, registers_only(regs), false, a.value, b.value),
+        Name::Mnegl => store_result(outcome, 4, b.place, neg(a.value)),
+        Name::Cvtbl => test_to(outcome, b.place, widen(a.value)),
+        Name::Cvtlb => store_result(outcome, 1, b.place, narrow(a.value)),
+        Name::Bisl2 => move_to(outcome, 4, b.place, b.value | a.value),
+        Name::Bisl3 => move_to(outcome, 4, c.place, b.value | a.value),
+        Name::Bicl2 => move_to(outcome, 4, b.place, b.value & complement(a.value)),
+        Name::Bicl3 => move_to(outcome, 4, c.place, b.value & complement(a.value)),
+        Name::Xorl2 => move_to(outcome, 4, b.place, b.value ^ a.value),
+        Name::Xorl3 => move_to(outcome, 4, c.place, b.value ^ a.value),
+        Name::Mcoml => move_to(outcome, 4, b.place, complement(a.value)),
+        Name::Bitl => set_move_codes(&mut outcome.regs, 4, a.value & b.value),
+        Name::Incb => store_result(outcome, 1, a.place, increment_byte(a.value)),
+        Name::Incl => store_result(outcome, 4, a.place, add(a.value, 1)),
+        Name::Decb => store_result(outcome, 1, a.place, decrement_byte(a.value)),
+        Name::Decl => store_result(outcome, 4, a.place, sub(a.value, 1)),
+        Name::Callg => return call_procedure(memory, outcome, false, a.value, b.value),
         Name::Calls => {
-            let before = push(regs, a.value);
-            return call_procedure(memory, before, true, before.regs.r[14], b.value);
+            push(outcome, a.value);
+            let ap = outcome.regs.r[14];
+            return call_procedure(memory, outcome, true, ap, b.value);
         }
-        Name::Blbs => jump_if(a.value % 2 == 1, regs, b.value),
-        Name::Blbc => jump_if(a.value % 2 == 0, regs, b.value),
+        Name::Blbs => jump_if(outcome, a.value % 2 == 1, b.value),
+        Name::Blbc => jump_if(outcome, a.value % 2 == 0, b.value),
         Name::Aoblss => {
             let sum = add(b.value, 1);
             let test = sum.value.cast_signed() < a.value.cast_signed();
-            count(regs, b.place, sum, test, c.value)
+            count(outcome, b.place, sum, test, c.value)
         }
         Name::Aobleq => {
             let sum = add(b.value, 1);
             let test = sum.value.cast_signed() <= a.value.cast_signed();
-            count(regs, b.place, sum, test, c.value)
+            count(outcome, b.place, sum, test, c.value)
         }
         Name::Sobgeq => {
             let sum = sub(a.value, 1);
-            count(regs, a.place, sum, !sum.n, b.value)
+            count(outcome, a.place, sum, !sum.n, b.value)
         }
         Name::Sobgtr => {
             let sum = sub(a.value, 1);
-            count(regs, a.place, sum, !(sum.n || sum.z), b.value)
+            count(outcome, a.place, sum, !(sum.n || sum.z), b.value)
         }
-    };
-    Ok(outcome)
+    }
+    Ok(())
 }
 
 /// Each bit turned.
@@ -136,24 +137,26 @@ fn complement(word: u32) -> u32
 
 /// A quotient to a place.
 #[tactic(auto, unfolding(crate::specs::Effects::division))]
-fn divide(regs: Regs, place: Place, dividend: u32, divisor: u32) -> Result<Outcome, Refused>
-    requires { IsPlace place }
-    ensures value { (memory : Answers) → ComesTo result (run memory (division regs place dividend divisor)) }
-    ensures sound { IfOk result IsOutcome }
+fn divide(outcome: &mut Outcome, place: Place, dividend: u32, divisor: u32) -> Result<(), Refused>
+    requires fresh { IsFresh outcome.old }
+    requires place { IsPlace place }
+    ensures value { (memory : Answers) → ComesTo result outcome.new (run memory (division outcome.old.regs place dividend divisor)) }
+    ensures sound { OnOk result (IsOutcome outcome.new) }
 {
     match div(dividend, divisor) {
         None => Err(Refused::Signal(SIGFPE)),
-        Some(sum) => Ok(store_result(regs, 4, place, sum)),
+        Some(sum) => {
+            store_result(outcome, 4, place, sum);
+            Ok(())
+        }
     }
 }
 
 /// A system call, whose number is a signed word.
-fn call(regs: Regs, value: u32) -> Outcome
-    ensures effect { effect_of result ≡ record { regs = regs; writes = []; call = Some (cast_signed w16 (value % 2 ^ 16)) } }
-    ensures sound { IsOutcome result }
+fn call(outcome: &mut Outcome, value: u32)
+    requires { IsFresh outcome.old }
+    ensures effect { effect_of outcome.new ≡ record { regs = outcome.old.regs; writes = []; call = Some (cast_signed w16 (value % 2 ^ 16)) } }
+    ensures sound { IsOutcome outcome.new }
 {
-    Outcome {
-        call: Some(i32::from(((value % 0x1_0000) as u16).cast_signed())),
-        ..registers_only(regs)
-    }
+    outcome.call = Some(i32::from(((value % 0x1_0000) as u16).cast_signed()));
 }

@@ -1,116 +1,130 @@
 ghost use Rattle.std.specs.Prelude.{◌≡◌};
-ghost use Rattle.user_vax.specs.Effects.{with_test_codes, store_effect, move_effect, result_effect, jump_effect, count_effect, entry_effect, push_effect};
+ghost use Rattle.user_vax.specs.Effects.{with_move_codes, with_test_codes, store_effect, move_effect, result_effect, jump_effect, count_effect, entry_effect, push_effect};
 ghost use Rattle.user_vax.specs.Operands.{IsPlace};
-ghost use Rattle.user_vax.specs.Outcomes.{IsSize, IsOutcome, effect_of};
+ghost use Rattle.user_vax.specs.Outcomes.{IsFresh, IsSize, IsOutcome, effect_of};
 
 use crate::operand::Place;
-use crate::outcome::{Outcome, Write, one_write, registers_only};
-use crate::registers::{with_codes, with_move_codes, with_register, with_test_codes};
+use crate::outcome::{Outcome, Write};
+use crate::registers::{set_codes, set_move_codes, set_register, set_test_codes};
 use vax_alu::Sum;
-use vm_facts::Regs;
 
 /// The low bytes of a word to a place.
 #[tactic(auto, unfolding(crate::specs::Effects::store_effect))]
-pub fn store(regs: Regs, size: u8, place: Place, value: u32) -> Outcome
+pub fn store(outcome: &mut Outcome, size: u8, place: Place, value: u32)
+    requires fresh { IsFresh outcome.old }
     requires place { IsPlace place }
     requires size { IsSize size }
-    ensures effect { effect_of result ≡ store_effect regs size place value }
-    ensures sound { IsOutcome result }
+    ensures effect { effect_of outcome.new ≡ store_effect outcome.old.regs size place value }
+    ensures sound { IsOutcome outcome.new }
 {
     match place {
-        Place::Nowhere => registers_only(regs),
+        Place::Nowhere => {}
         Place::Register(reg) => {
-            let old = regs.r[reg as usize];
+            let old = outcome.regs.r[reg as usize];
             let new = match size {
                 1 => old / 0x100 * 0x100 + value % 0x100,
                 2 => old / 0x1_0000 * 0x1_0000 + value % 0x1_0000,
                 _ => value,
             };
-            registers_only(with_register(regs, reg, new))
+            set_register(&mut outcome.regs, reg, new);
         }
-        Place::Memory(address) => one_write(
-            regs,
-            Write {
-                address,
-                value,
-                size,
-            },
-        ),
+        Place::Memory(address) => outcome.write(Write {
+            address,
+            value,
+            size,
+        }),
     }
 }
 
 /// A moved number to a place.
-pub fn move_to(regs: Regs, size: u8, place: Place, value: u32) -> Outcome
+pub fn move_to(outcome: &mut Outcome, size: u8, place: Place, value: u32)
+    requires fresh { IsFresh outcome.old }
     requires place { IsPlace place }
     requires size { IsSize size }
-    ensures effect { effect_of result ≡ move_effect regs size place value }
-    ensures sound { IsOutcome result }
+    ensures effect { effect_of outcome.new ≡ move_effect outcome.old.regs size place value }
+    ensures sound { IsOutcome outcome.new }
 {
-    store(with_move_codes(regs, size, value), size, place, value)
+    set_move_codes(&mut outcome.regs, size, value);
+    store(outcome, size, place, value);
 }
 
 /// A number with the codes of a test to a place.
-pub fn test_to(regs: Regs, place: Place, value: u32) -> Outcome
-    requires { IsPlace place }
-    ensures effect { effect_of result ≡ store_effect (with_test_codes regs 4 value) 4 place value }
-    ensures sound { IsOutcome result }
+pub fn test_to(outcome: &mut Outcome, place: Place, value: u32)
+    requires fresh { IsFresh outcome.old }
+    requires place { IsPlace place }
+    ensures effect { effect_of outcome.new ≡ store_effect (with_test_codes outcome.old.regs 4 value) 4 place value }
+    ensures sound { IsOutcome outcome.new }
 {
-    store(with_test_codes(regs, 4, value), 4, place, value)
+    set_test_codes(&mut outcome.regs, 4, value);
+    store(outcome, 4, place, value);
 }
 
 /// A result with its codes to a place.
-pub fn store_result(regs: Regs, size: u8, place: Place, sum: Sum) -> Outcome
+pub fn store_result(outcome: &mut Outcome, size: u8, place: Place, sum: Sum)
+    requires fresh { IsFresh outcome.old }
     requires place { IsPlace place }
     requires size { IsSize size }
-    ensures effect { effect_of result ≡ result_effect regs size place sum }
-    ensures sound { IsOutcome result }
+    ensures effect { effect_of outcome.new ≡ result_effect outcome.old.regs size place sum }
+    ensures sound { IsOutcome outcome.new }
 {
-    store(with_codes(regs, sum), size, place, sum.value)
+    set_codes(&mut outcome.regs, sum);
+    store(outcome, size, place, sum.value);
 }
 
 /// A jump where the test holds.
-pub fn jump_if(test: bool, regs: Regs, target: u32) -> Outcome
-    ensures effect { effect_of result ≡ jump_effect test regs target }
-    ensures sound { IsOutcome result }
+pub fn jump_if(outcome: &mut Outcome, test: bool, target: u32)
+    requires { IsFresh outcome.old }
+    ensures effect { effect_of outcome.new ≡ jump_effect test outcome.old.regs target }
+    ensures sound { IsOutcome outcome.new }
 {
-    registers_only(if test {
-        with_register(regs, 15, target)
-    } else {
-        regs
-    })
+    if test {
+        outcome.regs.r[15] = target;
+    }
 }
 
 /// The next index with its codes, but for C, to its place, and a jump where the test holds.
-pub fn count(regs: Regs, place: Place, sum: Sum, test: bool, target: u32) -> Outcome
-    requires { IsPlace place }
-    ensures effect { effect_of result ≡ count_effect regs place sum test target }
-    ensures sound { IsOutcome result }
+pub fn count(outcome: &mut Outcome, place: Place, sum: Sum, test: bool, target: u32)
+    requires fresh { IsFresh outcome.old }
+    requires place { IsPlace place }
+    ensures effect { effect_of outcome.new ≡ count_effect outcome.old.regs place sum test target }
+    ensures sound { IsOutcome outcome.new }
 {
-    let coded = Regs {
-        n: sum.n,
-        z: sum.z,
-        v: sum.v,
-        ..regs
-    };
-    let after = store(coded, 4, place, sum.value);
-    if test { after.jumping(target) } else { after }
+    outcome.regs.n = sum.n;
+    outcome.regs.z = sum.z;
+    outcome.regs.v = sum.v;
+    store(outcome, 4, place, sum.value);
+    if test {
+        outcome.jump(target);
+    }
 }
 
 /// The call of a subroutine.
-pub fn enter(regs: Regs, target: u32) -> Outcome
-    ensures effect { effect_of result ≡ entry_effect regs target }
-    ensures sound { IsOutcome result }
+pub fn enter(outcome: &mut Outcome, target: u32)
+    requires { IsFresh outcome.old }
+    ensures effect { effect_of outcome.new ≡ entry_effect outcome.old.regs target }
+    ensures sound { IsOutcome outcome.new }
 {
-    push(regs, regs.r[15]).jumping(target)
+    let pc = outcome.regs.r[15];
+    push(outcome, pc);
+    outcome.jump(target);
 }
 
 /// A longword to the stack.
-pub fn push(regs: Regs, value: u32) -> Outcome
-    ensures effect { effect_of result ≡ push_effect regs value }
-    ensures sound { IsOutcome result }
-    ensures one { result.count ≡ 1 }
+pub fn push(outcome: &mut Outcome, value: u32)
+    requires { IsFresh outcome.old }
+    ensures effect { effect_of outcome.new ≡ push_effect outcome.old.regs value }
+    ensures sound { IsOutcome outcome.new }
+    ensures one { outcome.new.count ≡ 1 }
 {
-    let mut outcome = registers_only(regs);
     outcome.push(value);
-    outcome
+}
+
+/// A longword to the stack, with the codes of its move.
+pub fn push_moved(outcome: &mut Outcome, value: u32)
+    requires { IsFresh outcome.old }
+    ensures effect { effect_of outcome.new ≡ push_effect (with_move_codes outcome.old.regs 4 value) value }
+    ensures sound { IsOutcome outcome.new }
+{
+    set_move_codes(&mut outcome.regs, 4, value);
+    push(outcome, value);
 }

@@ -1,11 +1,13 @@
 ghost use Rattle.std.specs.Prelude.{◌%◌, ◌≡◌, ◌<◌, ◌≤◌, ◌⊎◌, ℕ, IfOk, ◌^◌};
 ghost use Rattle.user_vax.specs.Program.{run};
 ghost use Rattle.user_vax.specs.Operands.{IsPlace, register, with_register, address_of, evaluation_at, evaluation_through, evaluation};
+ghost use Rattle.user_vax.specs.Outcomes.{LeavesWith};
+ghost use Rattle.vm_facts.specs.declared.regs.Regs.{Regs};
 ghost use Rattle.vax_code.specs.Valid.{IsBase, IsOperand};
 
 use crate::reading::{read_long, read_number};
 use crate::refused::Refused;
-use crate::registers::with_register;
+use crate::registers::set_register;
 use vax_code::{Access, Base, Operand, Slot};
 use vm_facts::{Memory, Regs};
 
@@ -24,71 +26,60 @@ pub struct Evaluated {
     pub place: Place,
 }
 
+/// The address that a base names; the registers become those after it.
 #[tactic(auto, using(crate::proofs::Runs::run_bind), unfolding(crate::specs::Operands::address_of))]
-fn address_of<M: Memory>(
-    memory: &M,
-    regs: Regs,
-    size: u8,
-    base: Base,
-) -> Result<(Regs, u32), Refused>
+fn address_of<M: Memory>(memory: &M, regs: &mut Regs, size: u8, base: Base) -> Result<u32, Refused>
     requires { IsBase base }
-    ensures { result ≡ run (M.answers memory.now) (address_of regs size base) }
+    ensures { LeavesWith result regs.new (run (M.answers memory.now) (address_of regs.old size base)) }
 {
     match base {
-        Base::Deferred(reg) => Ok((regs, regs.r[reg as usize])),
+        Base::Deferred(reg) => Ok(regs.r[reg as usize]),
         Base::AutoDec(reg) => {
             let address = regs.r[reg as usize].wrapping_sub(u32::from(size));
-            Ok((with_register(regs, reg, address), address))
+            set_register(regs, reg, address);
+            Ok(address)
         }
         Base::AutoInc(reg) => {
             let address = regs.r[reg as usize];
-            Ok((
-                with_register(regs, reg, address.wrapping_add(u32::from(size))),
-                address,
-            ))
+            set_register(regs, reg, address.wrapping_add(u32::from(size)));
+            Ok(address)
         }
         Base::AutoIncDef(reg) => {
             let pointer = regs.r[reg as usize];
             let address = read_long(memory, pointer)?;
-            Ok((with_register(regs, reg, pointer.wrapping_add(4)), address))
+            set_register(regs, reg, pointer.wrapping_add(4));
+            Ok(address)
         }
-        Base::Absolute(address) => Ok((regs, address)),
+        Base::Absolute(address) => Ok(address),
         Base::Disp { reg, by, deferred } => {
             let address = regs.r[reg as usize].wrapping_add_signed(by);
             if deferred {
-                Ok((regs, read_long(memory, address)?))
+                read_long(memory, address)
             } else {
-                Ok((regs, address))
+                Ok(address)
             }
         }
     }
 }
 
+/// The operand in memory at an address.
 #[tactic(auto, using(crate::proofs::Runs::run_bind), unfolding(crate::specs::Operands::evaluation_at))]
-fn evaluate_at<M: Memory>(
-    memory: &M,
-    slot: Slot,
-    regs: Regs,
-    address: u32,
-) -> Result<(Regs, Evaluated), Refused>
+fn evaluate_at<M: Memory>(memory: &M, slot: Slot, address: u32) -> Result<Evaluated, Refused>
     requires { (slot.size ≡ 1) ⊎ (slot.size ≡ 2) ⊎ (slot.size ≡ 4) }
-    ensures value { result ≡ run (M.answers memory.now) (evaluation_at slot regs address) }
-    ensures place { IfOk result (λ x. IsPlace x.1.place) }
+    ensures value { (regs : Regs) → LeavesWith result regs (run (M.answers memory.now) (evaluation_at slot regs address)) }
+    ensures place { IfOk result (λ x. IsPlace x.place) }
 {
     let place = Place::Memory(address);
     match slot.access {
         Access::Read | Access::Modify => {
             let value = read_number(memory, slot.size, address)?;
-            Ok((regs, Evaluated { value, place }))
+            Ok(Evaluated { value, place })
         }
-        Access::Write => Ok((regs, Evaluated { value: 0, place })),
-        Access::Address | Access::Branch => Ok((
-            regs,
-            Evaluated {
-                value: address,
-                place,
-            },
-        )),
+        Access::Write => Ok(Evaluated { value: 0, place }),
+        Access::Address | Access::Branch => Ok(Evaluated {
+            value: address,
+            place,
+        }),
     }
 }
 
@@ -96,72 +87,58 @@ fn evaluate_at<M: Memory>(
 fn evaluate_through<M: Memory>(
     memory: &M,
     slot: Slot,
-    regs: Regs,
+    regs: &mut Regs,
     base: Base,
-) -> Result<(Regs, Evaluated), Refused>
+) -> Result<Evaluated, Refused>
     requires base { IsBase base }
     requires size { (slot.size ≡ 1) ⊎ (slot.size ≡ 2) ⊎ (slot.size ≡ 4) }
-    ensures value { result ≡ run (M.answers memory.now) (evaluation_through slot regs base) }
-    ensures place { IfOk result (λ x. IsPlace x.1.place) }
+    ensures value { LeavesWith result regs.new (run (M.answers memory.now) (evaluation_through slot regs.old base)) }
+    ensures place { IfOk result (λ x. IsPlace x.place) }
 {
-    let (after, address) = address_of(memory, regs, slot.size, base)?;
-    evaluate_at(memory, slot, after, address)
+    let address = address_of(memory, regs, slot.size, base)?;
+    evaluate_at(memory, slot, address)
 }
 
-/// The operand evaluated, and the registers after it.
+/// The operand evaluated; the registers become those after it.
 #[tactic(auto, using(crate::proofs::Runs::run_bind), unfolding(crate::specs::Operands::evaluation))]
 pub fn evaluate<M: Memory>(
     memory: &M,
     slot: Slot,
-    regs: Regs,
+    regs: &mut Regs,
     operand: Operand,
-) -> Result<(Regs, Evaluated), Refused>
+) -> Result<Evaluated, Refused>
     requires operand { IsOperand operand }
     requires size { (slot.size ≡ 1) ⊎ (slot.size ≡ 2) ⊎ (slot.size ≡ 4) }
-    ensures value { result ≡ run (M.answers memory.now) (evaluation slot regs operand) }
-    ensures place { IfOk result (λ x. IsPlace x.1.place) }
+    ensures value { LeavesWith result regs.new (run (M.answers memory.now) (evaluation slot regs.old operand)) }
+    ensures place { IfOk result (λ x. IsPlace x.place) }
 {
     let base = match operand {
         Operand::Literal(value) => {
-            return Ok((
-                regs,
-                Evaluated {
-                    value: u32::from(value),
-                    place: Place::Nowhere,
-                },
-            ));
-        }
-        Operand::Immediate(value) => return Ok((
-            regs,
-            Evaluated {
-                value,
+            return Ok(Evaluated {
+                value: u32::from(value),
                 place: Place::Nowhere,
-            },
-        )),
+            });
+        }
+        Operand::Immediate(value) => return Ok(Evaluated {
+            value,
+            place: Place::Nowhere,
+        }),
         Operand::Register(reg) => {
-            let value = low_bytes(regs.r[reg as usize], slot.size);
-            return Ok((
-                regs,
-                Evaluated {
-                    value,
-                    place: Place::Register(reg),
-                },
-            ));
+            return Ok(Evaluated {
+                value: low_bytes(regs.r[reg as usize], slot.size),
+                place: Place::Register(reg),
+            });
         }
         Operand::Branch(by) => {
-            let value = regs.r[15].wrapping_add_signed(by);
-            return Ok((
-                regs,
-                Evaluated {
-                    value,
-                    place: Place::Nowhere,
-                },
-            ));
+            return Ok(Evaluated {
+                value: regs.r[15].wrapping_add_signed(by),
+                place: Place::Nowhere,
+            });
         }
         Operand::Indexed { index, base } => {
-            let (after, address) = address_of(memory, regs, slot.size, base)?;
-            let offset = after.r[index as usize].wrapping_mul(u32::from(slot.size));
-            return evaluate_at(memory, slot, after, address.wrapping_add(offset));
+            let address = address_of(memory, regs, slot.size, base)?;
+            let offset = regs.r[index as usize].wrapping_mul(u32::from(slot.size));
+            return evaluate_at(memory, slot, address.wrapping_add(offset));
         }
         Operand::Deferred(reg) => Base::Deferred(reg),
         Operand::AutoDec(reg) => Base::AutoDec(reg),

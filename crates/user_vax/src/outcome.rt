@@ -1,9 +1,8 @@
 ghost use Rattle.std.specs.Prelude.{◌∷◌, [], None, ◌≡◌, ◌<◌, ◌+◌, ◌≤◌, take};
-ghost use Rattle.user_vax.specs.Effects.{bytes_at, registers_only, push_onto};
+ghost use Rattle.user_vax.specs.Effects.{bytes_at, push_onto};
 ghost use Rattle.user_vax.specs.Operands.{with_register};
-ghost use Rattle.user_vax.specs.Outcomes.{IsSize, IsOutcome, effect_of, writes_in};
+ghost use Rattle.user_vax.specs.Outcomes.{IsFresh, IsSize, IsOutcome, effect_of, writes_in};
 
-use crate::registers::with_register;
 use vm_facts::Regs;
 
 /// A number of 1, 2 or 4 bytes that goes to memory, the lowest byte first.
@@ -61,46 +60,37 @@ impl Outcome {
         self.regs.r[14] = address;
     }
 
-    /// The same with PC at a target.
-    pub fn jumping(self, target: u32) -> Outcome
-        requires { IsOutcome self }
-        ensures effect { effect_of result ≡ record (effect_of self) { regs = with_register self.regs 15 target } }
-        ensures sound { IsOutcome result }
+    /// PC goes to a target.
+    pub fn jump(&mut self, target: u32)
+        requires { IsOutcome self.old }
+        ensures effect { effect_of self.new ≡ record (effect_of self.old) { regs = with_register self.old.regs 15 target } }
+        ensures sound { IsOutcome self.new }
+    {
+        self.regs.r[15] = target;
+    }
+
+    /// Writes one number, the first.
+    #[tactic(auto, using(crate::proofs::Pushing::first_bytes, crate::proofs::Pushing::first_sizes))]
+    pub fn write(&mut self, write: Write)
+        requires fresh { IsFresh self.old }
+        requires size { IsSize write.size }
+        ensures effect { effect_of self.new ≡ record { regs = self.old.regs; writes = bytes_at write.size write.address write.value; call = None } }
+        ensures sound { IsOutcome self.new }
+    {
+        self.writes[0] = write;
+        self.count = 1;
+    }
+
+    /// What leaves some registers alone.
+    pub fn of_registers(regs: Regs) -> Outcome
+        ensures regs { result.regs ≡ regs }
+        ensures fresh { IsFresh result }
     {
         Outcome {
-            regs: with_register(self.regs, 15, target),
-            ..self
+            regs,
+            writes: [Write::NONE; 18],
+            count: 0,
+            call: None,
         }
-    }
-}
-
-/// The registers alone.
-pub fn registers_only(regs: Regs) -> Outcome
-    ensures effect { effect_of result ≡ registers_only regs }
-    ensures sound { IsOutcome result }
-    ensures none { result.count ≡ 0 }
-{
-    Outcome {
-        regs,
-        writes: [Write::NONE; 18],
-        count: 0,
-        call: None,
-    }
-}
-
-/// The registers, and one number that is written.
-#[tactic(auto, using(std::proofs::lemmas::Grind::common_steps))]
-pub fn one_write(regs: Regs, write: Write) -> Outcome
-    requires { IsSize write.size }
-    ensures effect { effect_of result ≡ record { regs = regs; writes = bytes_at write.size write.address write.value; call = None } }
-    ensures sound { IsOutcome result }
-{
-    let mut writes = [Write::NONE; 18];
-    writes[0] = write;
-    Outcome {
-        regs,
-        writes,
-        count: 1,
-        call: None,
     }
 }

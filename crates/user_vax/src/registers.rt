@@ -6,54 +6,44 @@ ghost use Rattle.user_vax.specs.Outcomes.{IsSize};
 use vax_alu::Sum;
 use vm_facts::Regs;
 
-/// The registers with one changed.
-pub fn with_register(regs: Regs, reg: u8, value: u32) -> Regs
+/// Sets one register.
+pub fn set_register(regs: &mut Regs, reg: u8, value: u32)
     requires { reg < 16 }
-    ensures { result ≡ with_register regs reg value }
+    ensures { regs.new ≡ with_register regs.old reg value }
 {
-    let mut changed = regs;
-    changed.r[reg as usize] = value;
-    changed
+    regs.r[reg as usize] = value;
 }
 
-/// The registers with the codes of a result.
-pub fn with_codes(regs: Regs, sum: Sum) -> Regs
-    ensures { result ≡ with_codes regs sum }
+/// Sets the codes of a result.
+pub fn set_codes(regs: &mut Regs, sum: Sum)
+    ensures { regs.new ≡ with_codes regs.old sum }
 {
-    Regs {
-        n: sum.n,
-        z: sum.z,
-        v: sum.v,
-        c: sum.c,
-        ..regs
-    }
+    regs.n = sum.n;
+    regs.z = sum.z;
+    regs.v = sum.v;
+    regs.c = sum.c;
 }
 
-/// The registers with the codes of a moved value, which keep C.
-pub fn with_move_codes(regs: Regs, size: u8, value: u32) -> Regs
+/// Sets the codes of a moved value, which keep C.
+pub fn set_move_codes(regs: &mut Regs, size: u8, value: u32)
     requires { IsSize size }
-    ensures { result ≡ with_move_codes regs size value }
+    ensures { regs.new ≡ with_move_codes regs.old size value }
 {
     let least_negative = match size {
         1 => 0x80,
         2 => 0x8000,
         _ => 0x8000_0000,
     };
-    Regs {
-        n: value >= least_negative,
-        z: value == 0,
-        v: false,
-        ..regs
-    }
+    regs.n = value >= least_negative;
+    regs.z = value == 0;
+    regs.v = false;
 }
 
-/// The registers with the codes of a tested value.
-pub fn with_test_codes(regs: Regs, size: u8, value: u32) -> Regs
+/// Sets the codes of a tested value.
+pub fn set_test_codes(regs: &mut Regs, size: u8, value: u32)
     requires { IsSize size }
-    ensures { result ≡ with_test_codes regs size value }
+    ensures { regs.new ≡ with_test_codes regs.old size value }
 {
-    Regs {
-        c: false,
-        ..with_move_codes(regs, size, value)
-    }
+    set_move_codes(regs, size, value);
+    regs.c = false;
 }

@@ -1,38 +1,42 @@
-ghost use Rattle.std.specs.Prelude.{◌≡◌, ◌<◌, IfOk};
+ghost use Rattle.std.specs.Prelude.{◌≡◌, ◌<◌, OnOk};
 ghost use Rattle.user_vax.specs.Program.{run};
 ghost use Rattle.user_vax.specs.Effects.{pop, pop_into, subroutine_return};
-ghost use Rattle.user_vax.specs.Outcomes.{IsOutcome, ComesTo};
+ghost use Rattle.user_vax.specs.Outcomes.{IsFresh, IsOutcome, ComesTo, Leaves, LeavesWith};
 
-use crate::outcome::{Outcome, registers_only};
+use crate::outcome::Outcome;
 use crate::reading::read_long;
 use crate::refused::Refused;
-use crate::registers::with_register;
+use crate::registers::set_register;
 use vm_facts::{Memory, Regs};
 
-/// The registers after the longword that SP names is popped, and the longword.
+/// Pops the longword that SP names.
 #[tactic(auto, using(crate::proofs::Runs::run_bind), unfolding(crate::specs::Effects::pop))]
-pub fn pop<M: Memory>(memory: &M, regs: Regs) -> Result<(Regs, u32), Refused>
-    ensures { result ≡ run (M.answers memory.now) (pop regs) }
+pub fn pop<M: Memory>(memory: &M, regs: &mut Regs) -> Result<u32, Refused>
+    ensures { LeavesWith result regs.new (run (M.answers memory.now) (pop regs.old)) }
 {
-    let value = read_long(memory, regs.r[14])?;
-    Ok((with_register(regs, 14, regs.r[14].wrapping_add(4)), value))
+    let top = regs.r[14];
+    let value = read_long(memory, top)?;
+    regs.r[14] = top.wrapping_add(4);
+    Ok(value)
 }
 
-/// The registers after the longword that SP names is popped into one of them.
+/// Pops the longword that SP names into a register.
 #[tactic(auto, using(crate::proofs::Runs::run_bind), unfolding(crate::specs::Effects::pop_into))]
-pub fn pop_into<M: Memory>(memory: &M, regs: Regs, reg: u8) -> Result<Regs, Refused>
+pub fn pop_into<M: Memory>(memory: &M, regs: &mut Regs, reg: u8) -> Result<(), Refused>
     requires { reg < 16 }
-    ensures { result ≡ run (M.answers memory.now) (pop_into regs reg) }
+    ensures { Leaves result regs.new (run (M.answers memory.now) (pop_into regs.old reg)) }
 {
-    let (popped, value) = pop(memory, regs)?;
-    Ok(with_register(popped, reg, value))
+    let value = pop(memory, regs)?;
+    set_register(regs, reg, value);
+    Ok(())
 }
 
 /// The return from a subroutine.
 #[tactic(auto, using(crate::proofs::Runs::run_bind), unfolding(crate::specs::Effects::subroutine_return))]
-pub fn return_from_subroutine<M: Memory>(memory: &M, regs: Regs) -> Result<Outcome, Refused>
-    ensures value { ComesTo result (run (M.answers memory.now) (subroutine_return regs)) }
-    ensures sound { IfOk result IsOutcome }
+pub fn return_from_subroutine<M: Memory>(memory: &M, outcome: &mut Outcome) -> Result<(), Refused>
+    requires { IsFresh outcome.old }
+    ensures value { ComesTo result outcome.new (run (M.answers memory.now) (subroutine_return outcome.old.regs)) }
+    ensures sound { OnOk result (IsOutcome outcome.new) }
 {
-    Ok(registers_only(pop_into(memory, regs, 15)?))
+    pop_into(memory, &mut outcome.regs, 15)
 }

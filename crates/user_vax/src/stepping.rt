@@ -1,10 +1,14 @@
-ghost use Rattle.std.specs.Prelude.{◌≡◌, ◌<◌, ◌≤◌, [], IfOk};
+ghost use Rattle.std.specs.Prelude.{◌≡◌, ◌<◌, ◌≤◌, [], length, Result, Err, IfOk, OnOk};
 ghost use Rattle.std.specs.List.{All};
 ghost use Rattle.vax_code.specs.Valid.{HasOperands};
 ghost use Rattle.user_vax.specs.Program.{run};
 ghost use Rattle.user_vax.specs.Operands.{IsPlace};
 ghost use Rattle.user_vax.specs.Instruction.{fetch, evaluations, tested_effect, execution, instruction, answer_of, registers_after, writes_of};
-ghost use Rattle.user_vax.specs.Outcomes.{IsOutcome, IsReady, ComesTo, effect_of, writes_in};
+ghost use Rattle.vax_code.specs.Reading.{decoded};
+ghost use Rattle.vax_code.specs.declared.instr.Instr.{Instr};
+ghost use Rattle.user_vax.specs.declared.refused.Refused.{Refused};
+ghost use Rattle.user_vax.specs.Fetching.{settled};
+ghost use Rattle.user_vax.specs.Outcomes.{IsFresh, IsOutcome, IsReady, ComesTo, LeavesOperands, effect_of, writes_in};
 
 use crate::commit::{put_all, test_all};
 use crate::compute::compute;
@@ -12,7 +16,6 @@ use crate::operand::{Evaluated, evaluate};
 use crate::outcome::Outcome;
 use crate::reading::read_byte;
 use crate::refused::{Refused, SIGILL};
-use crate::registers::with_register;
 use vax_code::{Decoded, Instr, Row, decode, row_of};
 use vm_facts::{Memory, Regs};
 
@@ -32,81 +35,105 @@ pub enum Stepped {
     Signal(u8),
 }
 
-/// The instruction at an address.
-#[tactic(auto, using(crate::proofs::Fetching::fetch_more), unfolding(crate::specs::Instruction::fetch))]
+/// What is fetched of an instruction of which these bytes were read, where the next byte is refused.
+fn stop(bytes: &[u8], refused: Refused) -> Result<Instr, Refused>
+    ensures value { result ≡ settled (decoded bytes.now) (Err refused) }
+    ensures whole { 19 ≤ length bytes.now → (next : Result Instr Refused) → result ≡ settled (decoded bytes.now) next }
+    ensures valid { IfOk result HasOperands }
+{
+    match decode(bytes) {
+        Decoded::Is(instr) => Ok(instr),
+        Decoded::Reserved => Err(Refused::Signal(SIGILL)),
+        Decoded::NeedMore => Err(refused),
+    }
+}
+
+/// The instruction at an address. Its bytes are read four at a time, since most have no more; what lies behind it has
+/// no part in what comes of it.
 fn fetch<M: Memory>(memory: &M, pc: u32) -> Result<Instr, Refused>
     ensures value { result ≡ run (M.answers memory.now) (fetch 20 pc []) }
     ensures valid { IfOk result HasOperands }
 {
-    let mut bytes = [0u8; 20];
-    for count in 0..20usize {
-        match decode(&bytes[..count]) {
-            Decoded::Is(instr) => return Ok(instr),
-            Decoded::Reserved => return Err(Refused::Signal(SIGILL)),
-            Decoded::NeedMore => {}
+    let mut bytes = [0u8; 19];
+    for count in 0..19usize {
+        match read_byte(memory, pc.wrapping_add(count as u32)) {
+            Ok(byte) => bytes[count] = byte,
+            Err(refused) => return stop(&bytes[..count], refused),
         }
-        bytes[count] = read_byte(memory, pc.wrapping_add(count as u32))?;
+        if count % 4 == 3 {
+            match decode(&bytes[..=count]) {
+                Decoded::Is(instr) => return Ok(instr),
+                Decoded::Reserved => return Err(Refused::Signal(SIGILL)),
+                Decoded::NeedMore => {}
+            }
+        }
     }
-    Err(Refused::Signal(SIGILL))
+    stop(&bytes, Refused::Signal(SIGILL))
 }
 
-/// The registers after the three operands, and the operands.
+/// The three operands, evaluated from left to right; the registers become those after them.
 #[tactic(auto, using(crate::proofs::Runs::run_bind), unfolding(crate::specs::Instruction::evaluations))]
 fn evaluate_all<M: Memory>(
     memory: &M,
     row: Row,
-    regs: Regs,
-    instr: Instr,
-) -> Result<(Regs, Evaluated, Evaluated, Evaluated), Refused>
-    requires { HasOperands instr }
-    ensures value { result ≡ run (M.answers memory.now) (evaluations row regs instr) }
-    ensures places { IfOk result (λ x. IsPlace x.1.place × IsPlace x.2.place × IsPlace x.3.place) }
+    regs: &mut Regs,
+    instr: &Instr,
+) -> Result<(Evaluated, Evaluated, Evaluated), Refused>
+    requires { HasOperands instr.now }
+    ensures value { LeavesOperands result regs.new (run (M.answers memory.now) (evaluations row regs.old instr.now)) }
+    ensures places { IfOk result (λ x. IsPlace x.0.place × IsPlace x.1.place × IsPlace x.2.place) }
 {
-    let (after_a, a) = evaluate(memory, row.slot(0), regs, instr.a)?;
-    let (after_b, b) = evaluate(memory, row.slot(1), after_a, instr.b)?;
-    let (after_c, c) = evaluate(memory, row.slot(2), after_b, instr.c)?;
-    Ok((after_c, a, b, c))
+    let a = evaluate(memory, row.slot(0), regs, instr.a)?;
+    let b = evaluate(memory, row.slot(1), regs, instr.b)?;
+    let c = evaluate(memory, row.slot(2), regs, instr.c)?;
+    Ok((a, b, c))
 }
 
-/// The outcome, where all that it writes may be written.
+/// What an instruction of a row comes to, once its operands are evaluated: the outcome, where all that it writes may be
+/// written.
 #[tactic(auto, using(crate::proofs::Runs::run_bind), unfolding(crate::specs::Instruction::tested_effect))]
-fn allow<M: Memory>(memory: &M, outcome: Outcome) -> Result<Outcome, Refused>
-    requires { IsOutcome outcome }
-    ensures value { ComesTo result (run (M.answers memory.now) (tested_effect (effect_of outcome))) }
-    ensures sound { IfOk result IsOutcome }
-    ensures ready { IfOk result (λ allowed. All (IsReady (M.answers memory.now)) (writes_in allowed)) }
+fn allow<M: Memory>(memory: &M, outcome: &Outcome) -> Result<(), Refused>
+    requires { IsOutcome outcome.now }
+    ensures value { ComesTo result outcome.now (run (M.answers memory.now) (tested_effect (effect_of outcome.now))) }
+    ensures ready { OnOk result (All (IsReady (M.answers memory.now)) (writes_in outcome.now)) }
 {
-    test_all(memory, outcome.written())?;
-    Ok(outcome)
+    test_all(memory, outcome.written())
 }
 
 /// What an instruction of a row comes to, from registers whose PC stands behind it.
 #[tactic(auto, using(crate::proofs::Runs::run_bind), unfolding(crate::specs::Instruction::execution))]
-fn execute<M: Memory>(memory: &M, row: Row, regs: Regs, instr: Instr) -> Result<Outcome, Refused>
-    requires { HasOperands instr }
-    ensures value { ComesTo result (run (M.answers memory.now) (execution row regs instr)) }
-    ensures sound { IfOk result IsOutcome }
-    ensures ready { IfOk result (λ outcome. All (IsReady (M.answers memory.now)) (writes_in outcome)) }
+fn execute<M: Memory>(
+    memory: &M,
+    row: Row,
+    outcome: &mut Outcome,
+    instr: &Instr,
+) -> Result<(), Refused>
+    requires fresh { IsFresh outcome.old }
+    requires valid { HasOperands instr.now }
+    ensures value { ComesTo result outcome.new (run (M.answers memory.now) (execution row outcome.old.regs instr.now)) }
+    ensures sound { OnOk result (IsOutcome outcome.new) }
+    ensures ready { OnOk result (All (IsReady (M.answers memory.now)) (writes_in outcome.new)) }
 {
-    let (after, a, b, c) = evaluate_all(memory, row, regs, instr)?;
-    let outcome = compute(memory, row.name, after, a, b, c)?;
+    let (a, b, c) = evaluate_all(memory, row, &mut outcome.regs, instr)?;
+    compute(memory, row.name, outcome, a, b, c)?;
     allow(memory, outcome)
 }
 
 /// What the instruction that PC names comes to.
 #[tactic(auto, using(crate::proofs::Runs::run_bind), unfolding(crate::specs::Instruction::instruction, crate::specs::Instruction::execution_by))]
-fn next<M: Memory>(memory: &M, regs: Regs) -> Result<Outcome, Refused>
-    ensures value { ComesTo result (run (M.answers memory.now) (instruction regs)) }
-    ensures sound { IfOk result IsOutcome }
-    ensures ready { IfOk result (λ outcome. All (IsReady (M.answers memory.now)) (writes_in outcome)) }
+fn next<M: Memory>(memory: &M, outcome: &mut Outcome) -> Result<(), Refused>
+    requires { IsFresh outcome.old }
+    ensures value { ComesTo result outcome.new (run (M.answers memory.now) (instruction outcome.old.regs)) }
+    ensures sound { OnOk result (IsOutcome outcome.new) }
+    ensures ready { OnOk result (All (IsReady (M.answers memory.now)) (writes_in outcome.new)) }
 {
-    let pc = regs.r[15];
+    let pc = outcome.regs.r[15];
     let instr = fetch(memory, pc)?;
     let Some(row) = row_of(instr.op) else {
         return Err(Refused::Signal(SIGILL));
     };
-    let after = with_register(regs, 15, pc.wrapping_add(u32::from(instr.length)));
-    execute(memory, row, after, instr)
+    outcome.regs.r[15] = pc.wrapping_add(u32::from(instr.length));
+    execute(memory, row, outcome, &instr)
 }
 
 /// Runs one instruction: the one that PC names, by this project's profile of the VAX. `Done` and `Call`
@@ -118,11 +145,12 @@ pub fn step<M: Memory>(regs: &mut Regs, memory: &mut M) -> Stepped
     ensures registers { regs.new ≡ registers_after regs.old (run (M.answers memory.old) (instruction regs.old)) }
     ensures wrote { M.wrote memory.old (writes_of (run (M.answers memory.old) (instruction regs.old))) memory.new }
 {
-    match next(memory, *regs) {
+    let mut outcome = Outcome::of_registers(*regs);
+    match next(memory, &mut outcome) {
         Err(Refused::Miss { address, write }) => Stepped::Miss { address, write },
         Err(Refused::Below { address }) => Stepped::Below { address },
         Err(Refused::Signal(number)) => Stepped::Signal(number),
-        Ok(outcome) => {
+        Ok(()) => {
             put_all(memory, outcome.written());
             *regs = outcome.regs;
             match outcome.call {

@@ -116,6 +116,20 @@ exact bytes found octets e =
       reserved = (nothing bytes, is_reserved bytes octets);
     })
 
+-- ---- what follows an instruction, or what can't begin one, has no part in the decoding
+
+pub decoded_extends : (bytes more : List ℕ) (instr : Instr) → decoded bytes ≡ decodings.Is instr → decoded (bytes ++ more) ≡ decodings.Is instr
+unfolding decoded
+decoded_extends bytes more instr h =
+    let read = is_read (instruction_at bytes) instr h in
+    ap decoding_of (instruction_reader.extends bytes more instr read.0 read.1)
+
+pub decoded_stuck : (bytes more : List ℕ) → decoded bytes ≡ decodings.Reserved → decoded (bytes ++ more) ≡ decodings.Reserved
+unfolding decoded
+decoded_stuck bytes more h = ap decoding_of (instruction_reader.stuck bytes more (is_bad (instruction_at bytes) h))
+
+-- ---- the grammar and the reading
+
 allowed_is_read : (bytes : List ℕ) (result : Decoded) → AreOctets bytes → DecodesAs bytes result → result ≡ decoded bytes
 allowed_is_read bytes (decodings.Is instr) octets h = sym (is_decoded bytes instr ((h.is instr).0 refl))
 allowed_is_read bytes decodings.NeedMore octets h = sym (needs_more bytes (h.need_more.0 refl))

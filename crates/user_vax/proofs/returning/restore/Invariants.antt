@@ -5,4 +5,4 @@ use Rattle.user_vax.proofs.returning.restore.Given as goal
 
 -- what is left to restore comes to what restoring all does
 abbrev pub invariant-loop-reg : goal.invariant-loop-reg
-invariant-loop-reg g l = run (g.M.Memory.answers l.memory) (restored (12 - l.reg) l.mask l.restored) ≡ run (g.M.Memory.answers l.memory) (restored 12 l.mask l.fn.regs)
+invariant-loop-reg g l = run (g.M.Memory.answers l.memory) (restored (12 - l.reg) l.mask l.regs) ≡ run (g.M.Memory.answers l.memory) (restored 12 l.mask l.fn.regs)
