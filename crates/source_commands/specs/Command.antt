@@ -25,6 +25,7 @@ abbrev pub MakesFile : Result (List ℕ) Unread → List ℕ → Type 0
 MakesFile (Ok source) output = IsFileFrom source output
 MakesFile (Err unread) output = ⊥
 
+-- the lowest bad line of what was read of the source
 abbrev pub HasFirstBad : Result (List ℕ) Unread → ℕ → Type 0
 HasFirstBad (Ok source) line = IsFirstBad source line
 HasFirstBad (Err unread) line = ⊥
@@ -56,11 +57,12 @@ EndsListing name read f (Err _) = ⊥
 
 -- ---- the commands
 
--- a good source has no more bytes than 4,096 lines of 121, so one more byte shows that it is bad
+-- How many bytes of a source are read. A good one has at most 4,096 lines of 121 bytes, which is one byte less. A longer
+-- one is bad, and the line that is named is the lowest bad one of these first bytes: a label behind them isn't seen.
 abbrev pub source_bytes : ℕ
 source_bytes = 495617
 
--- assembling the source of this name
+-- assembling the source of this name, by its first `source_bytes` bytes
 abbrev pub Assembles : List ℕ → Option (List NamedFile) → Faults → Option (List ℕ) → Option (List ℕ) → ℕ → ℕ → ℕ → Type 0
 Assembles name holds f before after old_faults new_faults status =
     Completes (EndsAssembly name) (λ files. bytes_told files name source_bytes) holds f before after old_faults new_faults status

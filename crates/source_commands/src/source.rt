@@ -11,7 +11,7 @@ use run_files::read_file;
 use std::alloc::Global;
 use vax_asm::{Assembled, assemble};
 
-/// A source longer than this is read no further: a good one has at most 4,096 lines of 121 bytes.
+/// How many bytes of a source are read. A good one has at most 4,096 lines of 121 bytes, which is one byte less.
 const SOURCE_BYTES: u64 = 495_617;
 
 // The file that a source makes.
@@ -40,7 +40,8 @@ fn file_from<'a, F: Files>(
 /// Assembles the source of this name, writes the file of its program, and answers the exit status: 0
 /// where it was written; 2 an absent file; 5 a file fault; 8 a fault of the output; 9 want of memory;
 /// 17 a bad source. At any other status than 0 and 8 the line of the fault is written instead (this
-/// project's profile).
+/// project's profile). Of a source of more than 495,617 bytes, which is bad, no more are read, and the line that is named
+/// is the lowest bad one of these: a label that is defined behind them isn't seen.
 pub fn assemble_file<F: Files, S: Sink>(
     alloc: Global,
     files: &mut F,
