@@ -155,7 +155,7 @@ exec_forgets p next image sid (Some named) o d f h n e = record {
 
 -- What is asked.
 
-new_number : (k : Kernel) → Numbered k → IsNew k.place k.next_sid
+pub new_number : (k : Kernel) → Numbered k → IsNew k.place k.next_sid
 new_number k n = below_none space_number k.next_sid k.place.spaces n.spaces_below
 
 next_apart : (k : Kernel) (sid : ℕ) → Numbered k → HasSpace k.place sid → k.next_sid ≢ sid

@@ -92,7 +92,7 @@ cut_owner p sid d s o c = alike_owner p (cut_space p sid d s) o refl refl refl a
     alike (Text i w) = (refl, refl)
 
 -- from a page of a list, by its number
-each_at : (P : Page → Type 0) (q : Page) (lo n w : ℕ) → EachPage P (pages_from q lo n) → lo ≤ w → w < lo + n → P (beside q w)
+pub each_at : (P : Page → Type 0) (q : Page) (lo n w : ℕ) → EachPage P (pages_from q lo n) → lo ≤ w → w < lo + n → P (beside q w)
 each_at P q lo zero w h l m = absurd (omega arith)
 each_at P q lo (suc n) w h l m = elim (cases_eq w lo) [
   | inl e ↦ subst (λ (x : ℕ). P (beside q x)) (sym e) h.0
