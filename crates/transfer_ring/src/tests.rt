@@ -1,4 +1,5 @@
-// That the calls that take memory succeed, and what a caller does with the transfers.
+// That the calls that take memory succeed, what a caller does with the transfers, and that a device is
+// called once for each page, in rising order, up to the first call that fails.
 ghost use Rattle.std.specs.Prelude.{◌≡◌, ℕ, ◌<◌, ◌∷◌, ◌++◌, [], length, drop};
 ghost use Rattle.transfer_ring.specs.Sound.{AreReachable, IsBlock, IsReachable, IsRead, IsSource, IsThere, IsWrite};
 
@@ -58,6 +59,122 @@ fn write_of(rt: &impl Abort, alloc: Global, byte: u8, block: u32) -> Transfer
         block,
     });
     Transfer::Write { parts }
+}
+
+// A page of space 1 to be read from swap.
+fn inbound(rt: &impl Abort, alloc: Global, v: u32, block: u32) -> Inbound
+    ensures page { result.page ≡ Page.Data 1 v }
+    ensures source { result.source ≡ Source.Swap block }
+{
+    Inbound {
+        page: Page::Data { sid: 1, v },
+        token: Free::make(alloc, 7)
+            .expect(rt, "memory for a frame")
+            .begin_fill(),
+        source: Source::Swap(block),
+    }
+}
+
+// A page of space 1 to be written, which begins with this byte.
+fn outbound(rt: &impl Abort, alloc: Global, v: u32, byte: u8, block: u32) -> Outbound
+    ensures page { result.page ≡ Page.Data 1 v }
+    ensures block { result.block ≡ block }
+{
+    let mut token = Free::make(alloc, 8)
+        .expect(rt, "memory for a frame")
+        .zeroed();
+    token.bytes_mut()[0] = byte;
+    Outbound {
+        page: Page::Data { sid: 1, v },
+        token: token.begin_clean(),
+        block,
+    }
+}
+
+// A read of pages 0, 1 and 2 of space 1 from blocks 0, 2 and 4.
+fn read_of_three(rt: &impl Abort, alloc: Global) -> Transfer
+    ensures read { IsRead result }
+    ensures reachable { (holds : _) → IsReachable holds 8 result }
+{
+    let mut parts = Vec::with_capacity(alloc, 3).expect(rt, "memory for parts");
+    parts.push_reserved(inbound(rt, alloc, 0, 0));
+    parts.push_reserved(inbound(rt, alloc, 1, 2));
+    parts.push_reserved(inbound(rt, alloc, 2, 4));
+    Transfer::Read {
+        demanded: Page::Data { sid: 1, v: 1 },
+        parts,
+    }
+}
+
+// A write of pages 0, 1 and 2 of space 1, which begin with 1, 2 and 3, to blocks 0, 2 and 4.
+fn write_of_three(rt: &impl Abort, alloc: Global) -> Transfer
+    ensures write { IsWrite result }
+    ensures reachable { (holds : _) → IsReachable holds 8 result }
+{
+    let mut parts = Vec::with_capacity(alloc, 3).expect(rt, "memory for parts");
+    parts.push_reserved(outbound(rt, alloc, 0, 1, 0));
+    parts.push_reserved(outbound(rt, alloc, 1, 2, 2));
+    parts.push_reserved(outbound(rt, alloc, 2, 3, 4));
+    Transfer::Write { parts }
+}
+
+// The first byte of each of the first three pages of a transfer, whose tokens end.
+fn first_bytes(transfer: Transfer) -> [u8; 3] {
+    let mut bytes = [0; 3];
+    match transfer {
+        Transfer::Read {
+            demanded: _,
+            mut parts,
+        } => {
+            while let Some(
+                Inbound {
+                    page: _,
+                    token,
+                    source: _,
+                },
+            ) = parts.pop()
+            {
+                let token = token.filled();
+                if parts.len() < 3 {
+                    bytes[parts.len()] = token.bytes()[0];
+                }
+                token.release().retire();
+            }
+            parts.destroy_empty();
+        }
+        Transfer::Write { mut parts } => {
+            while let Some(
+                Outbound {
+                    page: _,
+                    token,
+                    block: _,
+                },
+            ) = parts.pop()
+            {
+                if parts.len() < 3 {
+                    bytes[parts.len()] = token.bytes()[0];
+                }
+                token.cleaned().retire();
+            }
+            parts.destroy_empty();
+        }
+    }
+    bytes
+}
+
+// How a transfer of three pages ended: whether all were moved, and the first byte of each.
+fn three_done(finished: Finished) -> Option<(bool, [u8; 3])> {
+    match finished {
+        Finished::Done(transfer) => Some((true, first_bytes(transfer))),
+        Finished::SwapReadFault(transfer) | Finished::SwapWriteFault(transfer) => {
+            Some((false, first_bytes(transfer)))
+        }
+        Finished::FileFault(transfer) => {
+            end(transfer);
+            None
+        }
+        Finished::Idle => None,
+    }
 }
 
 // The first and the last byte of the last page of a transfer, whose tokens end.
@@ -151,13 +268,8 @@ fn begin_write(ring: &mut TransferRing, t: Transfer)
     }
 }
 
-// Completes the oldest transfer, with no files, and ends its tokens.
-fn complete(
-    rt: &impl Abort,
-    alloc: Global,
-    ring: &mut TransferRing,
-    swap: &mut MemSwap,
-) -> Option<(u8, u8)>
+// Completes the oldest transfer, with no files.
+fn complete(alloc: Global, ring: &mut TransferRing, swap: &mut MemSwap) -> Finished
     requires eight { ⟦<MemSwap as SwapDev>⟧.blocks swap.old ≡ 8 }
     requires were { (holds : _) → AreReachable holds 8 ring.old }
     ensures eight { ⟦<MemSwap as SwapDev>⟧.blocks swap.new ≡ 8 }
@@ -165,7 +277,7 @@ fn complete(
     ensures are { (holds : _) → AreReachable holds 8 ring.new }
 {
     let mut files = MemFiles::new(Vec::new(alloc), Vec::new(alloc));
-    done(ring.complete_oldest(&mut files, swap))
+    ring.complete_oldest(&mut files, swap)
 }
 
 #[test]
@@ -179,7 +291,7 @@ fn a_page_that_was_written_is_read_back(rt: HostRuntime) {
         (2, true, true)
     );
     assert_eq!(rt;
-        complete(&rt, rt.alloc(), &mut ring, &mut swap),
+        done(complete(rt.alloc(), &mut ring, &mut swap)),
         Some((9, 0))
     );
     assert_eq!(rt;
@@ -187,7 +299,7 @@ fn a_page_that_was_written_is_read_back(rt: HostRuntime) {
         (1, true, false)
     );
     assert_eq!(rt;
-        complete(&rt, rt.alloc(), &mut ring, &mut swap),
+        done(complete(rt.alloc(), &mut ring, &mut swap)),
         Some((9, 0))
     );
     ring.close();
@@ -203,12 +315,67 @@ fn a_failed_call_hands_the_transfer_back(rt: HostRuntime) -> Result<(), Fail> {
     begin_write(&mut ring, write_of(&rt, rt.alloc(), 8, 2));
     begin_read(&mut ring, read_of(&rt, rt.alloc(), 3, 4));
     assert_eq!(rt;
-        complete(&rt, rt.alloc(), &mut ring, &mut swap),
+        done(complete(rt.alloc(), &mut ring, &mut swap)),
         Some((9, 0))
     );
-    assert_eq!(rt; complete(&rt, rt.alloc(), &mut ring, &mut swap), None);
-    assert_eq!(rt; complete(&rt, rt.alloc(), &mut ring, &mut swap), None);
+    assert_eq!(rt; done(complete(rt.alloc(), &mut ring, &mut swap)), None);
+    assert_eq!(rt; done(complete(rt.alloc(), &mut ring, &mut swap)), None);
     assert_eq!(rt; (swap.blocks(), ring.len()), (8, 0));
+    ring.close();
+    Ok(())
+}
+
+#[test]
+fn a_read_of_three_pages_calls_the_device_for_each(rt: HostRuntime) -> Result<(), Fail> {
+    let alloc = rt.alloc();
+    let fail_reads = [5, 7].to_vec(alloc)?;
+    let mut ring = TransferRing::new(alloc)?;
+    let mut swap = device(&rt, alloc, fail_reads, Vec::new(alloc));
+    begin_write(&mut ring, write_of_three(&rt, alloc));
+    let written = three_done(complete(alloc, &mut ring, &mut swap));
+    assert_eq!(rt; written, Some((true, [1, 2, 3])));
+
+    // Reads 1 to 3 succeed, and so does 4. Read 5 fails, and the last page isn't asked for.
+    begin_read(&mut ring, read_of_three(&rt, alloc));
+    let whole = three_done(complete(alloc, &mut ring, &mut swap));
+    assert_eq!(rt; whole, Some((true, [1, 2, 3])));
+    begin_read(&mut ring, read_of_three(&rt, alloc));
+    let cut = three_done(complete(alloc, &mut ring, &mut swap));
+    assert_eq!(rt; cut, Some((false, [1, 0, 0])));
+
+    // So the next read is the 6th, and the one after it fails.
+    begin_read(&mut ring, read_of(&rt, alloc, 3, 4));
+    let sixth = done(complete(alloc, &mut ring, &mut swap));
+    assert_eq!(rt; sixth, Some((3, 0)));
+    begin_read(&mut ring, read_of(&rt, alloc, 3, 4));
+    let seventh = done(complete(alloc, &mut ring, &mut swap));
+    assert_eq!(rt; seventh, None);
+    ring.close();
+    Ok(())
+}
+
+#[test]
+fn a_write_of_three_pages_calls_the_device_for_each(rt: HostRuntime) -> Result<(), Fail> {
+    let alloc = rt.alloc();
+    let fail_writes = [2, 4].to_vec(alloc)?;
+    let mut ring = TransferRing::new(alloc)?;
+    let mut swap = device(&rt, alloc, Vec::new(alloc), fail_writes);
+
+    // Write 2 fails: the first page was written, and the last one isn't tried.
+    begin_write(&mut ring, write_of_three(&rt, alloc));
+    let cut = three_done(complete(alloc, &mut ring, &mut swap));
+    assert_eq!(rt; cut, Some((false, [1, 2, 3])));
+    begin_read(&mut ring, read_of_three(&rt, alloc));
+    let kept = three_done(complete(alloc, &mut ring, &mut swap));
+    assert_eq!(rt; kept, Some((true, [1, 0, 0])));
+
+    // So the next write is the 3rd, and the one after it fails.
+    begin_write(&mut ring, write_of(&rt, alloc, 9, 4));
+    let third = done(complete(alloc, &mut ring, &mut swap));
+    assert_eq!(rt; third, Some((9, 0)));
+    begin_write(&mut ring, write_of(&rt, alloc, 8, 4));
+    let fourth = done(complete(alloc, &mut ring, &mut swap));
+    assert_eq!(rt; fourth, None);
     ring.close();
     Ok(())
 }
