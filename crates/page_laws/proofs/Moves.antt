@@ -1,6 +1,7 @@
 pub mod Hands
 pub mod Steps
 pub mod Stays
+pub mod HandRuns
 pub mod Transfers
 pub mod KeptHands
 pub mod Locks

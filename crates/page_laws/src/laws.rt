@@ -1,4 +1,4 @@
-ghost use Rattle.std.specs.Prelude.{◌≡◌, ◌≢◌, ◌⊎◌, ℕ, ◌+◌, ◌*◌, ◌<◌, ◌≤◌, Bool, true, false, List, [], ◌∷◌, length, Some, IsSome};
+ghost use Rattle.std.specs.Prelude.{◌≡◌, ◌≢◌, ◌⊎◌, ℕ, ◌+◌, ◌*◌, ◌<◌, ◌≤◌, Bool, true, false, List, [], ◌∷◌, length, Some, None, IsSome};
 ghost use Rattle.flat_state.specs.Flat.{FlatState, NamedImage, process_of};
 ghost use Rattle.vm_facts.specs.declared.page.Page.{Page};
 ghost use Rattle.vm_facts.specs.declared.page.Page.TheVariants.{Data, Stack, Text};
@@ -13,8 +13,8 @@ ghost use Rattle.flat_state.specs.declared.change.Change.{Change as AnyChange};
 ghost use Rattle.page_model.specs.Pages.{is_valid};
 ghost use Rattle.flat_state.specs.PageNames.{number_of};
 ghost use Rattle.page_model.specs.Placement.{Placement, Transfer, Source, Reads, slots_of, state_of, is_dirty, page_of, IsThere, data_filling, mark_of, Starting, start_placement};
-ghost use Rattle.page_model.specs.Moves.{touch_all, touch, reclaim, done, get_run, drop_all};
-ghost use Rattle.page_model.specs.Hands.{hand_move};
+ghost use Rattle.page_model.specs.Moves.{touch_all, touch, reclaim, done, get_run, drop_all, launch_run};
+ghost use Rattle.page_model.specs.Hands.{hand_move, hand_run, expire, advance};
 ghost use Rattle.page_model.specs.Place.{due_after, moved, place_entry, place_step, place_change, filled, put_step, space_of_process, is_borrower, resize, fork_space, enter_space, remove_space, pages_of_space, leave_text};
 ghost use Rattle.page_model.specs.Serve.{force, most_in_flight, serve_unit, serve_entry, serve_step, read_step, source_for};
 ghost use Rattle.page_model.specs.Swapper.{Runner, In, Out, Nothing, residence_of, is_settled, swap_choice, is_out, put_out_unit};
@@ -25,7 +25,7 @@ ghost use Rattle.page_model.specs.PageBytes.{zeros, Bytes, CouplesPages, SamePag
 ghost use Rattle.page_model.specs.Stored.{stored, store_at};
 ghost use Rattle.page_model.specs.Swapping.{ComesIn, GoesOut, NoneMoves};
 ghost use Rattle.page_model.specs.PuttingOut.{IsResident, put_rank, EndsPuttingOut};
-ghost use Rattle.page_model.specs.Runs.{run_in, run_out, run_put, run_alone};
+ghost use Rattle.page_model.specs.Runs.{run_in, run_out, run_put, run_alone, Run, pages_of_run};
 ghost use Rattle.page_laws.specs.Neighbours.{IsWidest, IsLongest, MayRead, IsSwappedBeside, IsUnfilledBeside, IsIdleBeside, IsSeatedBeside};
 ghost use Rattle.page_model.specs.Frames.{times};
 ghost use Rattle.page_laws.specs.Sweeping.{MayBeSwept};
@@ -211,6 +211,12 @@ pub fn runs_are_widest()
 pub fn moves_take_idle_pages()
     ensures freed { (p : Placement) (locked : List Page) (f : ℕ) → OwnsFrames p → times f p.free ≡ 0 → 0 < times f (hand_move p locked).free → (w : Page) × (page_of p f ≡ Some w) × MayBeSwept p locked w f × (is_dirty p w ≡ false) }
     ensures written { (p : Placement) (locked : List Page) (w : Page) (f : ℕ) → OwnsFrames p → state_of (hand_move p locked) w ≡ Going f → (state_of p w ≡ Going f) ⊎ (MayBeSwept p locked w f × (is_dirty p w ≡ true)) }
+{}
+
+/// The write that a move of the hands begins is the one that `hand_run` names; and where it names none, the move begins none.
+pub fn moves_write_their_run()
+    ensures begins { (p : Placement) (locked : List Page) (q : Page) (r : Run) → hand_run p locked ≡ Some (q, r) → hand_move p locked ≡ advance (launch_run (expire p locked) (pages_of_run q r)) }
+    ensures rests { (p : Placement) (locked : List Page) → hand_run p locked ≡ None → (hand_move p locked).transfers ≡ p.transfers }
 {}
 
 /// How a page leaves its frame. By a paging entry only if that takes the frame from the free list, for a fill or a read;

@@ -23,6 +23,7 @@
 //! - `residence_moves`: a process goes in or out alone.
 //! - `runs_are_widest`: which neighbours of a page are read or written with it, and that none could be added.
 //! - `moves_take_idle_pages`: what a move of the hands frees or writes was invalid, off the free list and not locked.
+//! - `moves_write_their_run`: the write that a move begins is the one that `hand_run` names.
 //! - `frames_are_left`: when a page leaves its frame, and that what must be written stays in its till it was.
 //!
 //! Lemmas, by folder of proofs/: Lists, Ownership, Moves, Bytes, Blocks, Due, Ends, Swapper, Runs
@@ -33,6 +34,6 @@ pub mod laws;
 
 pub use laws::{
     blocks_kept, due_kept, few_transfers, forcing_ends, frames_are_left, memory_kept,
-    moves_take_idle_pages, others_same, ownership_kept, putting_out_ends, residence_moves,
+    moves_take_idle_pages, moves_write_their_run, others_same, ownership_kept, putting_out_ends, residence_moves,
     runs_are_widest, serving_ends, serving_units, spaces_kept, start_stands, swapper_chooses,
 };

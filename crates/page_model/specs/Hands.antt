@@ -7,7 +7,7 @@ use Rattle.flat_state.specs.PageNames.{is_among}
 use Rattle.page_model.specs.Frames.{times, next_frame}
 use Rattle.page_model.specs.Placement.{Placement, state_of, mark_of, is_dirty, page_of}
 use Rattle.page_model.specs.Moves.{turn, launch_run, retire}
-use Rattle.page_model.specs.Runs.{run_out, pages_of_run}
+use Rattle.page_model.specs.Runs.{Run, run_out, pages_of_run}
 
 -- The front hand makes a valid page invalid, unless it is locked.
 abbrev pub expire_to : Placement → Page → PageState → Placement
@@ -42,6 +42,23 @@ sweep_of p locked f (Some q) = sweep_to p locked q (state_of p q) (times f p.fre
 
 abbrev pub sweep : Placement → List Page → Placement
 sweep p locked = sweep_of p locked p.back (page_of p p.back)
+
+-- The write that the back hand begins: the page that it takes, and the run that goes with it.
+abbrev pub write_by : Placement → List Page → Page → Bool → Option (Page × Run)
+write_by p locked q true = Some (q, run_out p locked q)
+write_by p locked q false = None
+
+abbrev pub write_to : Placement → List Page → Page → PageState → ℕ → Bool → Option (Page × Run)
+write_to p locked q (Invalid f) zero false = write_by p locked q (is_dirty p q)
+write_to p locked q _ _ _ = None
+
+abbrev pub write_of : Placement → List Page → ℕ → Option Page → Option (Page × Run)
+write_of p locked f None = None
+write_of p locked f (Some q) = write_to p locked q (state_of p q) (times f p.free) (is_among q locked)
+
+-- the write that a move begins once the front hand has made its page invalid, or none
+abbrev pub hand_run : Placement → List Page → Option (Page × Run)
+hand_run p locked = write_of (expire p locked) locked (expire p locked).back (page_of (expire p locked) (expire p locked).back)
 
 abbrev pub advance : Placement → Placement
 advance p = record p { front = next_frame (length p.holds) p.front; back = next_frame (length p.holds) p.back }

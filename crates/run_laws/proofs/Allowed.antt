@@ -13,7 +13,8 @@ use Rattle.page_model.specs.Placement.{Placement, Transfer, Due, Start, CopyOf, 
 use Rattle.page_model.specs.Moves.{done}
 use Rattle.page_model.specs.Place.{due_after, place_entry}
 use Rattle.page_model.specs.Runs.{run_put, spare_frames}
-use Rattle.page_model.specs.Hands.{expire, sweep_of, sweep_to, sweep_by, hand_move}
+use Rattle.page_model.specs.Hands.{expire, sweep_of, sweep_to, sweep_by, hand_move, write_by, write_to, write_of}
+use Rattle.std.specs.Option.{is_some}
 use Rattle.page_model.specs.Serve.{force_entry, is_full, read_entry, read_entry_if, bring_entry_by, feed_entry_by, serve_entry_by, serve_entry}
 use Rattle.page_model.specs.Swapper.{put_out_unit}
 use Rattle.page_model.specs.Conditions.{CanEnter, IsShared}
@@ -28,7 +29,7 @@ use Rattle.page_laws.proofs.Moves.Parts.{run_some}
 use Rattle.page_laws.proofs.Swapper.PuttingOut.{unit_case, unit_can, not_full, run_some as put_some}
 use Rattle.page_laws.proofs.Ends.Serving.{in_flight, full_some}
 use Rattle.page_laws.proofs.Moves.Transfers.{entry_count, done_count, retire_count}
-use Rattle.run_model.specs.Next.{fill_by, fill_unit, writes_to, writes_of, begins_write, move_by, move_unit}
+use Rattle.run_model.specs.Next.{fill_by, fill_unit, begins_write, move_by, move_unit}
 use Rattle.run_laws.specs.Standing.{IsAllowed, EachOnce}
 
 -- Lists of what is due.
@@ -201,11 +202,11 @@ no_write p locked n = let k = ap length (expire_transfers p locked) in let h = o
     x : Placement
     x = expire p locked
 
-    by : (q : Page) (d : Bool) → d ≡ false → length (sweep_by x locked q d).transfers ≤ length x.transfers
+    by : (q : Page) (d : Bool) → is_some (write_by x locked q d) ≡ false → length (sweep_by x locked q d).transfers ≤ length x.transfers
     by q true e = absurd cc
     by q false e = let k = retire_count x q in omega arith
 
-    to : (q : Page) (s : PageState) (m : ℕ) (b : Bool) → writes_to x locked q s m b ≡ false → length (sweep_to x locked q s m b).transfers ≤ length x.transfers
+    to : (q : Page) (s : PageState) (m : ℕ) (b : Bool) → is_some (write_to x locked q s m b) ≡ false → length (sweep_to x locked q s m b).transfers ≤ length x.transfers
     to q (Invalid f) zero false e = by q (is_dirty x q) e
     to q (Invalid f) zero true e = omega arith
     to q (Invalid f) (suc m) b e = omega arith
@@ -215,7 +216,7 @@ no_write p locked n = let k = ap length (expire_transfers p locked) in let h = o
     to q (Going f) m b e = omega arith
     to q OnSwap m b e = omega arith
 
-    of : (f : ℕ) (h : Option Page) → writes_of x locked f h ≡ false → length (sweep_of x locked f h).transfers ≤ length x.transfers
+    of : (f : ℕ) (h : Option Page) → is_some (write_of x locked f h) ≡ false → length (sweep_of x locked f h).transfers ≤ length x.transfers
     of f None e = omega arith
     of f (Some q) e = to q (state_of x q) (times f x.free) (is_among q locked) e
 

@@ -1,6 +1,7 @@
 -- The written policy: which unit comes next of all.
 use Rattle.std.specs.Prelude.{ℕ, zero, ◌+◌, ◌-◌, ◌==◌, Bool, true, false, not, ◌&&◌, nat_lt, List, [], ◌∷◌, find, length, Option, Some, None}
 use Rattle.flat_state.specs.Flat.{Process, FlatState, Inputs, process_of, can_step, is_ready}
+use Rattle.std.specs.Option.{is_some}
 use Rattle.vm_facts.specs.declared.page.Page.{Page}
 use Rattle.vm_facts.specs.declared.page.PageState.{PageState}
 use Rattle.vm_facts.specs.declared.page.PageState.TheVariants.{Invalid}
@@ -11,7 +12,7 @@ use Rattle.flat_state.specs.PageNames.{is_among}
 use Rattle.page_model.specs.Frames.{times}
 use Rattle.page_model.specs.Placement.{Placement, Due, Start, CopyOf, state_of, is_dirty, page_of, parts_of}
 use Rattle.page_model.specs.Place.{space_of_process}
-use Rattle.page_model.specs.Hands.{expire, wants_moves}
+use Rattle.page_model.specs.Hands.{hand_run, wants_moves}
 use Rattle.page_model.specs.Serve.{force_entry, is_full, serve_unit}
 use Rattle.page_model.specs.Swapper.{is_out, put_out_unit}
 use Rattle.run_model.specs.declared.mark.Mark.{Mark}
@@ -76,17 +77,9 @@ turn_instructions = 1000
 
 -- Moves of the hands.
 
-abbrev pub writes_to : Placement → List Page → Page → PageState → ℕ → Bool → Bool
-writes_to p pages q (Invalid f) zero false = is_dirty p q
-writes_to p pages q _ _ _ = false
-
-abbrev pub writes_of : Placement → List Page → ℕ → Option Page → Bool
-writes_of p pages f None = false
-writes_of p pages f (Some q) = writes_to p pages q (state_of p q) (times f p.free) (is_among q pages)
-
--- the back hand would take a dirty page, behind the front hand
+-- the next move would begin a write
 abbrev pub begins_write : Placement → List Page → Bool
-begins_write p pages = writes_of (expire p pages) pages (expire p pages).back (page_of (expire p pages) (expire p pages).back)
+begins_write p pages = is_some (hand_run p pages)
 
 abbrev pub move_by : Bool → Entry
 move_by true = entries.Done
@@ -102,11 +95,14 @@ abbrev pub blocks_held : Holdings → ℕ
 blocks_held [] = 0
 blocks_held (h ∷ hs) = h.length + blocks_held hs
 
--- frames free, in use off the free list, and in transfers, and blocks held
+-- the frames that are free, in use off the free list, and in transfers, and the blocks that are held
+abbrev pub owners_of : Placement → Holdings → Entry
+owners_of p hs =
+    entries.Owners (length p.free) (length p.holds - (length p.free + length (parts_of p.transfers))) (length (parts_of p.transfers))
+    (blocks_held hs)
+
 abbrev pub owners_entry : State → Entry
-owners_entry s =
-    entries.Owners (length s.place.free) (length s.place.holds - (length s.place.free + length (parts_of s.place.transfers)))
-    (length (parts_of s.place.transfers)) (blocks_held s.holdings)
+owners_entry s = owners_of s.place s.holdings
 
 -- The last mark.
 
