@@ -12,7 +12,7 @@ use Rattle.user_vax.specs.declared.operand.Place.{Place}
 use Rattle.user_vax.specs.Program.{Program, Gives, Refuses, ◌>>=◌}
 use Rattle.user_vax.specs.Operands.{register, with_register, past, back}
 use Rattle.user_vax.specs.Effects.{Effect, registers_only, result_effect, push_effect, count_effect, entry_effect, division, pop, pop_into, subroutine_return}
-use Rattle.user_vax.specs.Frames.{procedure_call, procedure_return, unwound, with_state_codes}
+use Rattle.user_vax.specs.Frames.{procedure_call, procedure_return, registers_returned, unwound, with_state_codes}
 use Rattle.user_vax.specs.Computation.{computation}
 use Rattle.touch_laws.proofs.Cover.{Yields, yields_bind, yields_any, Covered, covered_more, covered_gives, covered_refuses}
 use Rattle.touch_laws.proofs.Stack.{sp, MayPush, may_push, may_push_again, IsLight, plain_light, store_light, push_light, return_covered, subroutine_covered, call_covered, call_light}
@@ -45,13 +45,7 @@ division_modest regs place dividend divisor = go (divisor == 0)
 
 return_light : (regs : Regs) → Yields IsLight (procedure_return regs)
 unfolding procedure_return
-return_light regs =
-    let popping : Regs = with_register regs 14 (past (register regs 13) 4) in
-    yields_bind (λ _. Unit {0}) IsLight (pop popping) _ (yields_any (pop popping)) (λ state _. go state.0 state.1 (state.1 / 2 ^ 4 % 2 ^ 12 == 0))
-  where
-    go : (after : Regs) (state : ℕ) (b : Bool) → Yields IsLight (cond b (unwound state after >>= λ last. Gives (registers_only (with_state_codes last state))) (Refuses 4))
-    go after state true = yields_bind (λ _. Unit {0}) IsLight (unwound state after) _ (yields_any (unwound state after)) (λ last _. plain_light (with_state_codes last state))
-    go after state false = tt
+return_light regs = yields_bind (λ _. Unit {0}) IsLight (registers_returned regs) _ (yields_any (registers_returned regs)) (λ last _. plain_light last)
 
 subroutine_light : (regs : Regs) → Yields IsLight (subroutine_return regs)
 unfolding subroutine_return

@@ -9,7 +9,7 @@ use Rattle.user_vax.specs.declared.operand.Place.TheVariants as places
 use Rattle.user_vax.specs.Program.{Gives, Refuses, ◌>>=◌}
 use Rattle.user_vax.specs.Operands.{register, with_register, past, back, number_at}
 use Rattle.user_vax.specs.Effects.{Effect, registers_only, bytes_at, store_effect, push_onto, push_effect, pop, pop_into, subroutine_return}
-use Rattle.user_vax.specs.Frames.{bit, push_all, saved, frame, with_aligned_stack, with_frame, procedure_entry, procedure_call, restored, linkage, with_raised_stack, arguments_dropped, unwound, with_state_codes, procedure_return}
+use Rattle.user_vax.specs.Frames.{bit, push_all, saved, frame, with_aligned_stack, with_frame, procedure_entry, procedure_call, restored, linkage, with_raised_stack, arguments_dropped, unwound, with_state_codes, procedure_return, registers_returned}
 use Rattle.user_vax.specs.Instruction.{write_tests}
 use Rattle.touch_laws.proofs.Near.{IsAt, at_self, at_past, at_more, IsFrom, from_back, from_less, from_pushed, at_pushed, from_aligned}
 use Rattle.touch_laws.proofs.Cover.{Within, within_bind, Yields, yields_bind, yields_any, Covered, within_one, covered_rebased, covered_gives, covered_refuses, covered_bind, covered_behind}
@@ -80,17 +80,21 @@ unwound_covered memory start state regs h =
     dropped_covered memory start (bit state 29) (with_raised_stack with_saved (state / 2 ^ 30))))
 
 -- what RET reads: the frame, and the count of the argument list
-pub return_covered : (memory : Answers) (base : ℕ) (regs : Regs) → Covered memory base 2 (procedure_return regs)
-unfolding procedure_return
-return_covered memory base regs =
+registers_covered : (memory : Answers) (base : ℕ) (regs : Regs) → Covered memory base 2 (registers_returned regs)
+unfolding registers_returned
+registers_covered memory base regs =
     let popping : Regs = with_register regs 14 (past (register regs 13) 4) in
-    covered_rebased memory base (sp popping) 1 (procedure_return regs)
+    covered_rebased memory base (sp popping) 1 (registers_returned regs)
     (covered_behind memory (sp popping) 1 (λ (r : Regs × ℕ). IsAt (sp popping) 4 (sp r.0)) (pop popping) _ (within_pop (sp popping) 0 popping (at_self (sp popping)) (omega arith)) (λ state k.
     go (sp popping) state.0 state.1 k (state.1 / 2 ^ 4 % 2 ^ 12 == 0)))
   where
-    go : (start : ℕ) (after : Regs) (state : ℕ) → IsAt start 4 (sp after) → (b : Bool) → Covered memory start 1 (cond b (unwound state after >>= λ last. Gives (registers_only (with_state_codes last state))) (Refuses 4))
+    go : (start : ℕ) (after : Regs) (state : ℕ) → IsAt start 4 (sp after) → (b : Bool) → Covered memory start 1 (cond b (unwound state after >>= λ last. Gives (with_state_codes last state)) (Refuses 4))
     go start after state k true = covered_bind memory start 1 0 (unwound state after) _ (unwound_covered memory start state after k) (λ last e. covered_gives memory start 0 _)
     go start after state k false = covered_refuses memory start 1 4
+
+pub return_covered : (memory : Answers) (base : ℕ) (regs : Regs) → Covered memory base 2 (procedure_return regs)
+unfolding procedure_return
+return_covered memory base regs = covered_bind memory base 2 0 (registers_returned regs) _ (registers_covered memory base regs) (λ last e. covered_gives memory base 0 _)
 
 pub subroutine_covered : (memory : Answers) (base : ℕ) (regs : Regs) → Covered memory base 1 (subroutine_return regs)
 unfolding subroutine_return
