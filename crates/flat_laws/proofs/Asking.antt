@@ -20,10 +20,9 @@ use Rattle.kernel_model.specs.Coupled.{SameTables, Fits, text_of}
 use Rattle.kernel_model.specs.Sound.{TextFits}
 use Rattle.kernel_model.specs.ChangeStep.{space_of_life, life_of_proc}
 use Rattle.flat_state.specs.Numbers.{IsAbsent, AllDistinct, IsNumbered}
-use Rattle.kernel_model.specs.Numbers.{AllDiffer, Numbered}
+use Rattle.kernel_model.specs.Numbers.{Numbered}
 use Rattle.kernel_model.specs.Start.{ImagesFit}
 use Rattle.kernel_model.specs.Asks.{text_asked, image_asked, change_asks, asked}
-use Rattle.page_model.specs.Frames.{times}
 use Rattle.page_laws.proofs.Lists.Local.{none_some, some_is}
 use Rattle.kernel_laws.proofs.Flat.Numbered.{eq_is, eq_self, hit, miss, absent_none}
 use Rattle.kernel_laws.proofs.Flat.Lists.{sid_of, held, held_at, held_own}
@@ -88,19 +87,6 @@ some_found number image m n (y ∷ ys) x e i = go (number y == m) e (λ k. some_
     go true k later = ap (λ (b : Bool). cond b true (is_some_of image n ys)) (ap (λ (j : ℕ). j == n) (ap image (some_is y x k) ∙ i) ∙ eq_self n)
     go false k later = ap (λ (b : Bool). cond (image y == n) true b) (later k) ∙ or_true (image y == n)
 
--- numbers that don't stand twice are distinct
-none_is_absent : (n : ℕ) (ms : List ℕ) → times n ms ≡ 0 → IsAbsent n ms
-none_is_absent n [] e = tt
-none_is_absent n (m ∷ ms) e = go (m == n) refl e (none_is_absent n ms)
-  where
-    go : (b : Bool) → (m == n) ≡ b → cond b 1 0 + times n ms ≡ 0 → (times n ms ≡ 0 → IsAbsent n ms) → IsAbsent n (m ∷ ms)
-    go true i k later = absurd (omega (arith, k))
-    go false i k later = ((λ same. absurd (let h : true ≡ false = sym (eq_self n) ∙ sym (ap (λ (j : ℕ). j == n) same) ∙ i in cc)), later (omega (arith, k)))
-
-pub differ_distinct : (ms : List ℕ) → AllDiffer ms → AllDistinct ms
-differ_distinct [] d = tt
-differ_distinct (m ∷ ms) d = (none_is_absent m ms d.0, differ_distinct ms d.1)
-
 -- a space of the flat state holds the image
 shared_by_held : (image : ℕ) (ps : List Process) → is_there (find (λ q. has_image image q.holding) ps) ≡ is_some_of image_of_space image (held ps)
 shared_by_held image [] = refl
@@ -161,7 +147,7 @@ some_sharers image n (x ∷ xs) e = go (x.image == image) e (some_sharers image 
 
 -- the flat state shares an image where a space of the placement has it
 pub shared_same : (k : Kernel) (flat : FlatState) (image : ℕ) → Numbered k → IsNumbered flat → SameTables k flat → is_shared flat image ≡ is_some_of image_of_pages image k.place.spaces
-shared_same k flat image c n t = shared_by_held image flat.processes ∙ same_images (held flat.processes) k.place.spaces image n.sids (differ_distinct (map space_number k.place.spaces) c.spaces_differ) (all_fit k flat t)
+shared_same k flat image c n t = shared_by_held image flat.processes ∙ same_images (held flat.processes) k.place.spaces image n.sids c.spaces_differ (all_fit k flat t)
 
 -- Pieces.
 

@@ -3,3 +3,5 @@ pub mod Borrowed
 pub mod Changes
 pub mod Units
 pub mod Waiting
+pub mod Starts
+pub mod Allowed

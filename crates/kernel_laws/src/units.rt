@@ -1,19 +1,23 @@
 ghost use Rattle.std.specs.Prelude.{◌≡◌, ℕ, List};
-ghost use Rattle.flat_state.specs.Flat.{NamedImage};
+ghost use Rattle.swap_book.specs.Holdings.{Holdings};
+ghost use Rattle.flat_state.specs.Flat.{NamedImage, Inputs};
 ghost use Rattle.flat_state.specs.declared.change.Change.{Change as AnyChange};
+ghost use Rattle.page_model.specs.Placement.{Starting};
 ghost use Rattle.kernel_model.specs.Kernel.{Kernel, image_after, done_step};
 ghost use Rattle.kernel_model.specs.Coupled.{Coupled};
 ghost use Rattle.kernel_model.specs.Sound.{Sound};
 ghost use Rattle.kernel_model.specs.Start.{ImagesFit};
 ghost use Rattle.kernel_model.specs.Asks.{asked};
 ghost use Rattle.kernel_model.specs.Unit.{KernelUnit, KernelState, with_found, state_after, states_after};
-ghost use Rattle.kernel_model.specs.Invariant.{Invariant, May, MayAll};
+ghost use Rattle.kernel_model.specs.Invariant.{Invariant, May, MayAll, CanStart, started};
 
-/// All that is so of the kernel between two units is so after each unit that it may make, and after each list of units,
-/// one after another: each frame and each block of swap has one owner, no two numbers are one, what is due waits to be
+/// All that is so of the kernel between two units is so at the start of a run, after each unit that it may make, and after
+/// each list of units, one after another: each frame and each block of swap has one owner, no two numbers are one, what is due waits to be
 /// filled, and the kernel's frames, its files and its swap image stand for the flat state, which changes by what processes
 /// do and by nothing else. It is so too while pieces that were found wait for the change that takes them.
 pub fn machine_kept()
+    ensures start { (A : Inputs) (first : List Starting) (hs : Holdings) (frames : List (List ℕ)) (image : List ℕ)
+        → CanStart A first hs frames image → Invariant A.swap_blocks A.images (started A first hs frames image) }
     ensures unit { (size : ℕ) (images : List NamedImage) (m : KernelState) (u : KernelUnit) → ImagesFit images
         → Invariant size images m → May size images m u → Invariant size images (state_after images m u) }
     ensures units { (size : ℕ) (images : List NamedImage) (us : List KernelUnit) (m : KernelState) → ImagesFit images

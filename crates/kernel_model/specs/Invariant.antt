@@ -1,12 +1,12 @@
 -- All that is so of a kernel between two units, and what each unit asks.
-use Rattle.std.specs.Prelude.{◌≡◌, ℕ, ◌*◌, ◌<◌, ◌≤◌, true, false, List, [], ◌∷◌, length, Option, Some, Ok}
+use Rattle.std.specs.Prelude.{◌≡◌, ℕ, ◌*◌, ◌<◌, ◌≤◌, true, false, List, [], ◌∷◌, length, map, Option, Some, Ok}
 use Rattle.vm_facts.specs.Answers.{ByteWrite}
 use Rattle.vm_facts.specs.declared.page.Page.{Page}
 use Rattle.vm_facts.specs.declared.page.PageState.TheVariants.{Unfilled, Valid}
 use Rattle.swap_book.specs.Holdings.{Holdings}
 use Rattle.swap_book.specs.Placing.{Wanted, place_all}
 use Rattle.flat_state.specs.Space.{Space, address_in}
-use Rattle.flat_state.specs.Flat.{Holds, Process, FlatState, NamedImage, process_of, image_numbered}
+use Rattle.flat_state.specs.Flat.{Holds, Process, FlatState, NamedImage, Inputs, process_of, image_numbered, start_state}
 use Rattle.flat_state.specs.Numbers.{IsNumbered}
 use Rattle.flat_state.specs.Lenders.{LendsStand}
 use Rattle.flat_state.specs.Writes.{IsByteOf}
@@ -15,7 +15,7 @@ use Rattle.flat_state.specs.Change.{NamesChild}
 use Rattle.flat_state.specs.declared.change.Change.{Change}
 use Rattle.flat_state.specs.declared.change.Change.TheVariants.{Exec}
 use Rattle.page_model.specs.Pages.{Zeros}
-use Rattle.page_model.specs.Placement.{Placement, Due, CopyOf, IsThere, due_at, state_of, filling_of}
+use Rattle.page_model.specs.Placement.{Placement, Due, CopyOf, Starting, IsThere, due_at, state_of, filling_of, start_placement}
 use Rattle.page_model.specs.Hands.{hand_move}
 use Rattle.page_model.specs.Place.{due_after, put_step}
 use Rattle.page_model.specs.Serve.{source_for}
@@ -29,7 +29,8 @@ use Rattle.kernel_model.specs.Coupled.{Coupled, AreRead, beside_kernel}
 use Rattle.kernel_model.specs.Sound.{Sound}
 use Rattle.kernel_model.specs.Stands.{Stands}
 use Rattle.kernel_model.specs.Numbers.{Numbered, ReadySpace}
-use Rattle.kernel_model.specs.Asks.{asked}
+use Rattle.kernel_model.specs.Asks.{asked, start_asks}
+use Rattle.kernel_model.specs.Start.{AreStarting, ImagesFit, start_kernel}
 use Rattle.kernel_model.specs.Unit.{KernelUnit, ZeroUnit, CopyUnit, GetUnit, ReclaimUnit, HandsUnit, PutUnit, DoneUnit, WriteUnit, NoteUnit, RanUnit, FindUnit, ChangeUnit, OutUnit, InUnit, KernelState, has_lender, state_after}
 
 -- some pieces were found, one after another, that lead from these holdings to those
@@ -170,3 +171,19 @@ May size images m (InUnit pid) = MayReturn m.kernel m.flat pid
 abbrev pub MayAll : ℕ → List NamedImage → KernelState → List KernelUnit → Type 0
 MayAll size images m [] = Unit {0}
 MayAll size images m (u ∷ us) = May size images m u × MayAll size images (state_after images m u) us
+
+-- The start.
+
+-- the kernel at the start of a run, with these holdings, bytes in the frames and swap image
+abbrev pub started : Inputs → List Starting → Holdings → List (List ℕ) → List ℕ → KernelState
+started A first hs frames image = record { kernel = start_kernel A first hs frames; found = hs; image = image; flat = start_state A }
+
+-- Each first process starts in the image of its number, and each image is as long as its pages; there is a frame, and
+-- bytes for each; the swap image is long enough; and the first processes' pieces find their places one after another.
+pub record CanStart (A : Inputs) (first : List Starting) (hs : Holdings) (frames : List (List ℕ)) (image : List ℕ) : Type 0 where
+  pub images : ImagesFit A.images
+  pub starting : AreStarting A.images A.first first
+  pub some : 0 < A.frames
+  pub tokens : length frames ≡ A.frames
+  pub room : 512 * A.swap_blocks ≤ length image
+  pub pieces : place_all A.swap_blocks [] (start_asks (start_placement (map (λ (named : NamedImage). named.image.facts) A.images) first A.frames) [] 1 first) ≡ Ok hs

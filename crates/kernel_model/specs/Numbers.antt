@@ -1,8 +1,8 @@
 -- Numbers of spaces and of processes: no two are one, and those to come are larger than all.
-use Rattle.std.specs.Prelude.{◌≡◌, ℕ, ◌<◌, Bool, true, false, List, [], ◌∷◌, map}
+use Rattle.std.specs.Prelude.{◌≡◌, ℕ, Bool, true, false, map}
 use Rattle.flat_state.specs.declared.change.Change.{Change}
 use Rattle.flat_state.specs.declared.change.Change.TheVariants.{Resize, Fork, Lend, Exec, End}
-use Rattle.page_model.specs.Frames.{times}
+use Rattle.flat_state.specs.Numbers.{AllDistinct, AllBelow}
 use Rattle.page_model.specs.Pages.{numbered}
 use Rattle.page_model.specs.Placement.{Placement, space_number}
 use Rattle.page_model.specs.Conditions.{LosesPages}
@@ -13,19 +13,11 @@ use Rattle.kernel_model.specs.ChangeStep.{space_of_life, life_of_proc, gave_back
 use Rattle.kernel_model.specs.Taken.{MayReap}
 use Rattle.kernel_model.specs.Asks.{HasSpace}
 
-abbrev pub EachBelow : ℕ → List ℕ → Type 0
-EachBelow n [] = Unit {0}
-EachBelow n (m ∷ ms) = (m < n) × EachBelow n ms
-
-abbrev pub AllDiffer : List ℕ → Type 0
-AllDiffer [] = Unit {0}
-AllDiffer (m ∷ ms) = (times m ms ≡ 0) × AllDiffer ms
-
 pub record Numbered (k : Kernel) : Type 0 where
-  pub spaces_differ : AllDiffer (map space_number k.place.spaces)
-  pub spaces_below : EachBelow k.next_sid (map space_number k.place.spaces)
-  pub pids_differ : AllDiffer (map (λ (p : Proc). p.pid) k.processes)
-  pub pids_below : EachBelow k.next_pid (map (λ (p : Proc). p.pid) k.processes)
+  pub spaces_differ : AllDistinct (map space_number k.place.spaces)
+  pub spaces_below : AllBelow k.next_sid (map space_number k.place.spaces)
+  pub pids_differ : AllDistinct (map (λ (p : Proc). p.pid) k.processes)
+  pub pids_below : AllBelow k.next_pid (map (λ (p : Proc). p.pid) k.processes)
 
 -- a child has the next number
 abbrev pub TakesNext : Kernel → Change → Type 0

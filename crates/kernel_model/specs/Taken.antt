@@ -1,13 +1,11 @@
 -- What is so right before a change of a process: the pieces that it takes were found, and nothing was given back yet.
-use Rattle.std.specs.Prelude.{◌≡◌, ℕ, ◌*◌, false, cond, List, [], ◌∷◌, ◌++◌, length, drop}
+use Rattle.std.specs.Prelude.{◌≡◌, ℕ, ◌*◌, false, cond, List, [], ◌∷◌, length, drop}
 use Rattle.vm_facts.specs.declared.page.Page.TheVariants.{Text}
 use Rattle.swap_dmap.specs.Chunks.{pieces}
 use Rattle.swap_book.specs.declared.Owner.{Owner}
 use Rattle.swap_book.specs.declared.Owner.TheVariants as owners
 use Rattle.swap_book.specs.Owners.{same_owner, u_pieces}
 use Rattle.swap_book.specs.Placing.{Wanted}
-use Rattle.swap_book.specs.Holdings.{lengths}
-use Rattle.swap_book.specs.Book.{IsBook}
 use Rattle.flat_state.specs.declared.change.Change.{Change}
 use Rattle.flat_state.specs.declared.change.Change.TheVariants.{Reap}
 use Rattle.flat_state.specs.Flat.{NamedImage}
@@ -26,11 +24,6 @@ needed k (owners.Data sid) = pieces (2 * data_count k.place sid)
 needed k (owners.Stack sid) = pieces (2 * stack_count k.place sid)
 needed k (owners.Text image) = text_pieces_while (sharers k.place image) (2 * length (slots_of k.place (Text image 0)))
 needed k (owners.U pid) = u_pieces (u_blocks (lives k.processes pid))
-
--- each owner holds what it needs in this machine, and behind that the further pieces that it needs in the next one
-pub record HasTaken (size : ℕ) (k next : Kernel) : Type 0 where
-  pub book : IsBook size k.holdings
-  pub taken : (owner : Owner) → lengths owner k.holdings ≡ needed k owner ++ drop (length (needed k owner)) (needed next owner)
 
 -- the lengths of an owner's pieces among those that are wanted
 abbrev pub wanted_lengths : Owner → List Wanted → List ℕ

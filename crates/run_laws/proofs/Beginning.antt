@@ -21,9 +21,9 @@ use Rattle.kernel_model.specs.Kernel.{Kernel, Proc}
 use Rattle.kernel_model.specs.Sound.{lives, lives_in, Sound}
 use Rattle.kernel_model.specs.Coupled.{SameTables, Coupled}
 use Rattle.kernel_model.specs.Asks.{text_asked, start_asks, is_started}
-use Rattle.kernel_model.specs.Numbers.{EachBelow, AllDiffer, Numbered}
+use Rattle.kernel_model.specs.Numbers.{Numbered}
 use Rattle.kernel_model.specs.Start.{kept_of, start_kernel, AreStarting, ImageFits, ImagesFit}
-use Rattle.flat_state.specs.Numbers.{IsAbsent, AllDistinct, AllBelow, IsNumbered}
+use Rattle.flat_state.specs.Numbers.{AllDistinct, AllBelow, IsNumbered}
 use Rattle.kernel_model.specs.Stands.{Stands}
 use Rattle.kernel_laws.proofs.Flat.Numbered.{not_eq}
 use Rattle.kernel_laws.proofs.Sound.Steps.{alive_owner}
@@ -121,18 +121,6 @@ started_lives images (m ∷ ns) pid n h =
 
 -- Numbers.
 
-absent_times : (n : ℕ) (ms : List ℕ) → IsAbsent n ms → times n ms ≡ 0
-absent_times n [] a = refl
-absent_times n (m ∷ ms) a = ap (λ (b : Bool). cond b 1 0 + times n ms) (not_eq m n a.0) ∙ (let h = absent_times n ms a.1 in let k : 0 + times n ms ≡ 0 = omega arith in k)
-
-distinct_differ : (ms : List ℕ) → AllDistinct ms → AllDiffer ms
-distinct_differ [] d = tt
-distinct_differ (m ∷ ms) d = (absent_times m ms d.0, distinct_differ ms d.1)
-
-below_each : (n : ℕ) (ms : List ℕ) → AllBelow n ms → EachBelow n ms
-below_each n [] b = tt
-below_each n (m ∷ ms) b = (b.0, below_each n ms b.1)
-
 kept_pids : (ps : List Process) → map (λ (p : Proc). p.pid) (map kept_of ps) ≡ map (λ (p : Process). p.pid) ps
 kept_pids [] = refl
 kept_pids (p ∷ ps) = ap (λ (l : List ℕ). p.pid ∷ l) (kept_pids ps)
@@ -214,7 +202,7 @@ run_start A hs images there some found = record {
     numbers : Numbered k
     numbers = record {
       spaces_differ = (start_numbers facts first A.frames).0;
-      spaces_below = subst (λ (m : ℕ). EachBelow m (map Rattle.page_model.specs.Placement.space_number p.spaces)) (let e = started_count A.images A.first there in let z : 1 + length first ≡ length A.first + 1 = omega arith in z) (start_numbers facts first A.frames).1;
-      pids_differ = subst AllDiffer (sym (kept_pids (start_state A).processes)) (distinct_differ (map (λ (q : Process). q.pid) (start_state A).processes) n.pids);
-      pids_below = subst (EachBelow (start_state A).next_pid) (sym (kept_pids (start_state A).processes)) (below_each (start_state A).next_pid (map (λ (q : Process). q.pid) (start_state A).processes) n.pids_below);
+      spaces_below = subst (λ (m : ℕ). AllBelow m (map Rattle.page_model.specs.Placement.space_number p.spaces)) (let e = started_count A.images A.first there in let z : 1 + length first ≡ length A.first + 1 = omega arith in z) (start_numbers facts first A.frames).1;
+      pids_differ = subst AllDistinct (sym (kept_pids (start_state A).processes)) n.pids;
+      pids_below = subst (AllBelow (start_state A).next_pid) (sym (kept_pids (start_state A).processes)) n.pids_below;
     }

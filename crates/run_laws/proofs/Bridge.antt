@@ -10,7 +10,8 @@ use Rattle.kernel_model.specs.Kernel.{Kernel, Proc}
 use Rattle.kernel_model.specs.Coupled.{Outline, outline_of, outline_kept, SameTables}
 use Rattle.kernel_model.specs.Sound.{has_life, lives_in, lives, Sound}
 use Rattle.kernel_model.specs.Start.{kept_of}
-use Rattle.kernel_model.specs.Numbers.{EachBelow, AllDiffer, Numbered}
+use Rattle.flat_state.specs.Numbers.{AllBelow, AllDistinct}
+use Rattle.kernel_model.specs.Numbers.{Numbered}
 use Rattle.kernel_model.specs.Stands.{Stands}
 use Rattle.kernel_laws.proofs.Sound.Steps.{alive_owner}
 use Rattle.kernel_laws.proofs.Flat.Numbered.{image_by, numbered_image}
@@ -52,9 +53,9 @@ from_machine A flat k so n t st d o h f =
       sound = bare_sound A.swap_blocks flat k.place k.holdings (alive_owner A.swap_blocks (lives k.processes) (lives (map kept_of flat.processes)) k.place k.holdings (lives_same (map kept_of flat.processes) k.processes e) w) so.hands so.few_transfers;
       numbered = record {
         spaces_differ = n.spaces_differ;
-        spaces_below = subst (λ (m : ℕ). EachBelow m (map Rattle.page_model.specs.Placement.space_number k.place.spaces)) t.next_sid n.spaces_below;
-        pids_differ = subst AllDiffer (sym p) n.pids_differ;
-        pids_below = subst (λ (m : ℕ). EachBelow m (map (λ (x : Proc). x.pid) (map kept_of flat.processes))) t.next_pid (subst (EachBelow k.next_pid) (sym p) n.pids_below);
+        spaces_below = subst (λ (m : ℕ). AllBelow m (map Rattle.page_model.specs.Placement.space_number k.place.spaces)) t.next_sid n.spaces_below;
+        pids_differ = subst AllDistinct (sym p) n.pids_differ;
+        pids_below = subst (λ (m : ℕ). AllBelow m (map (λ (x : Proc). x.pid) (map kept_of flat.processes))) t.next_pid (subst (AllBelow k.next_pid) (sym p) n.pids_below);
       };
       tables = tables_of (machine_of flat k.place k.holdings) flat (kept_outlines flat.processes) refl refl t.spaces;
       stands = record { starts = λ q e. refl; texts = st.texts; out = st.out };

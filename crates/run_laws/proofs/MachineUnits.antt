@@ -25,7 +25,8 @@ use Rattle.kernel_model.specs.UPage.{AreRegs, u_page, regs_in}
 use Rattle.page_model.specs.Stored.{stored_at, store_at}
 use Rattle.kernel_model.specs.ChangeStep.{space_of_life}
 use Rattle.kernel_model.specs.Start.{ImagesFit, kept_of}
-use Rattle.kernel_model.specs.Numbers.{EachBelow, AllDiffer, Numbered}
+use Rattle.flat_state.specs.Numbers.{AllBelow, AllDistinct}
+use Rattle.kernel_model.specs.Numbers.{Numbered}
 use Rattle.kernel_model.specs.Stands.{Stands, holds_some}
 use Rattle.page_laws.proofs.Lists.Local.{some_is}
 use Rattle.page_laws.proofs.Blocks.Places.{length_put}
@@ -81,9 +82,9 @@ numbered_of A flat k st t =
     let p : map (λ (x : Proc). x.pid) (map kept_of flat.processes) ≡ map (λ (x : Proc). x.pid) k.processes = kept_numbers flat.processes ∙ sym (pids_same k.processes flat.processes t.processes) in
     record {
       spaces_differ = n.spaces_differ;
-      spaces_below = subst (λ (m : ℕ). EachBelow m (map space_number k.place.spaces)) (sym t.next_sid) n.spaces_below;
-      pids_differ = subst AllDiffer p n.pids_differ;
-      pids_below = subst (EachBelow k.next_pid) p (subst (λ (m : ℕ). EachBelow m (map (λ (x : Proc). x.pid) (map kept_of flat.processes))) (sym t.next_pid) n.pids_below);
+      spaces_below = subst (λ (m : ℕ). AllBelow m (map space_number k.place.spaces)) (sym t.next_sid) n.spaces_below;
+      pids_differ = subst AllDistinct p n.pids_differ;
+      pids_below = subst (AllBelow k.next_pid) p (subst (λ (m : ℕ). AllBelow m (map (λ (x : Proc). x.pid) (map kept_of flat.processes))) (sym t.next_pid) n.pids_below);
     }
 
 -- a machine with the placement and the holdings of a state

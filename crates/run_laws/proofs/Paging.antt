@@ -19,7 +19,8 @@ use Rattle.page_model.specs.Ownership.{OwnsFrames, OneOwner}
 use Rattle.kernel_model.specs.Sound.{Sound, lives}
 use Rattle.kernel_model.specs.Coupled.{SameTables}
 use Rattle.page_model.specs.Rank.{HandsStand}
-use Rattle.kernel_model.specs.Numbers.{EachBelow, AllDiffer, Numbered}
+use Rattle.flat_state.specs.Numbers.{AllBelow, AllDistinct}
+use Rattle.kernel_model.specs.Numbers.{Numbered}
 use Rattle.kernel_model.specs.Stands.{Stands, holds_some}
 use Rattle.kernel_laws.proofs.Flat.Numbered.{eq_is}
 use Rattle.page_laws.proofs.Moves.KeptHands.{KeepsHands, entry_keep}
@@ -178,8 +179,8 @@ entry_placed A flat locked at p hs e a l leaves s =
     record {
       sound = bare_sound A.swap_blocks flat (place_entry locked at p e) hs (place_entry_one A.swap_blocks (lives (machine_of flat p hs).processes) hs locked at p e o a.can a.shared) (k.stand so.hands) l;
       numbered = record {
-        spaces_differ = subst AllDiffer (sym (entry_numbers locked at p e)) n.spaces_differ;
-        spaces_below = subst (EachBelow flat.next_sid) (sym (entry_numbers locked at p e)) n.spaces_below;
+        spaces_differ = subst AllDistinct (sym (entry_numbers locked at p e)) n.spaces_differ;
+        spaces_below = subst (AllBelow flat.next_sid) (sym (entry_numbers locked at p e)) n.spaces_below;
         pids_differ = n.pids_differ;
         pids_below = n.pids_below;
       };

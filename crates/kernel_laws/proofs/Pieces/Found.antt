@@ -27,10 +27,10 @@ use Rattle.flat_state.specs.Journal.{append}
 use Rattle.kernel_model.specs.Kernel.{Kernel, Proc}
 use Rattle.kernel_model.specs.Sound.{Sound, lives}
 use Rattle.kernel_model.specs.ChangeStep.{space_of_life, gave_back, change_if, change_step}
-use Rattle.kernel_model.specs.Taken.{needed, HasTaken, wanted_lengths, AsksFor, MayChange}
+use Rattle.kernel_model.specs.Taken.{needed, wanted_lengths, AsksFor, MayChange}
 use Rattle.kernel_laws.proofs.Pieces.GivenBack.{AreApart, both_pieces, both_while, both_u, while_of}
 use Rattle.kernel_laws.proofs.Pieces.Sizes.{change_texts}
-use Rattle.kernel_laws.proofs.Sound.Changes.{flat_sound}
+use Rattle.kernel_laws.proofs.Sound.Changes.{HasTaken, flat_sound}
 
 -- Pieces that are added are apart.
 

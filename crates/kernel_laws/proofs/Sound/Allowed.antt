@@ -11,7 +11,6 @@ use Rattle.flat_state.specs.declared.change.Change.{Change}
 use Rattle.flat_state.specs.declared.change.Change.TheVariants.{Keep, Resize, Fork, Lend, Exec, Reap, Sleep, End}
 use Rattle.flat_state.specs.Flat.{NamedImage, image_numbered}
 use Rattle.page_model.specs.Pages.{SpacePages, numbered}
-use Rattle.page_model.specs.Frames.{times}
 use Rattle.page_model.specs.Placement.{Placement, Starting, space_number, spaces_from, state_of, sharers, sharers_in, image_of, image_in, parts_of, new_pages, start_placement}
 use Rattle.page_model.specs.Place.{enter_space, enter_image}
 use Rattle.page_model.specs.Conditions.{AtRest, IsNew, CanChange, HasImage, CanForget, MayForget}
@@ -22,7 +21,9 @@ use Rattle.kernel_model.specs.Sound.{Sound, lives}
 use Rattle.kernel_model.specs.ChangeStep.{space_of_life, life_of_proc, gave_back, change_step}
 use Rattle.kernel_model.specs.Taken.{MayChange}
 use Rattle.kernel_model.specs.Asks.{HasSpace, IsUnused, OneEach, MayAsk, asked, WantsThese}
-use Rattle.kernel_model.specs.Numbers.{EachBelow, AllDiffer, Numbered, TakesNext, ReadySpace, ReadyFor}
+use Rattle.flat_state.specs.Numbers.{IsAbsent, AllDistinct, AllBelow}
+use Rattle.kernel_laws.proofs.Flat.Numbered.{absent_none, below_absent}
+use Rattle.kernel_model.specs.Numbers.{Numbered, TakesNext, ReadySpace, ReadyFor}
 use Rattle.page_laws.proofs.Lists.Runs.{and_both}
 use Rattle.page_laws.proofs.Ownership.Changes.{added_other}
 use Rattle.page_laws.proofs.Blocks.Changes.{rest_of}
@@ -42,51 +43,33 @@ same_is a b e = grind (arith, nat_tests)
 
 -- Numbers that nobody has.
 
-below_none : {A : Type 0} (number : A → ℕ) (n : ℕ) (xs : List A) → EachBelow n (map number xs) → numbered number n xs ≡ None
-below_none number n [] b = refl
-below_none {A} number n (x ∷ xs) b = ap (λ (c : Bool). cond c (Some x) (numbered number n xs)) (differs (number x) n (λ e. absurd (let l = b.0 in omega arith))) ∙ below_none number n xs b.1
-
--- how often a number stands in a list with one more
-head_times : (b : Bool) (n : ℕ) → cond b 1 0 + n ≡ 0 → (b ≡ false) × (n ≡ 0)
-head_times true n e = absurd (omega arith)
-head_times false n e = (refl, omega arith)
-
-absent_none : {A : Type 0} (number : A → ℕ) (n : ℕ) (xs : List A) → times n (map number xs) ≡ 0 → numbered number n xs ≡ None
-absent_none number n [] e = refl
-absent_none {A} number n (x ∷ xs) e =
-    let h = head_times (number x == n) (times n (map number xs)) e in
-    ap (λ (c : Bool). cond c (Some x) (numbered number n xs)) h.0 ∙ absent_none number n xs h.1
-
-one_each : (ps : List Proc) → AllDiffer (map (λ (p : Proc). p.pid) ps) → OneEach ps
+one_each : (ps : List Proc) → AllDistinct (map (λ (p : Proc). p.pid) ps) → OneEach ps
 one_each [] d = tt
 one_each (p ∷ ps) d = (absent_none (λ (q : Proc). q.pid) p.pid ps d.0, one_each ps d.1)
 
 -- The image of a space.
 
-absent_image : (sid image : ℕ) (ss : List SpacePages) → times sid (map space_number ss) ≡ 0 → HasImage sid image ss
+absent_image : (sid image : ℕ) (ss : List SpacePages) → IsAbsent sid (map space_number ss) → HasImage sid image ss
 absent_image sid image [] e = tt
-absent_image sid image (s ∷ ss) e =
-    let h = head_times (space_number s == sid) (times sid (map space_number ss)) e in
-    ((λ k. absurd (let z : true ≡ false = sym (same_is s.sid sid k) ∙ h.0 in cc)), absent_image sid image ss h.1)
+absent_image sid image (s ∷ ss) e = ((λ k. absurd (e.0 k)), absent_image sid image ss e.1)
 
-has_image : (sid : ℕ) (ss : List SpacePages) → AllDiffer (map space_number ss) → HasImage sid (image_in (numbered space_number sid ss)) ss
+has_image : (sid : ℕ) (ss : List SpacePages) → AllDistinct (map space_number ss) → HasImage sid (image_in (numbered space_number sid ss)) ss
 has_image sid [] d = tt
 has_image sid (s ∷ ss) d = go (s.sid == sid) refl (has_image sid ss d.1)
   where
     go : (b : Bool) → (s.sid == sid) ≡ b → HasImage sid (image_in (numbered space_number sid ss)) ss → HasImage sid (image_in (cond b (Some s) (numbered space_number sid ss))) (s ∷ ss)
-    go true e ih = ((λ k. refl), absent_image sid s.image ss (subst (λ (n : ℕ). times n (map space_number ss) ≡ 0) (equal s.sid sid e) d.0))
+    go true e ih = ((λ k. refl), absent_image sid s.image ss (subst (λ (n : ℕ). IsAbsent n (map space_number ss)) (equal s.sid sid e) d.0))
     go false e ih = ((λ k. absurd (let z : true ≡ false = sym (same_is s.sid sid k) ∙ e in cc)), ih)
 
 -- The sharers that are left.
 
-absent_rest : (sid j : ℕ) (ss : List SpacePages) → times sid (map space_number ss) ≡ 0 → sharers_in j (rest_of sid ss) ≡ sharers_in j ss
+absent_rest : (sid j : ℕ) (ss : List SpacePages) → IsAbsent sid (map space_number ss) → sharers_in j (rest_of sid ss) ≡ sharers_in j ss
 absent_rest sid j [] e = refl
 absent_rest sid j (s ∷ ss) e =
-    let h = head_times (space_number s == sid) (times sid (map space_number ss)) e in
-    ap (λ (b : Bool). sharers_in j (cond (not b) (s ∷ rest_of sid ss) (rest_of sid ss))) h.0 ∙ ap (λ (n : ℕ). cond (s.image == j) 1 0 + n) (absent_rest sid j ss h.1)
+    ap (λ (b : Bool). sharers_in j (cond (not b) (s ∷ rest_of sid ss) (rest_of sid ss))) (differs s.sid sid e.0) ∙ ap (λ (n : ℕ). cond (s.image == j) 1 0 + n) (absent_rest sid j ss e.1)
 
 -- a space that is there is one sharer of its image
-one_more : (sid : ℕ) (ss : List SpacePages) → AllDiffer (map space_number ss) → numbered space_number sid ss ≢ None
+one_more : (sid : ℕ) (ss : List SpacePages) → AllDistinct (map space_number ss) → numbered space_number sid ss ≢ None
     → sharers_in (image_in (numbered space_number sid ss)) ss ≡ 1 + sharers_in (image_in (numbered space_number sid ss)) (rest_of sid ss)
 one_more sid [] d n = absurd (n refl)
 one_more sid (s ∷ ss) d n = go (s.sid == sid) refl n (one_more sid ss d.1)
@@ -103,11 +86,11 @@ one_more sid (s ∷ ss) d n = go (s.sid == sid) refl n (one_more sid ss d.1)
         → ((numbered space_number sid ss ≢ None) → sharers_in (image_in (numbered space_number sid ss)) ss ≡ 1 + sharers_in (image_in (numbered space_number sid ss)) (rest_of sid ss))
         → sharers_in (image_in (cond b (Some s) (numbered space_number sid ss))) (s ∷ ss) ≡ 1 + sharers_in (image_in (cond b (Some s) (numbered space_number sid ss))) (cond (not b) (s ∷ rest_of sid ss) (rest_of sid ss))
     go true e k ih = first (s.image == s.image) (sharers_in s.image ss) (sharers_in s.image (rest_of sid ss)) (same_is s.image s.image refl)
-        (absent_rest sid s.image ss (subst (λ (n : ℕ). times n (map space_number ss) ≡ 0) (equal s.sid sid e) d.0))
+        (absent_rest sid s.image ss (subst (λ (n : ℕ). IsAbsent n (map space_number ss)) (equal s.sid sid e) d.0))
     go false e k ih = later (s.image == image_in (numbered space_number sid ss)) (sharers_in (image_in (numbered space_number sid ss)) ss) (sharers_in (image_in (numbered space_number sid ss)) (rest_of sid ss)) (ih k)
 
 -- a settled space has its text at rest where it is the last sharer
-settled_text : (p : Placement) (sid : ℕ) → OwnsFrames p → AllDiffer (map space_number p.spaces) → HasSpace p sid → is_settled p sid ≡ true → sharers_in (image_of p sid) (rest_of sid p.spaces) ≡ 0 → (v : ℕ) → AtRest (state_of p (Text (image_of p sid) v))
+settled_text : (p : Placement) (sid : ℕ) → OwnsFrames p → AllDistinct (map space_number p.spaces) → HasSpace p sid → is_settled p sid ≡ true → sharers_in (image_of p sid) (rest_of sid p.spaces) ≡ 0 → (v : ℕ) → AtRest (state_of p (Text (image_of p sid) v))
 settled_text p sid o d h e z v = unnamed_rests p (is_of_text (image_of p sid)) (Text (image_of p sid) v) o (same_is (image_of p sid) (image_of p sid) refl) unnamed
   where
     last : sharers p (image_of p sid) ≡ 1
@@ -122,7 +105,7 @@ settled_text p sid o d h e z v = unnamed_rests p (is_of_text (image_of p sid)) (
     unnamed = second (sharers p (image_of p sid) == 1) (names_page (is_of_text (image_of p sid)) (parts_of p.transfers)) (same_is (sharers p (image_of p sid)) 1 last)
         (and_both (not (names_page (is_of_space sid) (parts_of p.transfers))) (not ((sharers p (image_of p sid) == 1) && names_page (is_of_text (image_of p sid)) (parts_of p.transfers))) e).1
 
-forgets : (p : Placement) (sid : ℕ) → OwnsFrames p → AllDiffer (map space_number p.spaces) → HasSpace p sid → is_settled p sid ≡ true → CanForget p sid
+forgets : (p : Placement) (sid : ℕ) → OwnsFrames p → AllDistinct (map space_number p.spaces) → HasSpace p sid → is_settled p sid ≡ true → CanForget p sid
 forgets p sid o d h e = record { image = has_image sid p.spaces d; text_rests = settled_text p sid o d h e }
 
 rest_more : (sid j : ℕ) (ss rs : List SpacePages) → sharers_in j (rest_of sid ss) ≤ sharers_in j (rest_of sid (ss ++ rs))
@@ -134,7 +117,7 @@ rest_more sid j (s ∷ ss) rs = go (s.sid == sid) (rest_more sid j ss rs)
     go false l = omega arith
 
 -- and so once a new space is there
-exec_forgets : (p : Placement) (next image sid : ℕ) (named : Option NamedImage) → OwnsFrames p → AllDiffer (map space_number p.spaces) → AllDiffer (map space_number (enter_image p next image named).spaces) → HasSpace p sid → next ≢ sid → is_settled p sid ≡ true → CanForget (enter_image p next image named) sid
+exec_forgets : (p : Placement) (next image sid : ℕ) (named : Option NamedImage) → OwnsFrames p → AllDistinct (map space_number p.spaces) → AllDistinct (map space_number (enter_image p next image named).spaces) → HasSpace p sid → next ≢ sid → is_settled p sid ≡ true → CanForget (enter_image p next image named) sid
 exec_forgets p next image sid None o d f h n e = forgets p sid o d h e
 exec_forgets p next image sid (Some named) o d f h n e = record {
   image = has_image sid q.spaces f;
@@ -156,7 +139,7 @@ exec_forgets p next image sid (Some named) o d f h n e = record {
 -- What is asked.
 
 pub new_number : (k : Kernel) → Numbered k → IsNew k.place k.next_sid
-new_number k n = below_none space_number k.next_sid k.place.spaces n.spaces_below
+new_number k n = absent_none space_number k.next_sid k.place.spaces (below_absent k.next_sid (map space_number k.place.spaces) n.spaces_below)
 
 next_apart : (k : Kernel) (sid : ℕ) → Numbered k → HasSpace k.place sid → k.next_sid ≢ sid
 next_apart k sid n h e = h (subst (IsNew k.place) e (new_number k n))
@@ -184,7 +167,7 @@ forget_by images k sid borrowed Sleep o n r = tt
 forget_by images k sid borrowed (End status) o n r = λ e. forgets k.place sid o n.spaces_differ (r e).0 (r e).1
 
 unused : (k : Kernel) (child : ℕ) → Numbered k → child ≡ k.next_pid → IsUnused k.processes child
-unused k child n e = subst (IsUnused k.processes) (sym e) (below_none (λ (p : Proc). p.pid) k.next_pid k.processes n.pids_below)
+unused k child n e = subst (IsUnused k.processes) (sym e) (absent_none (λ (p : Proc). p.pid) k.next_pid k.processes (below_absent k.next_pid (map (λ (p : Proc). p.pid) k.processes) n.pids_below))
 
 ask_by : (k : Kernel) (sid : ℕ) (borrowed : Bool) (change : Change) → Numbered k → TakesNext k change → ReadySpace k.place sid borrowed change → MayAsk k.place k.processes sid borrowed k.next_sid change
 ask_by k sid borrowed Keep n t r = tt
@@ -216,21 +199,20 @@ ready_sound size images k before pid regs e change s n r f =
 
 -- The start.
 
-times_before : (m n : ℕ) (first : List Starting) → m < n → times m (map space_number (spaces_from n first)) ≡ 0
-times_before m n [] l = refl
-times_before m n (a ∷ more) l = ap (λ (b : Bool). cond b 1 0 + times m (map space_number (spaces_from (n + 1) more))) (differs n m (λ e. absurd (omega arith)))
-    ∙ (let h = times_before m (n + 1) more (omega arith) in let k : 0 + times m (map space_number (spaces_from (n + 1) more)) ≡ 0 = omega arith in k)
+absent_before : (m n : ℕ) (first : List Starting) → m < n → IsAbsent m (map space_number (spaces_from n first))
+absent_before m n [] l = tt
+absent_before m n (a ∷ more) l = ((λ e. absurd (omega arith)), absent_before m (n + 1) more (omega arith))
 
-first_differ : (n : ℕ) (first : List Starting) → AllDiffer (map space_number (spaces_from n first))
+first_differ : (n : ℕ) (first : List Starting) → AllDistinct (map space_number (spaces_from n first))
 first_differ n [] = tt
-first_differ n (a ∷ more) = (times_before n (n + 1) more (omega arith), first_differ (n + 1) more)
+first_differ n (a ∷ more) = (absent_before n (n + 1) more (omega arith), first_differ (n + 1) more)
 
-first_below : (n : ℕ) (first : List Starting) → EachBelow (n + length first) (map space_number (spaces_from n first))
+first_below : (n : ℕ) (first : List Starting) → AllBelow (n + length first) (map space_number (spaces_from n first))
 first_below n [] = tt
 first_below n (a ∷ more) = (
   omega arith,
-  subst (λ (k : ℕ). EachBelow k (map space_number (spaces_from (n + 1) more))) (let e : (n + 1) + length more ≡ n + suc (length more) = omega arith in e) (first_below (n + 1) more),
+  subst (λ (k : ℕ). AllBelow k (map space_number (spaces_from (n + 1) more))) (let e : (n + 1) + length more ≡ n + suc (length more) = omega arith in e) (first_below (n + 1) more),
 )
 
-pub start_numbers : (images : List Image) (first : List Starting) (frames : ℕ) → AllDiffer (map space_number (start_placement images first frames).spaces) × EachBelow (1 + length first) (map space_number (start_placement images first frames).spaces)
+pub start_numbers : (images : List Image) (first : List Starting) (frames : ℕ) → AllDistinct (map space_number (start_placement images first frames).spaces) × AllBelow (1 + length first) (map space_number (start_placement images first frames).spaces)
 start_numbers images first frames = (first_differ 1 first, first_below 1 first)

@@ -1,5 +1,5 @@
 -- A change of a process keeps the whole machine sound, where the pieces that it takes were found before.
-use Rattle.std.proofs.Common.{◌≡◌, ◌≢◌, inl, inr, ℕ, zero, suc, ◌*◌, ◌≤◌, ◌==◌, Bool, true, false, not, ◌&&◌, ◌||◌, cond, List, [], ◌∷◌, ◌++◌, length, map, filter, Option, Some, None, refl, sym, ap, ◌∙◌, subst, arith}
+use Rattle.std.proofs.Common.{◌≡◌, ◌≢◌, inl, inr, ℕ, zero, suc, ◌*◌, ◌≤◌, ◌==◌, Bool, true, false, not, ◌&&◌, ◌||◌, cond, List, [], ◌∷◌, ◌++◌, length, map, filter, drop, Option, Some, None, refl, sym, ap, ◌∙◌, subst, arith}
 use Rattle.std.proofs.lemmas.Bool.{cases_eq}
 use Rattle.std.proofs.lemmas.Bool.Decides.{nat_tests}
 use Rattle.vm_facts.specs.declared.page.Page.{Page}
@@ -8,6 +8,8 @@ use Rattle.vm_facts.specs.declared.page.PageState.{PageState}
 use Rattle.vm_facts.specs.declared.page.PageState.TheVariants.{Unfilled, Valid, Invalid, Coming, Going, OnSwap}
 use Rattle.vm_facts.specs.declared.regs.Regs.{Regs}
 use Rattle.vm_facts.specs.declared.entry.Entry.{Entry}
+use Rattle.swap_book.specs.Book.{IsBook}
+use Rattle.swap_book.specs.declared.Owner.{Owner}
 use Rattle.swap_book.specs.declared.Owner.TheVariants as owners
 use Rattle.swap_book.specs.Owners.{u_pieces}
 use Rattle.swap_dmap.specs.Chunks.{pieces}
@@ -25,7 +27,7 @@ use Rattle.flat_state.specs.Journal.{append}
 use Rattle.kernel_model.specs.Kernel.{Life, New, HoldsSpace, LendsSpace, Ended, Proc, Kernel}
 use Rattle.kernel_model.specs.Sound.{Sound, has_life, lives, lives_in}
 use Rattle.kernel_model.specs.ChangeStep.{with_proc, without_proc, child_proc, is_ended, orphaned_procs, woken_procs, left_procs, procs_after, holdings_after, given_back_unless, space_of_life, life_of_proc, gave_back, change_by, change_if, change_step}
-use Rattle.kernel_model.specs.Taken.{HasTaken, MayReap, MayChange}
+use Rattle.kernel_model.specs.Taken.{needed, MayReap, MayChange}
 use Rattle.page_laws.proofs.Lists.Frames.{length_set_frame}
 use Rattle.page_laws.proofs.Ownership.Entries.{place_change_owner}
 use Rattle.page_laws.proofs.Ownership.Changes.{dropped_pages}
@@ -269,6 +271,11 @@ change_unhanded images p pid sid borrowed next at (End status) =
     record { hands = record { front = h.front; back = h.back; frames = h.frames }; transfers = u.transfers }
 
 -- The whole.
+
+-- each owner holds what it needs in this machine, and behind that the further pieces that it needs in the next one
+pub record HasTaken (size : ℕ) (k next : Kernel) : Type 0 where
+  pub book : IsBook size k.holdings
+  pub taken : (owner : Owner) → lengths owner k.holdings ≡ needed k owner ++ drop (length (needed k owner)) (needed next owner)
 
 -- the holdings have what either machine needs
 taken_fits : (size : ℕ) (k next : Kernel) → HasTaken size k next → ((i : ℕ) → length (slots_of next.place (Text i 0)) ≡ length (slots_of k.place (Text i 0))) → FitsBoth k.place next.place k.holdings

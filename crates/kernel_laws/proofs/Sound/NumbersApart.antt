@@ -24,7 +24,8 @@ use Rattle.page_model.specs.Serve.{read_errand}
 use Rattle.flat_state.specs.Journal.{append}
 use Rattle.kernel_model.specs.Kernel.{New, HoldsSpace, Ended, Kernel, Proc, with_regs, plain_step, zero_step, copy_step, done_step, write_step, note_step, in_step}
 use Rattle.kernel_model.specs.ChangeStep.{with_proc, without_proc, child_proc, is_ended, orphaned_procs, woken_procs, left_procs, procs_after, space_of_life, gave_back, change_by, change_if, change_step, ran_by, pass_step, passed_life, life_of_proc}
-use Rattle.kernel_model.specs.Numbers.{EachBelow, AllDiffer, Numbered, TakesNext}
+use Rattle.flat_state.specs.Numbers.{IsAbsent, AllDistinct, AllBelow}
+use Rattle.kernel_model.specs.Numbers.{Numbered, TakesNext}
 use Rattle.page_laws.proofs.Ownership.Changes.{dropped_pages}
 use Rattle.kernel_laws.proofs.Sound.Changes.{find, with_number}
 
@@ -252,65 +253,61 @@ differs a b n = grind (arith, nat_tests)
 equal : (a b : ℕ) → (a == b) ≡ true → a ≡ b
 equal a b e = grind (arith, nat_tests)
 
-none_above : (n : ℕ) (ms : List ℕ) → EachBelow n ms → times n ms ≡ 0
-none_above n [] b = refl
-none_above n (m ∷ ms) b = ap (λ (c : Bool). cond c 1 0 + times n ms) (differs m n (λ e. absurd (let l = b.0 in omega arith))) ∙ (let h = none_above n ms b.1 in let k : 0 + times n ms ≡ 0 = omega arith in k)
+absent_last : (m n : ℕ) (ms : List ℕ) → n ≢ m → IsAbsent m ms → IsAbsent m (ms ++ n ∷ [])
+absent_last m n [] d a = (d, tt)
+absent_last m n (x ∷ ms) d a = (a.0, absent_last m n ms d a.1)
 
-times_last : (m n : ℕ) (ms : List ℕ) → m ≢ n → times m (ms ++ n ∷ []) ≡ times m ms
-times_last m n [] d = ap (λ (c : Bool). cond c 1 0 + 0) (differs n m (λ e. d (sym e)))
-times_last m n (x ∷ ms) d = ap (λ (k : ℕ). cond (x == m) 1 0 + k) (times_last m n ms d)
+distinct_last : (n : ℕ) (ms : List ℕ) → AllBelow n ms → AllDistinct ms → AllDistinct (ms ++ n ∷ [])
+distinct_last n [] b d = (tt, tt)
+distinct_last n (m ∷ ms) b d = (absent_last m n ms (λ e. absurd (let l = b.0 in omega arith)) d.0, distinct_last n ms b.1 d.1)
 
-differ_last : (n : ℕ) (ms : List ℕ) → EachBelow n ms → AllDiffer ms → AllDiffer (ms ++ n ∷ [])
-differ_last n [] b d = (refl, tt)
-differ_last n (m ∷ ms) b d = (times_last m n ms (λ e. absurd (let l = b.0 in omega arith)) ∙ d.0, differ_last n ms b.1 d.1)
-
-below_more : (n : ℕ) (ms : List ℕ) → EachBelow n ms → EachBelow (n + 1) ms
+below_more : (n : ℕ) (ms : List ℕ) → AllBelow n ms → AllBelow (n + 1) ms
 below_more n [] b = tt
 below_more n (m ∷ ms) b = ((let l = b.0 in omega arith), below_more n ms b.1)
 
-below_last : (n : ℕ) (ms : List ℕ) → EachBelow n ms → EachBelow (n + 1) (ms ++ n ∷ [])
+below_last : (n : ℕ) (ms : List ℕ) → AllBelow n ms → AllBelow (n + 1) (ms ++ n ∷ [])
 below_last n [] b = (omega arith, tt)
 below_last n (m ∷ ms) b = ((let l = b.0 in omega arith), below_last n ms b.1)
 
-times_filter : {A : Type 0} (number : A → ℕ) (test : A → Bool) (n : ℕ) (xs : List A) → times n (map number (filter test xs)) ≤ times n (map number xs)
-times_filter number test n [] = omega arith
-times_filter {A} number test n (x ∷ xs) = go (test x) (number x == n) (times_filter number test n xs)
+absent_filter : {A : Type 0} (number : A → ℕ) (test : A → Bool) (n : ℕ) (xs : List A) → IsAbsent n (map number xs) → IsAbsent n (map number (filter test xs))
+absent_filter number test n [] a = tt
+absent_filter {A} number test n (x ∷ xs) a = go (test x) (absent_filter number test n xs a.1)
   where
-    go : (b c : Bool) → times n (map number (filter test xs)) ≤ times n (map number xs) → times n (map number (cond b (x ∷ filter test xs) (filter test xs))) ≤ times n (map number (x ∷ xs))
-    go true c l = omega arith
-    go false c l = omega arith
-
-differ_filter : {A : Type 0} (number : A → ℕ) (test : A → Bool) (xs : List A) → AllDiffer (map number xs) → AllDiffer (map number (filter test xs))
-differ_filter number test [] d = d
-differ_filter {A} number test (x ∷ xs) d = go (test x) (differ_filter number test xs d.1)
-  where
-    go : (b : Bool) → AllDiffer (map number (filter test xs)) → AllDiffer (map number (cond b (x ∷ filter test xs) (filter test xs)))
-    go true r = ((let l = times_filter number test (number x) xs in let e = d.0 in omega arith), r)
+    go : (b : Bool) → IsAbsent n (map number (filter test xs)) → IsAbsent n (map number (cond b (x ∷ filter test xs) (filter test xs)))
+    go true r = (a.0, r)
     go false r = r
 
-below_filter : {A : Type 0} (number : A → ℕ) (test : A → Bool) (n : ℕ) (xs : List A) → EachBelow n (map number xs) → EachBelow n (map number (filter test xs))
+distinct_filter : {A : Type 0} (number : A → ℕ) (test : A → Bool) (xs : List A) → AllDistinct (map number xs) → AllDistinct (map number (filter test xs))
+distinct_filter number test [] d = d
+distinct_filter {A} number test (x ∷ xs) d = go (test x) (distinct_filter number test xs d.1)
+  where
+    go : (b : Bool) → AllDistinct (map number (filter test xs)) → AllDistinct (map number (cond b (x ∷ filter test xs) (filter test xs)))
+    go true r = (absent_filter number test (number x) xs d.0, r)
+    go false r = r
+
+below_filter : {A : Type 0} (number : A → ℕ) (test : A → Bool) (n : ℕ) (xs : List A) → AllBelow n (map number xs) → AllBelow n (map number (filter test xs))
 below_filter number test n [] b = b
 below_filter {A} number test n (x ∷ xs) b = go (test x) (below_filter number test n xs b.1)
   where
-    go : (c : Bool) → EachBelow n (map number (filter test xs)) → EachBelow n (map number (cond c (x ∷ filter test xs) (filter test xs)))
+    go : (c : Bool) → AllBelow n (map number (filter test xs)) → AllBelow n (map number (cond c (x ∷ filter test xs) (filter test xs)))
     go true r = (b.0, r)
     go false r = r
 
 pub record Fine (n : ℕ) (ms : List ℕ) : Type 0 where
-  pub differ : AllDiffer ms
-  pub below : EachBelow n ms
+  pub differ : AllDistinct ms
+  pub below : AllBelow n ms
 
 fine_as : (n : ℕ) (ms ns : List ℕ) → ns ≡ ms → Fine n ms → Fine n ns
-fine_as n ms ns e f = record { differ = subst AllDiffer (sym e) f.differ; below = subst (EachBelow n) (sym e) f.below }
+fine_as n ms ns e f = record { differ = subst AllDistinct (sym e) f.differ; below = subst (AllBelow n) (sym e) f.below }
 
 fine_more : (n : ℕ) (ms : List ℕ) → Fine n ms → Fine (n + 1) ms
 fine_more n ms f = record { differ = f.differ; below = below_more n ms f.below }
 
 fine_last : (n : ℕ) (ms : List ℕ) → Fine n ms → Fine (n + 1) (ms ++ n ∷ [])
-fine_last n ms f = record { differ = differ_last n ms f.below f.differ; below = below_last n ms f.below }
+fine_last n ms f = record { differ = distinct_last n ms f.below f.differ; below = below_last n ms f.below }
 
 fine_filter : {A : Type 0} (number : A → ℕ) (test : A → Bool) (n : ℕ) (xs : List A) → Fine n (map number xs) → Fine n (map number (filter test xs))
-fine_filter number test n xs f = record { differ = differ_filter number test xs f.differ; below = below_filter number test n xs f.below }
+fine_filter number test n xs f = record { differ = distinct_filter number test xs f.differ; below = below_filter number test n xs f.below }
 
 -- Spaces through changes.
 
