@@ -4,4 +4,4 @@ pub mod Changes
 pub mod Units
 pub mod Waiting
 pub mod Starts
-pub mod Allowed
+pub mod Paging

@@ -1,4 +1,4 @@
-ghost use Rattle.std.specs.Prelude.{◌≡◌, ℕ, true, false, ◌^◌, ◌<◌, ◌≤◌, List, [], ◌∷◌, length, Some, Ok};
+ghost use Rattle.std.specs.Prelude.{◌≡◌, ℕ, Bool, true, false, ◌^◌, ◌<◌, ◌≤◌, List, [], ◌∷◌, length, Some, Ok};
 ghost use Rattle.vm_facts.specs.Answers.{ByteWrite};
 ghost use Rattle.vm_facts.specs.declared.page.Page.{Page};
 ghost use Rattle.vm_facts.specs.declared.entry.Entry.{Entry};
@@ -14,9 +14,9 @@ ghost use Rattle.flat_state.specs.Lenders.{IsLender, LendsStand};
 ghost use Rattle.flat_state.specs.Change.{apply_writes};
 ghost use Rattle.flat_state.specs.declared.change.Change.{Change as AnyChange};
 ghost use Rattle.page_model.specs.Place.{is_borrower};
-ghost use Rattle.page_model.specs.Placement.{Starting, start_placement, state_of};
+ghost use Rattle.page_model.specs.Placement.{Starting, IsThere, start_placement, state_of};
 ghost use Rattle.page_model.specs.Runs.{run_in};
-ghost use Rattle.page_model.specs.Serve.{source_for};
+ghost use Rattle.page_model.specs.Serve.{source_for, force_entry, serve_unit};
 ghost use Rattle.page_model.specs.Swapper.{put_out_unit};
 ghost use Rattle.page_model.specs.Conditions.{CanEnter, IsShared};
 ghost use Rattle.page_model.specs.Dues.{NotDue};
@@ -25,13 +25,13 @@ ghost use Rattle.page_model.specs.PageBytes.{ReadsFrom};
 ghost use Rattle.kernel_model.specs.Kernel.{Kernel};
 ghost use Rattle.kernel_model.specs.Sound.{lives};
 ghost use Rattle.kernel_model.specs.UPage.{u_page, regs_in, AreRegs};
-ghost use Rattle.kernel_model.specs.Coupled.{SameTables};
+ghost use Rattle.kernel_model.specs.Coupled.{SameTables, AreRead, beside_kernel};
 ghost use Rattle.kernel_model.specs.ChangeStep.{change_step};
 ghost use Rattle.kernel_model.specs.Taken.{AsksFor, MayReap, MayChange};
 ghost use Rattle.kernel_model.specs.Asks.{asked, WantsThese, start_asks, is_started};
 ghost use Rattle.kernel_model.specs.Numbers.{Numbered, TakesNext, SettlesFor, ReadyFor};
-ghost use Rattle.kernel_model.specs.Unit.{KernelState};
-ghost use Rattle.kernel_model.specs.Invariant.{Invariant, MayGet, MayPut};
+ghost use Rattle.kernel_model.specs.Unit.{KernelState, unit_for};
+ghost use Rattle.kernel_model.specs.Invariant.{Invariant, May, MayGet, MayPut};
 
 /// Once the first processes' pieces have found their places one after another, each frame and each block has one owner.
 pub fn start_is_owned()
@@ -46,10 +46,19 @@ pub fn registers_kept()
         → regs_in (u_page regs data_pages stack_pages) ≡ regs }
 {}
 
-/// What paging makes may be made. A read of a page with its run may begin where the page has no frame and is read from
-/// swap or from its file, a frame is free, and fewer than 16 transfers are in flight; and a write by which a process goes
-/// out may begin wherever it comes.
+/// What paging makes may be made. Each unit that serves a page may: of a page that is there, and isn't due; text is shared;
+/// and what is read for the oldest transfer is told. So may each that forces a frame; a read of a page with its run, where
+/// the page has no frame and is read from swap or from its file, a frame is free, and fewer than 16 transfers are in flight;
+/// and a write by which a process goes out, wherever it comes.
 pub fn paging_may()
+    ensures serves { (size : ℕ) (images : List NamedImage) (m : KernelState) (locked : List Page) (read : List (List ℕ)) (q : Page)
+        (now : Bool) (e : Entry) → Invariant size images m
+        → IsThere m.kernel.place q → IsShared m.kernel.place q → NotDue m.kernel.place.due q
+        → AreRead (beside_kernel m.kernel images m.image m.flat) m.kernel.place.transfers read
+        → serve_unit m.kernel.place q now ≡ Some e → May size images m (unit_for locked read e) }
+    ensures forces { (size : ℕ) (images : List NamedImage) (m : KernelState) (locked : List Page) (read : List (List ℕ))
+        → AreRead (beside_kernel m.kernel images m.image m.flat) m.kernel.place.transfers read
+        → May size images m (unit_for locked read (force_entry m.kernel.place.transfers)) }
     ensures reads { (size : ℕ) (images : List NamedImage) (m : KernelState) (q : Page) → Invariant size images m
         → CanEnter m.kernel.place q → ReadsFrom m.kernel.place (source_for (state_of m.kernel.place q)) q q
         → NotDue m.kernel.place.due q → IsShared m.kernel.place q

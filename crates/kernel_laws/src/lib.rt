@@ -4,7 +4,7 @@
 //! - `machine_kept`: all that is so of the kernel between two units is so at the start of a run, after each unit, and after
 //!   each list of units.
 //! - `pieces_wait`: pieces that were found for a change take nothing from others while they wait.
-//! - `paging_may`: a read of a page with its run, and a write by which a process goes out, may be made.
+//! - `paging_may`: each unit that serves a page or forces a frame may be made, and a write by which a process goes out.
 //! - `changes_ask`: what a change asks, of the placement and in pieces of swap.
 //! - `start_is_owned`: once the first processes' pieces are found, each frame and each block has one owner.
 //! - `registers_kept`: the registers that go out into a u page come back from it.

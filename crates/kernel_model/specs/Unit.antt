@@ -6,6 +6,7 @@ use Rattle.vm_facts.specs.declared.page.Page.{Page}
 use Rattle.vm_facts.specs.declared.page.Page.TheVariants.{Data, Stack}
 use Rattle.vm_facts.specs.declared.regs.Regs.{Regs}
 use Rattle.vm_facts.specs.declared.entry.Entry.{Entry}
+use Rattle.vm_facts.specs.declared.entry.Entry.TheVariants as entries
 use Rattle.swap_book.specs.declared.Owner.TheVariants as owners
 use Rattle.swap_book.specs.Holdings.{Holdings, block_in}
 use Rattle.flat_state.specs.Flat.{FlatState, NamedImage}
@@ -86,6 +87,19 @@ pub data KernelUnit : Type 0 where
   ChangeUnit : ℕ → Regs → Entry → Change → KernelUnit
   OutUnit : ℕ → KernelUnit
   InUnit : ℕ → KernelUnit
+
+-- the unit of a paging entry, with the pages that are locked and what is read for the oldest transfer; the hands move once
+abbrev pub unit_for : List Page → List (List ℕ) → Entry → KernelUnit
+unit_for locked read (entries.Zero q) = ZeroUnit q
+unit_for locked read (entries.Copy q) = CopyUnit q
+unit_for locked read (entries.Get q lo n) = GetUnit q lo n
+unit_for locked read (entries.Reclaim q) = ReclaimUnit q
+unit_for locked read (entries.Hands n) = HandsUnit locked
+unit_for locked read (entries.Put q n) = PutUnit q n
+unit_for locked read entries.Done = DoneUnit read
+unit_for locked read (entries.SwapOut pid) = OutUnit pid
+unit_for locked read (entries.SwapIn pid) = InUnit pid
+unit_for locked read e = NoteUnit e
 
 -- The kernel between two units. Its holdings are those of its spaces and processes; pieces that were found for a change
 -- to come wait beside them, and stand in `found`, which is the holdings where none wait.

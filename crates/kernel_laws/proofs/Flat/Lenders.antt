@@ -60,9 +60,6 @@ lent_kept ps qs l back = record {
 not_holds : {C : Type 0} (s : Space) (sid child : ℕ) → Holds s ≡ Lends sid child → C
 not_holds s sid child e = absurd cc
 
-not_zombie : {C : Type 0} (status sid child : ℕ) → Zombie status ≡ Lends sid child → C
-not_zombie status sid child e = absurd cc
-
 -- A process gives way to one that has a space of the same number.
 same_lent : (ps : List Process) (q p : Process) (s z : Space) → numbered pid_of p.pid ps ≡ Some q → q.holding ≡ Holds s → p.holding ≡ Holds z → z.sid ≡ s.sid → Lent ps → Lent (replaced ps p)
 same_lent ps q p s z e h k i l = lent_kept ps (replaced ps p) l (λ x sid child f g. elim (cases_eq x.pid p.pid) [

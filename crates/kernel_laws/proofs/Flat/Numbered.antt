@@ -13,9 +13,6 @@ eq_is a b e = grind (arith, nat_tests)
 pub eq_self : (a : ℕ) → (a == a) ≡ true
 eq_self a = grind (arith, nat_tests)
 
-pub eq_not : (a b : ℕ) → (a == b) ≡ false → a ≢ b
-eq_not a b e h = grind (arith, nat_tests)
-
 pub not_eq : (a b : ℕ) → a ≢ b → (a == b) ≡ false
 not_eq a b n = grind (arith, nat_tests)
 

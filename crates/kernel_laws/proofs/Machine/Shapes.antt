@@ -67,10 +67,6 @@ stack_shape : (o : Option SpacePages) → length (stack_in o) ≡ shape_stack (s
 stack_shape None = refl
 stack_shape (Some s) = refl
 
-none_shape : (o : Option SpacePages) → shape_in o ≡ None → o ≡ None
-none_shape None e = refl
-none_shape (Some s) e = absurd cc
-
 pub image_kept : (p q : Placement) → Shaped p q → (sid : ℕ) → image_of q sid ≡ image_of p sid
 image_kept p q s sid = image_shape (numbered space_number sid q.spaces) ∙ ap shape_image (s.spaces sid) ∙ sym (image_shape (numbered space_number sid p.spaces))
 
@@ -78,9 +74,6 @@ pub sizes_kept : (p q : Placement) → Shaped p q → (w : Page) → length (slo
 sizes_kept p q s (Data sid v) = data_shape (numbered space_number sid q.spaces) ∙ ap shape_data (s.spaces sid) ∙ sym (data_shape (numbered space_number sid p.spaces))
 sizes_kept p q s (Stack sid v) = stack_shape (numbered space_number sid q.spaces) ∙ ap shape_stack (s.spaces sid) ∙ sym (stack_shape (numbered space_number sid p.spaces))
 sizes_kept p q s (Text image v) = s.texts image
-
-pub new_kept : (p q : Placement) → Shaped p q → (sid : ℕ) → numbered space_number sid p.spaces ≡ None → numbered space_number sid q.spaces ≡ None
-new_kept p q s sid e = none_shape (numbered space_number sid q.spaces) (s.spaces sid ∙ ap shape_in e)
 
 pub image_by_shape : (o r : Option SpacePages) → shape_in r ≡ shape_in o → image_in r ≡ image_in o
 image_by_shape o r e = image_shape r ∙ ap shape_image e ∙ sym (image_shape o)

@@ -1,5 +1,5 @@
 -- Instructions that ran, and processes that go out and come in, keep the whole machine coupled.
-use Rattle.std.proofs.Common.{◌≡◌, ◌≢◌, ◌⊎◌, inl, inr, ℕ, ◌*◌, ◌^◌, ◌<◌, ◌≤◌, ◌==◌, Bool, true, false, cond, List, [], ◌∷◌, ◌++◌, length, map, Option, Some, IsSome, refl, sym, ap, ◌∙◌, subst, length-append, arith}
+use Rattle.std.proofs.Common.{◌≡◌, ◌≢◌, ◌⊎◌, inl, inr, ℕ, ◌*◌, ◌≤◌, ◌==◌, Bool, true, false, cond, List, [], ◌∷◌, ◌++◌, length, map, Option, Some, IsSome, refl, sym, ap, ◌∙◌, subst, length-append, arith}
 use Rattle.std.specs.Prelude.{flat_map, replicate}
 use Rattle.std.proofs.lemmas.Bool.{cases_eq}
 use Rattle.flat_state.specs.Space.{Space}
@@ -175,9 +175,6 @@ out_same (r ∷ rs) pid out at = go (r.pid == pid) refl (out_same rs pid out at)
       )
     ]
 
-moved_shaped : (p : Placement) (pid : ℕ) (out : Bool) (at : ℕ) → (sid : ℕ) → (moved p pid out at).spaces ≡ p.spaces
-moved_shaped p pid out at sid = refl
-
 still_moved : (p : Placement) (pid : ℕ) (out : Bool) (at : ℕ) (b : Rattle.page_model.specs.PageBytes.Bytes) → CouplesPages p b → CouplesPages (moved p pid out at) b
 still_moved p pid out at b k = Rattle.page_laws.proofs.Bytes.Runs.still_coupled p (moved p pid out at) b (λ w. refl) refl refl k
 
@@ -231,11 +228,6 @@ in_coupled_any k images image flat pid regs q f out are is c = coupled_of l imag
       | inr d ↦ subst (λ (o : Bool). KeepsRegs l image o a b.regs (space_of_holding a.holding)) (sym (out_other k.place.residents pid n false (length (append k.journal (entries.SwapIn pid))) d))
           (regs_kept k l image image (is_out k.place n) a b.regs (space_of_holding a.holding) (λ o. refl) refl refl (regs_at k images image flat c n a b ea (regs_other pid n regs k.processes b d eb)))
     ]
-
-pub in_coupled : (k : Kernel) (images : List NamedImage) (image : List ℕ) (flat : FlatState) (pid : ℕ) (regs : Regs) (q : Process) → process_of flat pid ≡ Some q → is_out k.place pid ≡ true → AreRegs q.regs
-    → length (slots_of k.place (Data (space_of_holding q.holding) 0)) < 2 ^ 32 → length (slots_of k.place (Stack (space_of_holding q.holding) 0)) < 2 ^ 32
-    → regs ≡ regs_in (stored_at image (block_in k.holdings (owners.U pid) 0)) → Coupled k images image flat → Coupled (in_step k pid regs) images image flat
-in_coupled k images image flat pid regs q f out are ld ls is c = in_coupled_any k images image flat pid regs q f out are is c
 
 -- Going out.
 

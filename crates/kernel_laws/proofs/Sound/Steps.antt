@@ -30,8 +30,6 @@ use Rattle.page_laws.proofs.Moves.KeptHands.{steady_keep, entry_keep}
 use Rattle.page_laws.proofs.Blocks.Aside.{IsBusy, turn_aside, blocks_still}
 use Rattle.page_laws.proofs.Blocks.Steps.{place_entry_one}
 use Rattle.page_laws.proofs.Moves.Transfers.{entry_count}
-use Rattle.page_model.specs.Swapper.{put_out_unit}
-use Rattle.page_laws.proofs.Swapper.PuttingOut.{unit_can, unit_shared, unit_few}
 
 -- Entries.
 
@@ -271,9 +269,3 @@ pass_sound size k from to a b s = record {
         passed_alive sid from to receiver q
         (λ h. kept n q e (ap (lives k.processes) (sym (proc_number k.processes n q e) ∙ h) ∙ a))
         (λ h. kept n q e (ap (lives k.processes) (sym (proc_number k.processes n q e) ∙ h) ∙ b)))
-
--- The whole machine stays sound through each unit, also where a clean page is put while 16 transfers are in flight.
-pub unit_sound : (size : ℕ) (k : Kernel) (locked : List Page) (pid sid : ℕ) → Sound size k → Sound size (plain_step k locked (put_out_unit k.place pid sid))
-unit_sound size k locked pid sid s =
-    let e = put_out_unit k.place pid sid in
-    entry_sound size k locked e s (unit_can k.place pid sid) (unit_shared k.place pid sid) (unit_few locked (length (append k.journal e)) k.place pid sid s.few_transfers)
