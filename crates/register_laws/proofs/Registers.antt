@@ -86,6 +86,14 @@ found_regs test (q ∷ ps) p e h = go (λ k. found_regs test ps p k h.1) (test q
 
 -- Images.
 
+pub all_images : (images : List NamedImage) → ((number : ℕ) (named : NamedImage) → image_numbered images number ≡ Some named → ImageFits named) → AllImages images
+all_images [] h = tt
+all_images (first ∷ images) h = (h 1 first refl, all_images images behind)
+  where
+    behind : (number : ℕ) (named : NamedImage) → image_numbered images number ≡ Some named → ImageFits named
+    behind zero named e = absurd cc
+    behind (suc place) named e = h (suc (suc place)) named e
+
 pub image_fits : (images : List NamedImage) (number : ℕ) (named : NamedImage) → image_numbered images number ≡ Some named → AllImages images → ImageFits named
 image_fits images zero named e h = absurd cc
 image_fits [] (suc place) named e h = absurd cc

@@ -34,6 +34,7 @@ pub mod Sorts
 pub mod MachineUnits
 pub mod Machines
 pub mod SwapImages
+pub mod Fitting
 pub mod Sizing
 pub mod WorkedRuns
 pub mod Filing

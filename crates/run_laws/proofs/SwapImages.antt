@@ -40,7 +40,7 @@ use Rattle.run_model.proofs.NextUnits.{kind_of}
 use Rattle.run_laws.specs.Running.{IsRun, CanRun}
 use Rattle.kernel_model.specs.Unit.{u_bytes}
 use Rattle.run_laws.specs.Machine.{unit_step, unit_image, IsGiven, Keeps, StandsAt, Makes, Next}
-use Rattle.run_laws.specs.Images.{OutFits, OutsFit, AreFlat, WritesFlat, AllFlat, HasSwapped}
+use Rattle.run_laws.specs.Images.{AreFlat, WritesFlat, AllFlat, HasSwapped}
 use Rattle.run_laws.proofs.Wholes.{unit_run}
 use Rattle.run_laws.proofs.Lawful.{all_units}
 use Rattle.flat_state.proofs.Joins.{appended_units}
@@ -220,13 +220,22 @@ images_same A (u ∷ us) s t k l image behind images r at m =
 
 -- Each run has a machine, where who goes out has registers of longwords.
 
+-- who goes out has sixteen registers of longwords
+abbrev pub OutFits : State → Entry → Type 0
+OutFits s (entries.SwapOut pid) = (q : Process) → process_of s.point.flat pid ≡ Some q → AreRegs q.regs
+OutFits s u = Unit {0}
+
+abbrev pub OutsFit : Inputs → State → List Entry → Type 0
+OutsFit A s [] = Unit {0}
+OutsFit A s (u ∷ us) = OutFits s u × OutsFit A (after A s u) us
+
 -- what a machine and its image come to
 pub record Made (A : Inputs) (s : State) (k : Kernel) (image : List ℕ) (us : List Entry) (t : State) : Type 0 where
   pub machine : Kernel
   pub behind : List ℕ
   pub makes : Makes A s k image us t machine behind
 
-given_at : (A : Inputs) (s : State) (k : Kernel) (image : List ℕ) (u : Entry) → Next A s k image u → OutFits s u → IsGiven A s k image (brought (beside_kernel k A.images image s.point.flat) k.place.transfers) u
+pub given_at : (A : Inputs) (s : State) (k : Kernel) (image : List ℕ) (u : Entry) → Next A s k image u → OutFits s u → IsGiven A s k image (brought (beside_kernel k A.images image s.point.flat) k.place.transfers) u
 given_at A s k image entries.Done x f = are_brought (beside_kernel k A.images image s.point.flat) k.place.transfers
 given_at A s k image (entries.SwapOut pid) x f = λ p e.
     let y : SameOut A s k image pid = goes_off A s k image (entries.SwapOut pid) pid x refl in

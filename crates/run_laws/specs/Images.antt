@@ -1,26 +1,13 @@
 -- The swap image along a run.
-use Rattle.std.specs.Prelude.{◌≡◌, ℕ, List, [], ◌∷◌, Some}
-use Rattle.flat_state.specs.Flat.{Process, Inputs, process_of}
+use Rattle.std.specs.Prelude.{◌≡◌, ℕ, List, [], ◌∷◌}
+use Rattle.flat_state.specs.Flat.{Inputs}
 use Rattle.vm_facts.specs.declared.page.Page.{Page}
 use Rattle.vm_facts.specs.declared.page.PageState.TheVariants.{OnSwap}
-use Rattle.vm_facts.specs.declared.entry.Entry.{Entry}
-use Rattle.vm_facts.specs.declared.entry.Entry.TheVariants as entries
 use Rattle.page_model.specs.Placement.{Transfer, Part, Errand, Writes, Reads, state_of}
 use Rattle.kernel_model.specs.Kernel.{Kernel, frame_bytes}
-use Rattle.kernel_model.specs.UPage.{AreRegs}
 use Rattle.kernel_model.specs.Coupled.{memory_of}
 use Rattle.page_model.specs.Stored.{stored}
 use Rattle.run_model.specs.State.{State}
-use Rattle.run_model.specs.After.{after}
-
--- who goes out has sixteen registers of longwords
-abbrev pub OutFits : State → Entry → Type 0
-OutFits s (entries.SwapOut pid) = (q : Process) → process_of s.point.flat pid ≡ Some q → AreRegs q.regs
-OutFits s u = Unit {0}
-
-abbrev pub OutsFit : Inputs → State → List Entry → Type 0
-OutsFit A s [] = Unit {0}
-OutsFit A s (u ∷ us) = OutFits s u × OutsFit A (after A s u) us
 
 -- each of these frames has the flat bytes of its page
 abbrev pub AreFlat : Inputs → State → Kernel → List Part → Type 0

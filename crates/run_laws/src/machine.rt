@@ -1,4 +1,4 @@
-ghost use Rattle.std.specs.Prelude.{◌≡◌, ℕ, ◌*◌, ◌<◌, ◌≤◌, Bool, List, [], length, Some};
+ghost use Rattle.std.specs.Prelude.{◌≡◌, ℕ, ◌+◌, ◌*◌, ◌^◌, ◌<◌, ◌≤◌, Bool, List, [], length, Some};
 ghost use Rattle.vm_facts.specs.declared.page.Page.{Page};
 ghost use Rattle.vm_facts.specs.declared.entry.Entry.{Entry};
 ghost use Rattle.vm_facts.specs.declared.entry.Entry.TheVariants as entries;
@@ -7,6 +7,7 @@ ghost use Rattle.swap_book.specs.Holdings.{Holdings, block_in};
 ghost use Rattle.flat_state.specs.Flat.{Inputs, start_state, FlatState, process_of};
 ghost use Rattle.flat_model.specs.Step.{flat_step};
 ghost use Rattle.flat_model.specs.Run.{Point, flat_run, step_at};
+ghost use Rattle.register_laws.specs.Longwords.{AllFit, AllImages};
 ghost use Rattle.run_laws.specs.Files.{AreInputs, MayBegin};
 ghost use Rattle.page_model.specs.Place.{space_of_process};
 ghost use Rattle.page_model.specs.PuttingOut.{put_rank, EndsPuttingOut};
@@ -27,7 +28,7 @@ ghost use Rattle.run_laws.specs.Running.{IsRun, CanRun};
 ghost use Rattle.flat_state.specs.Change.{apply_writes};
 ghost use Rattle.kernel_model.specs.Unit.{proc_of, u_bytes};
 ghost use Rattle.run_laws.specs.Machine.{written_step, taken_step, EndsStep, process_step, ran_step, unit_step, unit_image, IsGiven, StandsAt, Makes, IsNote, Completes, Next};
-ghost use Rattle.run_laws.specs.Images.{OutsFit, AllFlat, HasSwapped};
+ghost use Rattle.run_laws.specs.Images.{AllFlat, HasSwapped};
 ghost use Rattle.flat_state.specs.Journal.{appended};
 ghost use Rattle.run_model.specs.Swapped.{image_behind, swapped_from, swapped};
 
@@ -67,15 +68,15 @@ pub fn machine_units()
 
 /// The swap image of a machine along a run is the one that the run's units say: what is in flight to swap has its flat
 /// bytes, so each unit makes of the image what `image_behind` says, and a list of units what `swapped_from` says. Each
-/// run has such a machine, where who goes out has registers of longwords; so behind a journal the image that it says has
-/// the flat bytes of each page that is on swap alone.
+/// run has such a machine, where images fit and numbers of processes are longwords; so behind a journal the image that it
+/// says has the flat bytes of each page that is on swap alone.
 pub fn images_agree()
     ensures writes { (A : Inputs) (s : State) (k : Kernel) (image : List ℕ) → StandsAt A s k image → AllFlat A s k s.place.transfers }
     ensures unit { (A : Inputs) (s : State) (k : Kernel) (image : List ℕ) (u : Entry) → Next A s k image u → unit_image k image u ≡ image_behind A s u image }
     ensures units { (A : Inputs) (us : List Entry) (s t : State) (k l : Kernel) (image behind : List ℕ) → ImagesFit A.images → IsRun A s → StandsAt A s k image → Makes A s k image us t l behind → behind ≡ swapped_from A s us image }
     ensures journal { (A : Inputs) (hs : Holdings) (us journal : List Entry) (t : State) (image : List ℕ) → CanRun A hs → Follows A (start A hs) us t → appended [] us ≡ journal → swapped_from A (start A hs) us image ≡ swapped A journal image }
     ensures there { (A : Inputs) (s : State) (k : Kernel) (image : List ℕ) → StandsAt A s k image → HasSwapped A s image }
-    ensures run { (A : Inputs) (hs : Holdings) (us journal : List Entry) (t : State) (image : List ℕ) → CanRun A hs → Follows A (start A hs) us t → appended [] us ≡ journal → OutsFit A (start A hs) us → 512 * A.swap_blocks ≤ length image → HasSwapped A t (swapped A journal image) }
+    ensures run { (A : Inputs) (hs : Holdings) (us journal : List Entry) (t : State) (image : List ℕ) → CanRun A hs → AllImages A.images → length A.first + 1 + A.limit < 2 ^ 32 → Follows A (start A hs) us t → appended [] us ≡ journal → 512 * A.swap_blocks ≤ length image → HasSwapped A t (swapped A journal image) }
 {}
 
 /// At most 4,096 pages of data and 512 of stack in each space, and at most 64 processes: at the start, behind each step of
@@ -103,4 +104,12 @@ pub fn residents_stand()
     ensures reached { (A : Inputs) (hs : Holdings) (journal : List Entry) (s : State) → CanRun A hs → Reaches A journal s → AllResident s }
     ensures falls { (A : Inputs) (s : State) (u : Entry) (pid : ℕ) → IsRun A s → AllResident s → s.mark ≡ marks.PutOut pid → next_unit A s ≡ Some u → put_rank (after A s u).place pid (space_of_process (process_of s.point.flat pid)) < put_rank s.place pid (space_of_process (process_of s.point.flat pid)) }
     ensures whole { (A : Inputs) (s : State) (pid at : ℕ) → IsRun A s → AllResident s → s.mark ≡ marks.PutOut pid → EndsPuttingOut at s.place pid (space_of_process (process_of s.point.flat pid)) }
+{}
+
+/// In a run whose images fit, and whose first processes, 1 and the most instructions are fewer than 2 ^ 32 together, each
+/// process has sixteen registers that are longwords and holds a space of bytes. So a machine is given what it asks of a
+/// process that goes out.
+pub fn registers_stand()
+    ensures reached { (A : Inputs) (hs : Holdings) (journal : List Entry) (s : State) → CanRun A hs → AllImages A.images → length A.first + 1 + A.limit < 2 ^ 32 → Reaches A journal s → AllFit s.point.flat.processes }
+    ensures given { (A : Inputs) (s : State) (k : Kernel) (image : List ℕ) (read : List (List ℕ)) (pid : ℕ) → Next A s k image (entries.SwapOut pid) → AllFit s.point.flat.processes → IsGiven A s k image read (entries.SwapOut pid) }
 {}

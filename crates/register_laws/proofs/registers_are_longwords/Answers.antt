@@ -1,6 +1,6 @@
 use Rattle.register_laws.proofs.Decoding.{leaves_longwords}
 use Rattle.register_laws.proofs.Images.{file_fits}
-use Rattle.register_laws.proofs.Registers.{start_regs_are}
+use Rattle.register_laws.proofs.Registers.{all_images, start_regs_are}
 use Rattle.register_laws.proofs.Replying.{step_regs}
 use Rattle.register_laws.proofs.Runs.{run_fits}
 use Rattle.register_laws.proofs.registers_are_longwords.Goals as goal
@@ -10,6 +10,9 @@ returns-clause-instruction c = leaves_longwords
 
 pub returns-clause-image : goal.returns-clause-image
 returns-clause-image c = file_fits
+
+pub returns-clause-images : goal.returns-clause-images
+returns-clause-images c = all_images
 
 pub returns-clause-start : goal.returns-clause-start
 returns-clause-start c = start_regs_are

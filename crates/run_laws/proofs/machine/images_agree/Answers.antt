@@ -1,4 +1,5 @@
-use Rattle.run_laws.proofs.SwapImages.{writes_flat, image_same, images_same, swapped_same, on_swap, run_swaps}
+use Rattle.run_laws.proofs.SwapImages.{writes_flat, image_same, images_same, swapped_same, on_swap}
+use Rattle.run_laws.proofs.Fitting.{run_swapped}
 use Rattle.run_laws.proofs.machine.images_agree.Goals as goal
 
 pub returns-clause-writes : goal.returns-clause-writes
@@ -17,4 +18,4 @@ pub returns-clause-there : goal.returns-clause-there
 returns-clause-there c = on_swap
 
 pub returns-clause-run : goal.returns-clause-run
-returns-clause-run c = run_swaps
+returns-clause-run c = run_swapped
