@@ -15,7 +15,6 @@ mod transcript_reader;
 mod waiting;
 
 pub use answers::{Schedule, Transcript};
-pub use buffer::OutputBuffer;
 pub use schedule_reader::read_schedule;
 pub use text::{write_entry, write_text};
 pub use transcript_reader::read_transcript;
