@@ -39,7 +39,11 @@ returns-in_err-bytes-clause-order g c = λ list told size.
     let head : take 32 file ≡ c.in_ok-head.head.items
     = header_of_file (g.F.Files.holds c.args.files.now) list c.args.id c.args.len c.in_ok-head.head.items told size (c.in_ok-head.ensures.size ∙ c.min.ensures) c.in_ok-head.ensures.bytes in
     let is : c.from_residual-in_err-bytes.result ≡ Err c.in_err-bytes.field-0.0 = search rules in
-    subst (λ (r : Result Loaded Unread). FailsInOrder (image_in file (image_of file)) r (g.F.Files.open_faults c.args.files.now) (g.F.Files.open_faults c.read_rest.new.files) (g.F.Files.page_faults c.args.files.now) (g.F.Files.page_faults c.read_rest.new.files)) (sym is)
+    let open_before = g.F.Files.open_faults c.args.files.now in
+    let open_after = g.F.Files.open_faults c.read_rest.new.files in
+    let page_before = g.F.Files.page_faults c.args.files.now in
+    let page_after = g.F.Files.page_faults c.read_rest.new.files in
+    subst (λ (r : Result Loaded Unread). FailsInOrder (image_in file (image_of file)) r open_before open_after page_before page_after) (sym is)
     (rest_fails (Vec ℕ Global) Loaded (image_in file (image_of file)) c.in_err-bytes.field-0.0 _ _ _ _ _
     (told_image file (image_of file) c.in-Is.image (c.in-Is.ensures.of_the_file file (head ∙ sym c.as_slice.ensures.value) (sym size)))
     (c.in_err-bytes.ensures.open_faults ∙ c.in_ok-head.ensures.open_faults) c.in_ok-head.ensures.page_faults c.in_err-bytes.ensures.page_faults)
