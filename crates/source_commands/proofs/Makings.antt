@@ -33,7 +33,7 @@ pub unread_image : {A : Type 0} (view : A → Image × List ℕ) (name : Bor (Li
     → Made (EndsListing name.now) told holds f (Err (fault_of name unread))
 unread_image view name told holds f unreads.Absent answers counts order = made_by (EndsListing name.now) told holds f (Err (Absent name)) (Err unreads.Absent) answers (refl, refl)
 unread_image view name told holds f (unreads.NotImage reason) answers counts order = made_by (EndsListing name.now) told holds f (Err (NotImage name reason)) (Err (unreads.NotImage reason)) answers (refl, refl)
-unread_image view name told holds f unreads.FileFault answers counts order = 
+unread_image view name told holds f unreads.FileFault answers counts order =
     made_where (λ (read : Result (Image × List ℕ) Unread). FailedBehind (IsTrue (is_ok read)) f) (EndsListing name.now) (Ok (empty_image, [])) told holds f (Err FileFault)
     (elim counts [ inl first ↦ inl first | inr behind ↦ inr (behind, refl) ]) order (λ read fails. fails)
 unread_image view name told holds f unreads.NoMemory answers counts order = made_nothing (EndsListing name.now) (Err unreads.NoMemory) told holds f (Err NoMemory) (λ read. tt)
