@@ -17,5 +17,6 @@ pub mod Starting
 pub mod Judging
 pub mod Finishing
 pub mod Transcribing
+pub mod Causes
 pub mod Scheduling
 pub mod ReplayWords

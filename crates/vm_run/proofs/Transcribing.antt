@@ -15,13 +15,15 @@ use Rattle.vm_run.specs.declared.opening.Opened.{Opened}
 use Rattle.vm_run.specs.declared.ending.Ending.TheVariants.{Finished, BadWords, NotBuilt, Absent, NotImage, BadSchedule, FileFault, NoMemory, ShortDevice, OutOfFrames}
 use Rattle.vm_run.specs.Opening.{IsLoaded, word_of, first_of, image_ending, device_ending, EndsSchedule, IsJudged, Says, SaysSchedule, IsScheduleEnding, IsImageEnding}
 use Rattle.command_ending.specs.Command.{Faults}
+use Rattle.vm_run.specs.Ending.{CanBeLost}
+use Rattle.vm_run.specs.Seen.{Seen}
 use Rattle.vm_run.specs.Transcript.{IsRunOf, IsOpenedAs, LawfulFrom, LawfulBy, EndsOpened, EndsRun, EndsBy, EndsNamed, EndsWords, IsRunEnding, IsCaused, WritesSome, Transcribes}
 
 lawful_by : (numbers : Numbers) (image : List ℕ) (files : List NamedFile) (journal : List Entry) (A : Inputs) → IsRunOf A numbers image files → LawfulFrom A journal → LawfulBy numbers image files journal
 lawful_by numbers image files journal A of l = record { inputs = A; of = of; state = l.state; lawful = l.lawful }
 
 ends_as : (numbers : Numbers) (image : List ℕ) (files : List NamedFile) (f : Faults) (ending : Ending) (journal : List Entry) (A : Inputs) → IsRunOf A numbers image files
-    → EndsOpened A ending journal → IsRunEnding f ending → f.open_after ≡ f.open_before → EndsRun numbers image files f ending journal
+    → EndsOpened A ending journal → IsRunEnding f ending journal → f.open_after ≡ f.open_before → EndsRun numbers image files f ending journal
 ends_as numbers image files f Finished journal A of e kind opens =
     (record { inputs = A; of = of; state = e.state; finished = e.finished }, record { open_same = opens; page_same = kind })
 ends_as numbers image files f BadWords journal A of e kind opens = absurd e
@@ -29,7 +31,7 @@ ends_as numbers image files f NotBuilt journal A of e kind opens = absurd e
 ends_as numbers image files f (Absent named) journal A of e kind opens = absurd e
 ends_as numbers image files f (NotImage reason) journal A of e kind opens = absurd e
 ends_as numbers image files f (BadSchedule line) journal A of e kind opens = absurd e
-ends_as numbers image files f FileFault journal A of e kind opens = (lawful_by numbers image files journal A of e.0, e.1, kind)
+ends_as numbers image files f FileFault journal A of e kind opens = (lawful_by numbers image files journal A of e.0, e.1, kind.0)
 ends_as numbers image files f NoMemory journal A of (inl l) kind opens = inl (lawful_by numbers image files journal A of l)
 ends_as numbers image files f NoMemory journal A of (inr empty) kind opens = inr empty
 ends_as numbers image files f (ShortDevice device blocks needed) journal A of e kind opens = absurd e
@@ -37,7 +39,7 @@ ends_as numbers image files f OutOfFrames journal A of e kind opens = lawful_by 
 
 pub run_ends : (numbers : Numbers) (image : List ℕ) (files : List NamedFile) (f : Faults) (ending : Ending) (journal : List Entry) (file : ℕ) (facts : Image)
     → place_of files image ≡ Some file → IsLoaded (image_of (bytes_at files file)) facts
-    → ((A : Inputs) → IsOpenedAs A files facts file numbers.limit image → EndsOpened A ending journal) → IsRunEnding f ending → f.open_after ≡ f.open_before
+    → ((A : Inputs) → IsOpenedAs A files facts file numbers.limit image → EndsOpened A ending journal) → IsRunEnding f ending journal → f.open_after ≡ f.open_before
     → EndsRun numbers image files f ending journal
 run_ends numbers image files f ending journal file facts found is ends kind opens = go (image_of (bytes_at files file)) refl is
   where
@@ -50,17 +52,17 @@ run_ends numbers image files f ending journal file facts found is ends kind open
         (ends A (record { image_is = e; facts = k; limit_is = refl; name_is = refl })) kind opens
 
 -- only the counts of a page's faults matter to a run's ending
-pub kind_by : (f g : Faults) (ending : Ending) → f.page_before ≡ g.page_before → f.page_after ≡ g.page_after → IsRunEnding f ending → IsRunEnding g ending
-kind_by f g Finished b a k = sym a ∙ k ∙ b
-kind_by f g BadWords b a k = k
-kind_by f g NotBuilt b a k = k
-kind_by f g (Absent named) b a k = k
-kind_by f g (NotImage reason) b a k = k
-kind_by f g (BadSchedule line) b a k = k
-kind_by f g FileFault b a k = subst (λ (n : ℕ). Rose n g.page_after) b (subst (Rose f.page_before) a k)
-kind_by f g NoMemory b a k = k
-kind_by f g (ShortDevice device blocks needed) b a k = k
-kind_by f g OutOfFrames b a k = k
+pub kind_by : (f g : Faults) (ending : Ending) (journal : List Entry) → f.page_before ≡ g.page_before → f.page_after ≡ g.page_after → IsRunEnding f ending journal → IsRunEnding g ending journal
+kind_by f g Finished journal b a k = sym a ∙ k ∙ b
+kind_by f g BadWords journal b a k = k
+kind_by f g NotBuilt journal b a k = k
+kind_by f g (Absent named) journal b a k = k
+kind_by f g (NotImage reason) journal b a k = k
+kind_by f g (BadSchedule line) journal b a k = k
+kind_by f g FileFault journal b a k = (subst (λ (n : ℕ). Rose n g.page_after) b (subst (Rose f.page_before) a k.0), k.1)
+kind_by f g NoMemory journal b a k = k
+kind_by f g (ShortDevice device blocks needed) journal b a k = k
+kind_by f g OutOfFrames journal b a k = k
 
 forget_run : (numbers : Numbers) (image : List ℕ) (files : List NamedFile) (f : Faults) (ending : Ending) (journal : List Entry)
     → EndsRun numbers image files f ending journal → EndsRun numbers image files f NoMemory journal
@@ -88,40 +90,39 @@ forget_named numbers schedule image files zero_blocks one_blocks f ending journa
     }
     go (Some told) e by = inl (by.0, tt)
 
--- want of memory may come in place of any ending
-pub forget : (command : Option Command) (words : List (List ℕ)) (files : List NamedFile) (zero_blocks one_blocks : ℕ) (f : Faults) (ending : Ending) (journal : List Entry)
+-- want of memory may come in place of any ending whose line can be lost
+forget : (command : Option Command) (words : List (List ℕ)) (files : List NamedFile) (zero_blocks one_blocks : ℕ) (f : Faults) (ending : Ending) (journal : List Entry) → CanBeLost ending
     → EndsWords command words files zero_blocks one_blocks f ending journal → EndsWords command words files zero_blocks one_blocks f NoMemory journal
-forget None words files zero_blocks one_blocks f ending journal e = (e.0, tt)
-forget (Some Unbuilt) words files zero_blocks one_blocks f ending journal e = (e.0, tt)
-forget (Some (Run numbers)) words files zero_blocks one_blocks f ending journal e =
+forget None words files zero_blocks one_blocks f ending journal lost e = absurd (subst CanBeLost e.0 lost)
+forget (Some Unbuilt) words files zero_blocks one_blocks f ending journal lost e = absurd (subst CanBeLost e.0 lost)
+forget (Some (Run numbers)) words files zero_blocks one_blocks f ending journal lost e =
     forget_named numbers (word_of words 4) (word_of words 5) files zero_blocks one_blocks f ending journal e
 
--- a run that was written is transcribed
-pub transcribed : (words : List (List ℕ)) (holds : Option (List NamedFile)) (had_zero had_one zero_blocks one_blocks : ℕ) (f : Faults) (before after : Option (List ℕ))
-    (old_faults new_faults status : ℕ) (schedule image : List ℕ) (ending : Ending) (journal : List Entry) → had_zero ≡ zero_blocks → had_one ≡ one_blocks
-    → schedule ≡ word_of words 4 → image ≡ word_of words 5 → IsCaused (command_of words) f ending
-    → ((files : List NamedFile) → holds ≡ Some files → EndsWords (command_of words) words files had_zero had_one f ending journal)
-    → WritesSome before after old_faults new_faults schedule image ending journal status
-    → Transcribes words holds zero_blocks one_blocks f before after old_faults new_faults status
-transcribed words holds had_zero had_one zero_blocks one_blocks f before after old_faults new_faults status schedule image ending journal z o s i caused ends w =
-    go (subst (λ (x : List ℕ). WritesSome before after old_faults new_faults x (word_of words 5) ending journal status) s
-    (subst (λ (x : List ℕ). WritesSome before after old_faults new_faults schedule x ending journal status) i w))
-  where
-    devices : (e : Ending) → ((files : List NamedFile) → holds ≡ Some files → EndsWords (command_of words) words files had_zero had_one f e journal)
-        → (files : List NamedFile) → holds ≡ Some files → EndsWords (command_of words) words files zero_blocks one_blocks f e journal
-    devices e h files told =
-        subst (λ (n : ℕ). EndsWords (command_of words) words files n one_blocks f e journal) z
-        (subst (λ (n : ℕ). EndsWords (command_of words) words files had_zero n f e journal) o (h files told))
+forget_cause : (command : Option Command) (zero_blocks one_blocks : ℕ) (f : Faults) (ending : Ending) (journal : List Entry) → CanBeLost ending
+    → IsCaused command zero_blocks one_blocks f ending journal → IsCaused command zero_blocks one_blocks f NoMemory journal
+forget_cause None zero_blocks one_blocks f ending journal lost caused = absurd (subst CanBeLost caused.0 lost)
+forget_cause (Some Unbuilt) zero_blocks one_blocks f ending journal lost caused = absurd (subst CanBeLost caused.0 lost)
+forget_cause (Some (Run numbers)) zero_blocks one_blocks f ending journal lost caused = tt
 
-    go : WritesSome before after old_faults new_faults (word_of words 4) (word_of words 5) ending journal status
-        → Transcribes words holds zero_blocks one_blocks f before after old_faults new_faults status
-    go (inl written) = record { ending = ending; journal = journal; caused = caused; ends = devices ending ends; writes = written }
-    go (inr written) = record {
+-- a run that was written is transcribed
+pub transcribed : (s : Seen) (status : ℕ) (schedule image : List ℕ) (ending : Ending) (journal : List Entry) → schedule ≡ word_of s.words 4 → image ≡ word_of s.words 5
+    → IsCaused (command_of s.words) s.zero_blocks s.one_blocks s.faults ending journal
+    → ((files : List NamedFile) → s.files ≡ Some files → EndsWords (command_of s.words) s.words files s.zero_blocks s.one_blocks s.faults ending journal)
+    → WritesSome s.written_before s.written_after s.sink_faults_before s.sink_faults_after schedule image ending journal status → Transcribes s status
+transcribed s status schedule image ending journal schedule_is image_is caused ends writes =
+    go (subst (λ (x : List ℕ). Writing x (word_of s.words 5)) schedule_is (subst (λ (x : List ℕ). Writing schedule x) image_is writes))
+  where
+    Writing : List ℕ → List ℕ → Type 0
+    Writing x y = WritesSome s.written_before s.written_after s.sink_faults_before s.sink_faults_after x y ending journal status
+
+    go : WritesSome s.written_before s.written_after s.sink_faults_before s.sink_faults_after (word_of s.words 4) (word_of s.words 5) ending journal status → Transcribes s status
+    go (inl written) = record { ending = ending; journal = journal; caused = caused; ends = ends; writes = written }
+    go (inr lost) = record {
       ending = NoMemory;
       journal = journal;
-      caused = tt;
-      ends = devices NoMemory (λ files told. forget (command_of words) words files had_zero had_one f ending journal (ends files told));
-      writes = written;
+      caused = forget_cause (command_of s.words) s.zero_blocks s.one_blocks s.faults ending journal lost.0 caused;
+      ends = λ files told. forget (command_of s.words) s.words files s.zero_blocks s.one_blocks s.faults ending journal lost.0 (ends files told);
+      writes = lost.1;
     }
 
 told_by_schedule : (numbers : Numbers) (schedule image : List ℕ) (files : List NamedFile) (zero_blocks one_blocks : ℕ) (f : Faults) (ending : Ending)

@@ -34,3 +34,16 @@ fault_line schedule image FileFault = codes "vmrun: file fault\n"
 fault_line schedule image NoMemory = codes "vmrun: no memory\n"
 fault_line schedule image (ShortDevice device blocks needed) = short_device_line device blocks needed
 fault_line schedule image OutOfFrames = codes "vmrun: out of frames\n"
+
+-- an ending whose line has a name or a number in it, so that it can be lost for want of memory
+abbrev pub CanBeLost : Ending → Type 0
+CanBeLost Finished = ⊥
+CanBeLost BadWords = ⊥
+CanBeLost NotBuilt = ⊥
+CanBeLost (Absent named) = Unit {0}
+CanBeLost (NotImage reason) = Unit {0}
+CanBeLost (BadSchedule line) = Unit {0}
+CanBeLost FileFault = ⊥
+CanBeLost NoMemory = ⊥
+CanBeLost (ShortDevice device blocks needed) = Unit {0}
+CanBeLost OutOfFrames = ⊥

@@ -12,6 +12,7 @@ pub mod Running
 pub mod Words
 pub mod Ending
 pub mod Opening
+pub mod Seen
 pub mod Transcript
 pub mod Halted
 pub mod Command

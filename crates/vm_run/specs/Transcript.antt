@@ -9,15 +9,16 @@ use Rattle.vm_run.specs.InterimInputs.{Inputs}
 use Rattle.run_text.specs.Text.{text_of}
 use Rattle.vm_run.specs.Next.{State}
 use Rattle.vm_run.specs.Lawful.{IsLawful, IsFinished}
-use Rattle.vm_run.specs.Words.{IsRun, command_of}
+use Rattle.vm_run.specs.Words.{command_of}
 use Rattle.vm_run.specs.declared.words.Command.{Command}
 use Rattle.vm_run.specs.declared.words.Command.TheVariants.{Run, Unbuilt}
 use Rattle.vm_run.specs.declared.words.Numbers.{Numbers}
-use Rattle.command_ending.specs.Command.{Faults, NoFaults, Writes}
-use Rattle.vm_run.specs.Ending.{status_of, fault_line}
-use Rattle.vm_run.specs.Opening.{word_of, IsJudged}
+use Rattle.command_ending.specs.Command.{Faults, NoFaults, OpenFailed, PageFailed, Writes}
+use Rattle.vm_run.specs.Ending.{status_of, fault_line, CanBeLost}
+use Rattle.vm_run.specs.Opening.{word_of, device_ending, IsJudged}
+use Rattle.vm_run.specs.Seen.{Seen}
 use Rattle.vm_run.specs.declared.ending.Ending.{Ending}
-use Rattle.vm_run.specs.declared.ending.Ending.TheVariants.{Finished, BadWords, NotBuilt, FileFault, NoMemory, OutOfFrames}
+use Rattle.vm_run.specs.declared.ending.Ending.TheVariants.{Finished, BadWords, NotBuilt, Absent, NotImage, BadSchedule, FileFault, NoMemory, ShortDevice, OutOfFrames}
 
 -- what the run is of: the name, the image that its file is, and the limit
 pub record IsRunOf (A : Inputs) (numbers : Numbers) (image : List ℕ) (files : List NamedFile) : Type 0 where
@@ -51,19 +52,13 @@ EndsOpened A NoMemory journal = LawfulFrom A journal ⊎ (journal ≡ [])
 EndsOpened A OutOfFrames journal = LawfulFrom A journal
 EndsOpened A _ journal = ⊥
 
--- the ways in which a run that began ends, with what they say of the files' faults
-abbrev pub IsRunEnding : Faults → Ending → Type 0
-IsRunEnding f Finished = f.page_after ≡ f.page_before
-IsRunEnding f FileFault = Rose f.page_before f.page_after
-IsRunEnding f NoMemory = Unit {0}
-IsRunEnding f OutOfFrames = Unit {0}
-IsRunEnding f _ = ⊥
-
--- before a run begins: the ending that was judged, unless a file failed or memory was refused
-abbrev pub EndsEarly : Ending → Faults → Ending → Type 0
-EndsEarly told f FileFault = Rose f.open_before f.open_after
-EndsEarly told f NoMemory = Unit {0}
-EndsEarly told f ending = ending ≡ told
+-- the ways in which a run that began ends, with what they say of the files' faults and of the journal
+abbrev pub IsRunEnding : Faults → Ending → List Entry → Type 0
+IsRunEnding f Finished journal = f.page_after ≡ f.page_before
+IsRunEnding f FileFault journal = Rose f.page_before f.page_after × (journal ≢ [])
+IsRunEnding f NoMemory journal = Unit {0}
+IsRunEnding f OutOfFrames journal = Unit {0}
+IsRunEnding f _ journal = ⊥
 
 -- a lawful journal
 pub record LawfulBy (numbers : Numbers) (image : List ℕ) (files : List NamedFile) (journal : List Entry) : Type 0 where
@@ -112,30 +107,43 @@ EndsNamed numbers schedule image files zero_blocks one_blocks f ending journal =
 
 -- by the words: the first thing met decides
 abbrev pub EndsWords : Option Command → List (List ℕ) → List NamedFile → ℕ → ℕ → Faults → Ending → List Entry → Type 0
-EndsWords None words files zero_blocks one_blocks f ending journal = (journal ≡ []) × EndsEarly BadWords f ending
-EndsWords (Some Unbuilt) words files zero_blocks one_blocks f ending journal = (journal ≡ []) × EndsEarly NotBuilt f ending
+EndsWords None words files zero_blocks one_blocks f ending journal = (ending ≡ BadWords) × (journal ≡ [])
+EndsWords (Some Unbuilt) words files zero_blocks one_blocks f ending journal = (ending ≡ NotBuilt) × (journal ≡ [])
 EndsWords (Some (Run numbers)) words files zero_blocks one_blocks f ending journal =
     EndsNamed numbers (word_of words 4) (word_of words 5) files zero_blocks one_blocks f ending journal
 
--- the causes that hold whether or not the files are told
-abbrev pub IsCaused : Option Command → Faults → Ending → Type 0
-IsCaused command f BadWords = command ≡ None
-IsCaused command f NotBuilt = (command ≡ Some Unbuilt) ⊎ IsRun command
-IsCaused command f FileFault = IsRun command × (Rose f.open_before f.open_after ⊎ Rose f.page_before f.page_after)
-IsCaused command f NoMemory = Unit {0}
-IsCaused command f _ = IsRun command
+-- The causes of a run's ending that hold whether or not the files are told. Before the run begins nothing is written but
+-- the line; a swap device is too short by its number of blocks; and where the run was judged to begin, none is.
+abbrev pub IsRunCaused : Numbers → ℕ → ℕ → Faults → Ending → List Entry → Type 0
+IsRunCaused numbers zero_blocks one_blocks f Finished journal = NoFaults f × (device_ending numbers.swap zero_blocks one_blocks ≡ None)
+IsRunCaused numbers zero_blocks one_blocks f BadWords journal = ⊥
+IsRunCaused numbers zero_blocks one_blocks f NotBuilt journal = journal ≡ []
+IsRunCaused numbers zero_blocks one_blocks f (Absent named) journal = journal ≡ []
+IsRunCaused numbers zero_blocks one_blocks f (NotImage reason) journal = journal ≡ []
+IsRunCaused numbers zero_blocks one_blocks f (BadSchedule line) journal = journal ≡ []
+IsRunCaused numbers zero_blocks one_blocks f FileFault journal = (OpenFailed f × (journal ≡ [])) ⊎ (PageFailed f × (journal ≢ []))
+IsRunCaused numbers zero_blocks one_blocks f NoMemory journal = Unit {0}
+IsRunCaused numbers zero_blocks one_blocks f (ShortDevice device blocks needed) journal =
+    (device_ending numbers.swap zero_blocks one_blocks ≡ Some (ShortDevice device blocks needed)) × (journal ≡ [])
+IsRunCaused numbers zero_blocks one_blocks f OutOfFrames journal = device_ending numbers.swap zero_blocks one_blocks ≡ None
 
--- a run is written as it ended, or as one that found no memory
+-- the same by the words
+abbrev pub IsCaused : Option Command → ℕ → ℕ → Faults → Ending → List Entry → Type 0
+IsCaused None zero_blocks one_blocks f ending journal = (ending ≡ BadWords) × (journal ≡ [])
+IsCaused (Some Unbuilt) zero_blocks one_blocks f ending journal = (ending ≡ NotBuilt) × (journal ≡ [])
+IsCaused (Some (Run numbers)) zero_blocks one_blocks f ending journal = IsRunCaused numbers zero_blocks one_blocks f ending journal
+
+-- a run is written as it ended; or, where its line could be lost, as one that found no memory
 abbrev pub WritesSome : Option (List ℕ) → Option (List ℕ) → ℕ → ℕ → List ℕ → List ℕ → Ending → List Entry → ℕ → Type 0
 WritesSome before after old_faults new_faults schedule image ending journal status =
     Writes before after old_faults new_faults (text_of false journal ++ fault_line schedule image ending) (status_of ending) status
-    ⊎ Writes before after old_faults new_faults (text_of false journal ++ fault_line schedule image NoMemory) (status_of NoMemory) status
+    ⊎ (CanBeLost ending × Writes before after old_faults new_faults (text_of false journal ++ fault_line schedule image NoMemory) (status_of NoMemory) status)
 
 -- A run's status and text: there is one ending and one journal, whose text and fault line were written.
-pub record Transcribes (words : List (List ℕ)) (holds : Option (List NamedFile)) (zero_blocks one_blocks : ℕ) (f : Faults)
-    (before after : Option (List ℕ)) (old_faults new_faults status : ℕ) : Type 0 where
+pub record Transcribes (s : Seen) (status : ℕ) : Type 0 where
   pub ending : Ending
   pub journal : List Entry
-  pub caused : IsCaused (command_of words) f ending
-  pub ends : (files : List NamedFile) → holds ≡ Some files → EndsWords (command_of words) words files zero_blocks one_blocks f ending journal
-  pub writes : Writes before after old_faults new_faults (text_of false journal ++ fault_line (word_of words 4) (word_of words 5) ending) (status_of ending) status
+  pub caused : IsCaused (command_of s.words) s.zero_blocks s.one_blocks s.faults ending journal
+  pub ends : (files : List NamedFile) → s.files ≡ Some files → EndsWords (command_of s.words) s.words files s.zero_blocks s.one_blocks s.faults ending journal
+  pub writes : Writes s.written_before s.written_after s.sink_faults_before s.sink_faults_after
+      (text_of false journal ++ fault_line (word_of s.words 4) (word_of s.words 5) ending) (status_of ending) status

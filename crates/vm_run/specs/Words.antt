@@ -151,12 +151,6 @@ tool_named name =
 unfoldable pub tool_of : List (List ℕ) → Option Tool
 tool_of words = if are_good words then tool_named (word_of words 0) else None
 
--- it can be run
-abbrev pub IsRun : Option Command → Type 0
-IsRun (Some (Run numbers)) = Unit {0}
-IsRun (Some Unbuilt) = ⊥
-IsRun None = ⊥
-
 -- a fact of the numbers, where it is a run
 abbrev pub IfRun : Option Command → (Numbers → Type 0) → Type 0
 IfRun (Some (Run numbers)) P = P numbers

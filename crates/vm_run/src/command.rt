@@ -77,7 +77,7 @@ fn run_opened<F: Files>(
     requires limit { numbers.limit ≤ 1000000 }
     ensures ends { (list : List NamedFile) → F.holds files.old ≡ Some list → (A : Inputs) → IsOpenedAs A list opened.image opened.file numbers.limit name.now
         → EndsOpened A result.ending result.journal }
-    ensures kind { IsRunEnding (record { open_before = F.open_faults files.old; open_after = F.open_faults files.new; page_before = F.page_faults files.old; page_after = F.page_faults files.new }) result.ending }
+    ensures kind { IsRunEnding (record { open_before = F.open_faults files.old; open_after = F.open_faults files.new; page_before = F.page_faults files.old; page_after = F.page_faults files.new }) result.ending result.journal }
     ensures open_faults { F.open_faults files.new ≡ F.open_faults files.old }
 {
     let Ok(mut run) = Running::start(
@@ -112,8 +112,10 @@ fn run_named<F: Files>(
     requires swap { numbers.swap ≤ 131072 }
     requires limit { numbers.limit ≤ 1000000 }
     ensures ends { (list : List NamedFile) → F.holds files.old ≡ Some list
-        → EndsNamed numbers schedule.now image.now list zero_blocks one_blocks (record { open_before = F.open_faults files.old; open_after = F.open_faults files.new; page_before = F.page_faults files.old; page_after = F.page_faults files.new }) result.ending result.journal }
-    ensures caused { IsCaused (Some (Command.Run numbers)) (record { open_before = F.open_faults files.old; open_after = F.open_faults files.new; page_before = F.page_faults files.old; page_after = F.page_faults files.new }) result.ending }
+        → EndsNamed numbers schedule.now image.now list zero_blocks one_blocks
+        (record { open_before = F.open_faults files.old; open_after = F.open_faults files.new; page_before = F.page_faults files.old; page_after = F.page_faults files.new }) result.ending result.journal }
+    ensures caused { IsCaused (Some (Command.Run numbers)) zero_blocks one_blocks
+        (record { open_before = F.open_faults files.old; open_after = F.open_faults files.new; page_before = F.page_faults files.old; page_after = F.page_faults files.new }) result.ending result.journal }
 {
     if let Err(ending) = open_schedule(alloc, files, schedule) {
         return ended_early(alloc, ending);
@@ -137,8 +139,10 @@ fn run_words<F: Files>(
     one_blocks: u32,
 ) -> Ran
     ensures ends { (list : List NamedFile) → F.holds files.old ≡ Some list
-        → EndsWords (command_of (map (λ word. word.now) words.now)) (map (λ word. word.now) words.now) list zero_blocks one_blocks (record { open_before = F.open_faults files.old; open_after = F.open_faults files.new; page_before = F.page_faults files.old; page_after = F.page_faults files.new }) result.ending result.journal }
-    ensures caused { IsCaused (command_of (map (λ word. word.now) words.now)) (record { open_before = F.open_faults files.old; open_after = F.open_faults files.new; page_before = F.page_faults files.old; page_after = F.page_faults files.new }) result.ending }
+        → EndsWords (command_of (map (λ word. word.now) words.now)) (map (λ word. word.now) words.now) list zero_blocks one_blocks
+        (record { open_before = F.open_faults files.old; open_after = F.open_faults files.new; page_before = F.page_faults files.old; page_after = F.page_faults files.new }) result.ending result.journal }
+    ensures caused { IsCaused (command_of (map (λ word. word.now) words.now)) zero_blocks one_blocks
+        (record { open_before = F.open_faults files.old; open_after = F.open_faults files.new; page_before = F.page_faults files.old; page_after = F.page_faults files.new }) result.ending result.journal }
 {
     match read_words(words) {
         None => ended_early(alloc, Ending::BadWords),
@@ -199,9 +203,17 @@ fn run_command<F: Files, S: Sink>(
     one_blocks: u32,
     sink: &mut S,
 ) -> u8
-    ensures { Transcribes (map (λ word. word.now) words.now) (F.holds files.old) zero_blocks one_blocks
-        (record { open_before = F.open_faults files.old; open_after = F.open_faults files.new; page_before = F.page_faults files.old; page_after = F.page_faults files.new })
-        (S.written sink.old) (S.written sink.new) (S.faults sink.old) (S.faults sink.new) result }
+    ensures { Transcribes (record {
+        words = map (λ word. word.now) words.now;
+        files = F.holds files.old;
+        faults = record { open_before = F.open_faults files.old; open_after = F.open_faults files.new; page_before = F.page_faults files.old; page_after = F.page_faults files.new };
+        zero_blocks = zero_blocks;
+        one_blocks = one_blocks;
+        written_before = S.written sink.old;
+        written_after = S.written sink.new;
+        sink_faults_before = S.faults sink.old;
+        sink_faults_after = S.faults sink.new;
+    }) result }
 {
     let ran = run_words(alloc, words, files, zero_blocks, one_blocks);
     write_run(
@@ -219,6 +231,11 @@ fn run_command<F: Files, S: Sink>(
 /// memory; 12 a swap device that is too short; 13 words whose command isn't built yet, or out of frames, until the
 /// pager frees them; 14 a transcript that is no run; 15 a bad transcript; 16 one that is too long; 17 a bad source.
 /// The first thing met decides, but an output that fails gives 8 whatever came before (this project's profile).
+///
+/// No command touches a swap device yet: no block of them is read or written. At the statuses 1 to 4, at 12 and where
+/// the command isn't built, only the line of the fault is written; at 5 and 9 what the run did before may stand in
+/// front of it. Where the files aren't told, `obeys` says as much as the words, the devices and the counts of faults
+/// tell.
 pub fn vmrun<F: Files, D: SwapDev, E: SwapDev, S: Sink>(
     alloc: Global,
     words: &[&str],
@@ -227,9 +244,19 @@ pub fn vmrun<F: Files, D: SwapDev, E: SwapDev, S: Sink>(
     one: &mut E,
     sink: &mut S,
 ) -> u8
-    ensures { Obeys (tool_of (map (λ word. word.now) words.now)) (map (λ word. word.now) words.now) (F.holds files.old) (D.blocks zero.old) (E.blocks one.old)
-        (record { open_before = F.open_faults files.old; open_after = F.open_faults files.new; page_before = F.page_faults files.old; page_after = F.page_faults files.new })
-        (S.written sink.old) (S.written sink.new) (S.faults sink.old) (S.faults sink.new) result }
+    ensures obeys { Obeys (tool_of (map (λ word. word.now) words.now)) (record {
+        words = map (λ word. word.now) words.now;
+        files = F.holds files.old;
+        faults = record { open_before = F.open_faults files.old; open_after = F.open_faults files.new; page_before = F.page_faults files.old; page_after = F.page_faults files.new };
+        zero_blocks = D.blocks zero.old;
+        one_blocks = E.blocks one.old;
+        written_before = S.written sink.old;
+        written_after = S.written sink.new;
+        sink_faults_before = S.faults sink.old;
+        sink_faults_after = S.faults sink.new;
+    }) result }
+    ensures zero { zero.new ≡ zero.old }
+    ensures one { one.new ≡ one.old }
 {
     match read_tool(words) {
         Some(Tool::Assemble) => assemble_file(alloc, files, sink, word_or_none(words, 1)),

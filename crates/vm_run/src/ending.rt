@@ -1,7 +1,8 @@
-ghost use Rattle.std.specs.Prelude.{◌≡◌, IfOk};
-ghost use Rattle.vm_run.specs.Ending.{status_of, fault_line, short_device_line};
+ghost use Rattle.std.specs.Prelude.{◌≡◌, IfOk, IfErr};
+ghost use Rattle.command_ending.specs.Ending.{bytes_of};
+ghost use Rattle.vm_run.specs.Ending.{status_of, fault_line, short_device_line, CanBeLost};
 
-use command_ending::{NO_MEMORY, absent_line, not_image_line, numbered_line, put_number};
+use command_ending::{Line, NO_MEMORY, absent_line, not_image_line, numbered_line, put_number};
 use std::alloc::{AllocError, Global};
 
 /// The file that a word names.
@@ -58,34 +59,37 @@ impl Ending {
         }
     }
 
-    /// The line that follows the transcript; none at the end of a run that is finished.
+    /// The line that follows the transcript; none at the end of a run that is finished. Only one with a name
+    /// or a number in it needs memory.
     pub fn fault_line(
         self,
         alloc: Global,
         schedule: &str,
         image: &str,
-    ) -> Result<Vec<u8>, AllocError>
-        ensures { IfOk result (λ line. line.items ≡ fault_line schedule.now image.now self) }
+    ) -> Result<Line, AllocError>
+        ensures line { IfOk result (λ line. bytes_of line ≡ fault_line schedule.now image.now self) }
+        ensures lost { IfErr result (λ _. CanBeLost self) }
     {
-        match self {
-            Ending::Finished => Ok(Vec::new(alloc)),
-            Ending::BadWords => Vec::from_slice(alloc, b"vmrun: bad words\n"),
-            Ending::NotBuilt => Vec::from_slice(alloc, b"vmrun: not built yet\n"),
+        let made = match self {
+            Ending::Finished => return Ok(Line::Fixed(b"")),
+            Ending::BadWords => return Ok(Line::Fixed(b"vmrun: bad words\n")),
+            Ending::NotBuilt => return Ok(Line::Fixed(b"vmrun: not built yet\n")),
             Ending::Absent(Named::Schedule) => absent_line(alloc, schedule),
             Ending::Absent(Named::Image) => absent_line(alloc, image),
             Ending::NotImage(reason) => not_image_line(alloc, image, reason),
             Ending::BadSchedule(line) => {
                 numbered_line(alloc, b"vmrun: bad schedule line ", line)
             }
-            Ending::FileFault => Vec::from_slice(alloc, b"vmrun: file fault\n"),
-            Ending::NoMemory => Vec::from_slice(alloc, NO_MEMORY),
+            Ending::FileFault => return Ok(Line::Fixed(b"vmrun: file fault\n")),
+            Ending::NoMemory => return Ok(Line::Fixed(NO_MEMORY)),
             Ending::ShortDevice {
                 device,
                 blocks,
                 needed,
             } => short_device_line(alloc, device, blocks, needed),
-            Ending::OutOfFrames => Vec::from_slice(alloc, b"vmrun: out of frames\n"),
-        }
+            Ending::OutOfFrames => return Ok(Line::Fixed(b"vmrun: out of frames\n")),
+        }?;
+        Ok(Line::Made(made))
     }
 }
 

@@ -1,9 +1,12 @@
-use Rattle.std.proofs.Common.{◌≡◌, ℕ, Some, None, Err, refl, sym, ◌∙◌, subst}
+use Rattle.std.proofs.Common.{◌≡◌, ℕ, Some, None, Err, refl, sym, ◌∙◌, ap, subst}
+use Rattle.io_edge.specs.Count.{Rose}
+use Rattle.vm_run.specs.declared.ending.Ending.{Ending}
 use Rattle.vm_run.specs.declared.opening.Opened.{Opened}
 use Rattle.vm_run.specs.Opening.{EndsSchedule, Says, image_ending, device_ending}
 use Rattle.command_ending.specs.Command.{Faults}
 use Rattle.vm_run.specs.Transcript.{IsRunEnding}
 use Rattle.vm_run.proofs.Transcribing.{run_ends, kind_by, ends_by_schedule, ends_by_image, ends_by_device, ends_by_run, ended_early}
+use Rattle.vm_run.proofs.Causes.{caused_by_schedule, caused_by_image, caused_by_device, caused_by_run, caused_early}
 use Rattle.vm_run.proofs.command.run_named.Goals as goal
 
 pub returns-clause-ends : goal.returns-clause-ends
@@ -28,7 +31,7 @@ returns-clause-ends g c = λ list told.
       page_before = g.F.Files.page_faults c.open_image.new.files;
       page_after = g.F.Files.page_faults c.run_opened.new.files;
     } in
-    let kind : IsRunEnding f c.run_opened.result.ending = kind_by after f c.run_opened.result.ending pages refl c.run_opened.ensures.kind in
+    let kind : IsRunEnding f c.run_opened.result.ending c.run_opened.result.journal = kind_by after f c.run_opened.result.ending c.run_opened.result.journal pages refl c.run_opened.ensures.kind in
     ends_by_run c.args.numbers c.args.schedule.now c.args.image.now list c.args.zero_blocks c.args.one_blocks f c.run_opened.result.ending c.run_opened.result.journal
     no_schedule no_image no_device
     (run_ends c.args.numbers c.args.image.now list f c.run_opened.result.ending c.run_opened.result.journal c.in-Ok.opened.file c.in-Ok.opened.image
@@ -75,3 +78,61 @@ returns-in-Some-clause-ends g c = λ list told.
     ended_early c.args.numbers c.args.schedule.now c.args.image.now list c.args.zero_blocks c.args.one_blocks f c.in-Some.ending c.ended_early-in-Some.result.ending c.ended_early-in-Some.result.journal
     c.ended_early-in-Some.ensures.ending c.ended_early-in-Some.ensures.journal
     (ends_by_device c.args.numbers c.args.schedule.now c.args.image.now list c.args.zero_blocks c.args.one_blocks f c.in-Some.ending (c.in_default.ensures.says list told) (c.in-Ok.ensures.says list found) (sym c.in-Some.ensures))
+
+pub returns-clause-caused : goal.returns-clause-caused
+returns-clause-caused g c =
+    let f : Faults = record {
+      open_before = g.F.Files.open_faults c.args.files.now;
+      open_after = g.F.Files.open_faults c.run_opened.new.files;
+      page_before = g.F.Files.page_faults c.args.files.now;
+      page_after = g.F.Files.page_faults c.run_opened.new.files;
+    } in
+    let after : Faults = record {
+      open_before = g.F.Files.open_faults c.open_image.new.files;
+      open_after = g.F.Files.open_faults c.run_opened.new.files;
+      page_before = g.F.Files.page_faults c.open_image.new.files;
+      page_after = g.F.Files.page_faults c.run_opened.new.files;
+    } in
+    caused_by_run c.args.numbers c.args.zero_blocks c.args.one_blocks f c.run_opened.result.ending c.run_opened.result.journal
+    (kind_by after f c.run_opened.result.ending c.run_opened.result.journal (c.open_image.ensures.page_faults ∙ c.open_schedule.ensures.page_faults) refl c.run_opened.ensures.kind)
+    (c.run_opened.ensures.open_faults ∙ c.in-Ok.ensures.good ∙ c.in_default.ensures.good refl)
+    (sym c.judge_devices.ensures ∙ c.in_default-judge_devices.is)
+
+pub returns-in-Err-clause-caused : goal.returns-in-Err-clause-caused
+returns-in-Err-clause-caused g c =
+    let f : Faults = record {
+      open_before = g.F.Files.open_faults c.args.files.now;
+      open_after = g.F.Files.open_faults c.open_schedule.new.files;
+      page_before = g.F.Files.page_faults c.args.files.now;
+      page_after = g.F.Files.page_faults c.open_schedule.new.files;
+    } in
+    caused_early c.args.numbers c.args.zero_blocks c.args.one_blocks f c.in-Err.ending c.ended_early.result.ending c.ended_early.result.journal
+    c.ended_early.ensures.ending c.ended_early.ensures.journal
+    (caused_by_schedule c.args.numbers c.args.zero_blocks c.args.one_blocks f c.in-Err.ending c.in-Err.ensures.early
+    (λ is. c.in-Err.ensures.fault (ap (λ (e : Ending). Err e) is)) c.open_schedule.ensures.page_faults)
+
+pub returns-in-Err-open_image-clause-caused : goal.returns-in-Err-open_image-clause-caused
+returns-in-Err-open_image-clause-caused g c =
+    let f : Faults = record {
+      open_before = g.F.Files.open_faults c.args.files.now;
+      open_after = g.F.Files.open_faults c.open_image.new.files;
+      page_before = g.F.Files.page_faults c.args.files.now;
+      page_after = g.F.Files.page_faults c.open_image.new.files;
+    } in
+    caused_early c.args.numbers c.args.zero_blocks c.args.one_blocks f c.in-Err-open_image.ending c.ended_early-in-Err-open_image.result.ending c.ended_early-in-Err-open_image.result.journal
+    c.ended_early-in-Err-open_image.ensures.ending c.ended_early-in-Err-open_image.ensures.journal
+    (caused_by_image c.args.numbers c.args.zero_blocks c.args.one_blocks f c.in-Err-open_image.ending c.in-Err-open_image.ensures.early
+    (λ is. subst (λ (n : ℕ). Rose n f.open_after) (c.in_default.ensures.good refl) (c.in-Err-open_image.ensures.fault (ap (λ (e : Ending). Err e) is)))
+    (c.open_image.ensures.page_faults ∙ c.open_schedule.ensures.page_faults))
+
+pub returns-in-Some-clause-caused : goal.returns-in-Some-clause-caused
+returns-in-Some-clause-caused g c =
+    let f : Faults = record {
+      open_before = g.F.Files.open_faults c.args.files.now;
+      open_after = g.F.Files.open_faults c.open_image.new.files;
+      page_before = g.F.Files.page_faults c.args.files.now;
+      page_after = g.F.Files.page_faults c.open_image.new.files;
+    } in
+    caused_early c.args.numbers c.args.zero_blocks c.args.one_blocks f c.in-Some.ending c.ended_early-in-Some.result.ending c.ended_early-in-Some.result.journal
+    c.ended_early-in-Some.ensures.ending c.ended_early-in-Some.ensures.journal
+    (caused_by_device c.args.numbers c.args.zero_blocks c.args.one_blocks f c.in-Some.ending (sym c.in-Some.ensures))
