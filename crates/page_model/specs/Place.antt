@@ -8,6 +8,7 @@ use Rattle.vm_facts.specs.declared.entry.Entry.{Entry}
 use Rattle.vm_facts.specs.declared.entry.Entry.TheVariants as entries
 use Rattle.aout_image.specs.declared.Image.{Image}
 use Rattle.flat_state.specs.Flat.{Holding, Holds, Lends, Zombie, Process, FlatState, NamedImage, image_numbered, process_of}
+use Rattle.flat_state.specs.Change.{lends_to}
 use Rattle.flat_state.specs.declared.change.Change.{Change}
 use Rattle.flat_state.specs.declared.change.Change.TheVariants.{Keep, Resize, Fork, Lend, Exec, Reap, Sleep, End}
 use Rattle.page_model.specs.Pages.{Slot, Zeros, SpacePages, changed}
@@ -160,11 +161,6 @@ space_of_holding (Zombie status) = 0
 abbrev pub space_of_process : Option Process → ℕ
 space_of_process None = 0
 space_of_process (Some q) = space_of_holding q.holding
-
-abbrev pub lends_to : ℕ → Holding → Bool
-lends_to pid (Holds s) = false
-lends_to pid (Lends sid child) = child == pid
-lends_to pid (Zombie status) = false
 
 -- somebody lent the process its space
 abbrev pub is_borrower : List Process → ℕ → Bool

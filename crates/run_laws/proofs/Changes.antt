@@ -1,7 +1,7 @@
 -- A change of a process leaves what stands.
 use Rattle.std.proofs.Common.{◌≡◌, ℕ, zero, suc, ◌+◌, ◌*◌, ◌<◌, ◌≤◌, ◌==◌, ◌||◌, ◌&&◌, Bool, true, false, cond, List, [], ◌∷◌, ◌++◌, length, map, find, Option, Some, None, refl, sym, ap, ap₂, ◌∙◌, subst, arith}
 use Rattle.flat_state.specs.Space.{Space}
-use Rattle.flat_state.specs.Flat.{Holding, Holds, Lends, Zombie, Process, FlatState, NamedImage, image_numbered}
+use Rattle.flat_state.specs.Flat.{Process, FlatState, NamedImage, image_numbered}
 use Rattle.vm_facts.specs.declared.page.Page.{Page}
 use Rattle.vm_facts.specs.declared.page.Page.TheVariants as pages
 use Rattle.vm_facts.specs.declared.page.PageState.{PageState}
@@ -27,14 +27,9 @@ use Rattle.run_laws.specs.Standing.{EachOnce}
 
 -- What goes back.
 
-place_lends : (pid : ℕ) (h : Holding) → lends_to pid h ≡ Rattle.page_model.specs.Place.lends_to pid h
-place_lends pid (Holds s) = refl
-place_lends pid (Lends sid child) = refl
-place_lends pid (Zombie status) = refl
-
 pub borrower_same : (ps : List Process) (pid : ℕ) → is_there (find (λ q. lends_to pid q.holding) ps) ≡ is_borrower ps pid
 borrower_same [] pid = refl
-borrower_same (q ∷ ps) pid = go (lends_to pid q.holding) (borrower_same ps pid) ∙ ap (λ (b : Bool). b || is_borrower ps pid) (place_lends pid q.holding)
+borrower_same (q ∷ ps) pid = go (lends_to pid q.holding) (borrower_same ps pid)
   where
     go : (b : Bool) → is_there (find (λ q. lends_to pid q.holding) ps) ≡ is_borrower ps pid → is_there (cond b (Some q) (find (λ q. lends_to pid q.holding) ps)) ≡ (b || is_borrower ps pid)
     go true ih = refl

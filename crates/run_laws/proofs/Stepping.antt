@@ -15,7 +15,7 @@ use Rattle.flat_state.specs.Journal.{append}
 use Rattle.page_model.specs.Pages.{numbered}
 use Rattle.page_model.specs.Placement.{Placement, Residence, space_number, image_of, image_in, sharers, slots_of, parts_of}
 use Rattle.page_model.specs.Moves.{touch, touch_all}
-use Rattle.page_model.specs.Place.{is_borrower, place_change, place_step, space_of_holding, space_of_process, data_count, stack_count}
+use Rattle.page_model.specs.Place.{is_borrower, place_change, place_step, space_of_holding, space_of_process, data_count}
 use Rattle.page_model.specs.Swapper.{is_out, is_settled, residence_of, names_page, is_of_space, is_of_text}
 use Rattle.page_model.specs.Conditions.{LosesPages}
 use Rattle.kernel_model.specs.Coupled.{Outline, Fits, SameTables, outline_of}
@@ -75,7 +75,7 @@ borrows_is : (ps : List Process) (pid : ℕ) → is_borrower ps pid ≡ borrows_
 borrows_is [] pid = refl
 borrows_is (q ∷ ps) pid = ap (λ (b : Bool). b || is_borrower ps pid) (one q.holding) ∙ ap (λ (b : Bool). lends_by pid (life_of q.holding) || b) (borrows_is ps pid)
   where
-    one : (h : Holding) → Rattle.page_model.specs.Place.lends_to pid h ≡ lends_by pid (life_of h)
+    one : (h : Holding) → Rattle.flat_state.specs.Change.lends_to pid h ≡ lends_by pid (life_of h)
     one (Holds s) = refl
     one (Lends sid child) = refl
     one (Zombie status) = refl

@@ -380,7 +380,7 @@ first_lender (q ∷ ps) pid d e = elim (cases_Bool (lends_to pid q.holding)) [
       (r.0, miss pid_of r.0.pid q ps (λ i. none_some r.0 (sym (absent_none pid_of r.0.pid ps (subst (λ (m : ℕ). IsAbsent m (map pid_of ps)) i d.0)) ∙ r.1)) ∙ r.1, r.2))
 ]
   where
-    rest : (h : Holding) → lends_to pid h ≡ false → (Rattle.page_model.specs.Place.lends_to pid h || is_borrower ps pid) ≡ true → is_borrower ps pid ≡ true
+    rest : (h : Holding) → lends_to pid h ≡ false → (Rattle.flat_state.specs.Change.lends_to pid h || is_borrower ps pid) ≡ true → is_borrower ps pid ≡ true
     rest (Holds s) t y = y
     rest (Lends sid child) t y = sym (ap (λ (b : Bool). b || is_borrower ps pid) t) ∙ y
     rest (Zombie status) t y = y

@@ -6,7 +6,6 @@ use Rattle.flat_state.specs.Numbers.{IsAbsent, AllDistinct, IsNumbered}
 use Rattle.flat_state.specs.Lenders.{IsLender}
 use Rattle.page_model.specs.Pages.{numbered}
 use Rattle.page_model.specs.Place.{is_borrower}
-use Rattle.page_model.specs.Place as place
 use Rattle.kernel_model.specs.Kernel.{Kernel, Proc, life_of}
 use Rattle.kernel_model.specs.Coupled.{Outline, outline_of, outline_kept, SameTables}
 use Rattle.kernel_model.specs.Unit.{lends_life, lender_among, has_lender}
@@ -29,14 +28,9 @@ has_kept : (ks : List Proc) (pid : ℕ) → has_lender ks pid ≡ has_in (map ou
 has_kept [] pid = refl
 has_kept (p ∷ ks) pid = ap (λ (b : Bool). lends_life pid p.life || b) (has_kept ks pid)
 
-place_lends : (pid : ℕ) (h : Holding) → lends_life pid (life_of h) ≡ place.lends_to pid h
-place_lends pid (Holds s) = refl
-place_lends pid (Lends sid child) = refl
-place_lends pid (Zombie status) = refl
-
 has_flat : (ps : List Process) (pid : ℕ) → has_in (map outline_of ps) pid ≡ is_borrower ps pid
 has_flat [] pid = refl
-has_flat (p ∷ ps) pid = ap₂ (λ (b c : Bool). b || c) (place_lends pid p.holding) (has_flat ps pid)
+has_flat (p ∷ ps) pid = ap₂ (λ (b c : Bool). b || c) (lends_is pid p.holding) (has_flat ps pid)
 
 pub borrows_is : (k : Kernel) (flat : FlatState) (pid : ℕ) → SameTables k flat → has_lender k.processes pid ≡ is_borrower flat.processes pid
 borrows_is k flat pid t = has_kept k.processes pid ∙ ap (λ (os : List Outline). has_in os pid) t.processes ∙ has_flat flat.processes pid

@@ -274,12 +274,12 @@ returned_none (q ∷ ps) pid s e = go q.holding e (returned_none ps pid s)
     by true h ih = absurd cc
     by false h ih = ap (λ (l : List Process). q ∷ l) (ih h)
 
-    go : (x : Holding) → (Rattle.page_model.specs.Place.lends_to pid x || is_borrower ps pid) ≡ false → (is_borrower ps pid ≡ false → returned pid s ps ≡ ps) → returned_by (Rattle.flat_state.specs.Change.lends_to pid x) s q ps (returned pid s ps) ≡ q ∷ ps
+    go : (x : Holding) → (Rattle.flat_state.specs.Change.lends_to pid x || is_borrower ps pid) ≡ false → (is_borrower ps pid ≡ false → returned pid s ps ≡ ps) → returned_by (Rattle.flat_state.specs.Change.lends_to pid x) s q ps (returned pid s ps) ≡ q ∷ ps
     go (Holds t) h ih = by false h ih
     go (Lends sid child) h ih = by (child == pid) h ih
     go (Zombie status) h ih = by false h ih
 
-pub borrower_replaced : (ps : List Process) (p : Process) (pid : ℕ) → Rattle.page_model.specs.Place.lends_to pid p.holding ≡ false → is_borrower ps pid ≡ false → is_borrower (replaced ps p) pid ≡ false
+pub borrower_replaced : (ps : List Process) (p : Process) (pid : ℕ) → Rattle.flat_state.specs.Change.lends_to pid p.holding ≡ false → is_borrower ps pid ≡ false → is_borrower (replaced ps p) pid ≡ false
 unfolding replaced
 borrower_replaced [] p pid h e = refl
 borrower_replaced (q ∷ ps) p pid h e = go (q.pid == p.pid) (borrower_replaced ps p pid h)
@@ -289,8 +289,8 @@ borrower_replaced (q ∷ ps) p pid h e = go (q.pid == p.pid) (borrower_replaced 
     rest false c i = (refl, i)
 
     go : (b : Bool) → (is_borrower ps pid ≡ false → is_borrower (replaced ps p) pid ≡ false) → is_borrower (replaced_by b p q ps (replaced ps p)) pid ≡ false
-    go true ih = ap (λ (b : Bool). b || is_borrower ps pid) h ∙ (rest (Rattle.page_model.specs.Place.lends_to pid q.holding) (is_borrower ps pid) e).1
-    go false ih = ap (λ (b : Bool). b || is_borrower (replaced ps p) pid) (rest (Rattle.page_model.specs.Place.lends_to pid q.holding) (is_borrower ps pid) e).0 ∙ ih (rest (Rattle.page_model.specs.Place.lends_to pid q.holding) (is_borrower ps pid) e).1
+    go true ih = ap (λ (b : Bool). b || is_borrower ps pid) h ∙ (rest (Rattle.flat_state.specs.Change.lends_to pid q.holding) (is_borrower ps pid) e).1
+    go false ih = ap (λ (b : Bool). b || is_borrower (replaced ps p) pid) (rest (Rattle.flat_state.specs.Change.lends_to pid q.holding) (is_borrower ps pid) e).0 ∙ ih (rest (Rattle.flat_state.specs.Change.lends_to pid q.holding) (is_borrower ps pid) e).1
 
 -- A process that holds its own space enters an image.
 pub exec_coupled_step : (size : ℕ) (before : Holdings) (k : Kernel) (images : List NamedImage) (image : List ℕ) (flat : FlatState) (pid : ℕ) (regs : Regs) (e : Entry) (number : ℕ) (top : List ℕ) (named : NamedImage) (q : Process) (s : Space) → Sound size (record k { holdings = before }) → IsNumbered flat → OutHold k.place flat
