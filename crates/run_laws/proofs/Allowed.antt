@@ -1,7 +1,6 @@
 -- Each paging entry that the policy gives may be made, and leaves at most 16 transfers in flight.
 use Rattle.std.proofs.Common.{◌≡◌, ℕ, zero, suc, ◌<◌, ◌≤◌, Bool, true, false, cond, ◌&&◌, List, [], ◌∷◌, length, Option, Some, None, refl, sym, ap, ◌∙◌, subst, arith}
 use Rattle.vm_facts.specs.declared.page.Page.{Page}
-use Rattle.vm_facts.specs.declared.page.Page.TheVariants.{Data, Stack, Text}
 use Rattle.vm_facts.specs.declared.page.PageState.{PageState}
 use Rattle.vm_facts.specs.declared.page.PageState.TheVariants.{Unfilled, Valid, Invalid, Coming, Going, OnSwap}
 use Rattle.vm_facts.specs.declared.entry.Entry.{Entry}
@@ -18,7 +17,6 @@ use Rattle.std.specs.Option.{is_some}
 use Rattle.page_model.specs.Serve.{force_entry, is_full, read_entry, read_entry_if, bring_entry_by, feed_entry_by, serve_entry_by, serve_entry}
 use Rattle.page_model.specs.Swapper.{put_out_unit}
 use Rattle.page_model.specs.Conditions.{CanEnter, IsShared}
-use Rattle.page_model.specs.PageBytes.{IsWritable}
 use Rattle.page_model.specs.Dues.{DueStand, IsDue, NotDue}
 use Rattle.page_model.specs.Ownership.{OwnsFrames, seats}
 use Rattle.page_laws.proofs.Lists.Pages.{same_page_self}
@@ -30,6 +28,7 @@ use Rattle.page_laws.proofs.Swapper.PuttingOut.{unit_case, unit_can, not_full, r
 use Rattle.page_laws.proofs.Ends.Serving.{in_flight, full_some}
 use Rattle.page_laws.proofs.Moves.Transfers.{entry_count, done_count, retire_count}
 use Rattle.run_model.specs.Next.{fill_by, fill_unit, begins_write, move_by, move_unit}
+use Rattle.kernel_laws.proofs.Kept.Pages.{writable_shared}
 use Rattle.run_laws.specs.Standing.{IsAllowed, EachOnce}
 
 -- Lists of what is due.
@@ -143,11 +142,6 @@ served_few locked at p q l = state (state_of p q)
     state OnSwap = feed OnSwap p.free
 
 -- Fills that are due.
-
-writable_shared : (p : Placement) (q : Page) → IsWritable q → IsShared p q
-writable_shared p (Data sid v) w = tt
-writable_shared p (Stack sid v) w = tt
-writable_shared p (Text image v) w = absurd w
 
 -- the fill of what is due first
 pub fill_allowed : (p : Placement) (d : Due) (ds : List Due) (e : Entry) → p.due ≡ d ∷ ds → DueStand p → EachOnce p.due → ((u : Entry) → u ≡ e → 0 < length p.free → CanEnter p (due_page d) → IsShared p (due_page d) → NotDue (due_after p.due (due_page d)) (due_page d) → state_of p (due_page d) ≡ Unfilled → filling_of p (due_page d) ≡ Zeros → IsAllowed p u) → IsAllowed p (fill_unit p e)

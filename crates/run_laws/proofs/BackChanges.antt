@@ -16,12 +16,12 @@ use Rattle.page_model.specs.Place.{is_borrower, place_change}
 use Rattle.page_model.specs.Dues.{DueStand}
 use Rattle.page_model.specs.Conditions.{HaveParts, CanChange, ApartFrom}
 use Rattle.page_model.specs.Swapper.{is_out}
-use Rattle.kernel_model.specs.Kernel.{Kernel, Proc, New}
+use Rattle.kernel_model.specs.Kernel.{Kernel, New}
 use Rattle.kernel_model.specs.Coupled.{Fits, SameTables}
 use Rattle.kernel_model.specs.Sound.{Sound, lives, lives_in, has_life}
-use Rattle.kernel_model.specs.ChangeStep.{change_step, pass_step, holdings_after, life_of_proc}
+use Rattle.kernel_model.specs.ChangeStep.{change_step, pass_step, holdings_after}
 use Rattle.kernel_model.specs.Asks.{asked}
-use Rattle.kernel_model.specs.Numbers.{Numbered, TakesNext, ReadyBy, ReadyFor}
+use Rattle.kernel_model.specs.Numbers.{Numbered, ReadyFor}
 use Rattle.kernel_model.specs.Start.{ImageFits, ImagesFit}
 use Rattle.flat_state.specs.Numbers.{IsNumbered}
 use Rattle.flat_state.specs.Lenders.{LendsStand, IsLender}
@@ -40,17 +40,12 @@ use Rattle.kernel_laws.proofs.Machine.Processes.{Stepping, by_life, step_is}
 use Rattle.kernel_laws.proofs.Machine.Through.{exec_back_tables, end_back_tables}
 use Rattle.flat_laws.proofs.Asking.{own_space, change_same}
 use Rattle.flat_model.specs.Asked.{given_up}
+use Rattle.kernel_laws.proofs.Kept.Changes.{GivesBack, takes_none, back_ready}
 use Rattle.run_laws.specs.Standing.{machine_of, EachOnce, Placed, ExecFits}
 use Rattle.run_laws.proofs.Bridge.{from_machine}
 use Rattle.run_laws.proofs.Changes.{given_same, change_once}
 use Rattle.run_laws.proofs.OwnChanges.{Changing, Changed, with_found}
 use Rattle.run_laws.proofs.Living.{LivedOr, flat_back, back_from}
-
--- a change by which a borrower gives its space back
-abbrev pub GivesBack : Change → Type 0
-GivesBack (Exec image top) = Unit {0}
-GivesBack (End status) = Unit {0}
-GivesBack _ = ⊥
 
 pub record Told (A : Inputs) (l : Kernel) (after : FlatState) : Type 0 where
   pub tables : SameTables l after
@@ -83,28 +78,6 @@ back_lands A k flat pid regs e q m s change a gb =
     (subst (λ (x : Kernel). Lands A k pid 0 e change (change_step A.images x pid regs e change)) (sym (back_kernel k flat pid q m s a))
     (subst (Lands A k pid 0 e change) (sym (step_is A.images k1 pid regs e change (record g.proc { life = New }) New (back_proc k flat pid q m s a) refl))
     (subst (λ (n : ℕ). Lands A k n 0 e change (by_life A.images k1 (record g.proc { regs = regs; life = New }) New e change)) g.pid_is (record { place = refl; holdings = refl; journal = refl }))))
-
-pub takes_none : (k : Kernel) (change : Change) → GivesBack change → TakesNext k change
-takes_none k (Exec image top) gb = tt
-takes_none k (End status) gb = tt
-takes_none k _ gb = absurd gb
-
--- who borrowed is ready once the space went back
-pub back_ready : (k : Kernel) (flat : FlatState) (pid : ℕ) (q m : Process) (s : Space) (change : Change) → (a : Borrowing k flat pid q m s) → GivesBack change → ReadyFor (pass_step k pid m.pid) pid change
-back_ready k flat pid q m s change a gb =
-    subst (λ (x : Kernel). ReadyFor x pid change) (sym (back_kernel k flat pid q m s a))
-    (subst (λ (o : Option Proc). ReadyBy k1 pid (life_of_proc o) change) (sym (back_proc k flat pid q m s a)) (by change gb))
-  where
-    k1 : Kernel
-    k1 = record k { processes = map (passes s.sid pid m.pid) k.processes }
-
-    alive : lives k1.processes pid ≡ true
-    alive = ap lives_in (back_proc k flat pid q m s a)
-
-    by : (x : Change) → GivesBack x → ReadyBy k1 pid New x
-    by (Exec image top) gb = record { alive = alive; next = tt; reaps = tt; space = λ z. absurd cc }
-    by (End status) gb = record { alive = alive; next = tt; reaps = tt; space = λ z. absurd cc }
-    by _ gb = absurd gb
 
 pub asks_same : (images : List NamedImage) (k l : Kernel) (pid : ℕ) (change : Change) → GivesBack change → l.place ≡ k.place → l.next_sid ≡ k.next_sid → asked images l pid change ≡ asked images k pid change
 asks_same images k l pid (Exec image top) gb p n = ap (λ (x : Placement). Rattle.kernel_model.specs.Asks.image_asked x l.next_sid image (image_numbered images image)) p ∙ ap (λ (m : ℕ). Rattle.kernel_model.specs.Asks.image_asked k.place m image (image_numbered images image)) n

@@ -2,14 +2,13 @@
 use Rattle.std.proofs.Common.{◌≡◌, ℕ, ◌*◌, ◌<◌, ◌≤◌, Bool, true, false, List, [], ◌∷◌, length, Some, None, refl, sym, ap, subst, arith}
 use Rattle.flat_state.specs.Flat.{FlatState, NamedImage}
 use Rattle.vm_facts.specs.declared.page.Page.{Page}
-use Rattle.vm_facts.specs.declared.page.Page.TheVariants.{Data, Stack, Text}
 use Rattle.vm_facts.specs.declared.page.PageState.{PageState}
 use Rattle.vm_facts.specs.declared.page.PageState.TheVariants.{Unfilled, Valid, Invalid, Coming, Going, OnSwap}
 use Rattle.vm_facts.specs.declared.entry.Entry.{Entry}
 use Rattle.vm_facts.specs.declared.entry.Entry.TheVariants as entries
 use Rattle.flat_state.specs.PageNames.{number_of, pages_from}
 use Rattle.page_model.specs.Pages.{Filling, Zeros, OfImage, frame_of, is_valid}
-use Rattle.page_model.specs.Placement.{Placement, Transfer, Start, CopyOf, IsThere, due_at, state_of, filling_of}
+use Rattle.page_model.specs.Placement.{Transfer, Start, CopyOf, IsThere, due_at, state_of, filling_of}
 use Rattle.page_model.specs.Runs.{run_in}
 use Rattle.page_model.specs.Serve.{force_entry, is_full, source_for, read_entry_if, bring_entry_by, feed_entry_by, serve_entry_by, serve_entry}
 use Rattle.page_model.specs.Conditions.{CanEnter, EachPage, HasSeat}
@@ -22,6 +21,7 @@ use Rattle.kernel_model.specs.Stands.{Stands}
 use Rattle.kernel_laws.proofs.Sound.Steps.{first_length, landed_length}
 use Rattle.kernel_laws.proofs.Stands.Steps.{get_stands, reclaim_stands, hand_stands, push_stands, done_stands, zero_stands, copy_stands}
 use Rattle.kernel_laws.proofs.Machine.Done.{done_coupled_step}
+use Rattle.kernel_laws.proofs.Kept.Pages.{zeros_writable}
 use Rattle.kernel_laws.proofs.Machine.Moves.{push_coupled_step, start_coupled, copy_coupled, read_coupled_step, reclaim_coupled_step, hand_coupled_step, zero_coupled}
 
 -- the machine behind a paging entry, and the swap image
@@ -90,12 +90,6 @@ goes_copy size k images image flat locked read q r parent f x c w some e d v = r
   stands = copy_stands images k flat q r parent d x.stands;
   tokens = first_length k.place.free k.frames (Rattle.kernel_model.specs.Kernel.copied_bytes k (due_at k.place.due q));
 }
-
--- a page that is filled with zeros is one of data or stack
-zeros_writable : (p : Placement) (q : Page) → filling_of p q ≡ Zeros → IsWritable q
-zeros_writable p (Data sid v) e = tt
-zeros_writable p (Stack sid v) e = tt
-zeros_writable p (Text image v) e = absurd cc
 
 pub serve_goes : (size : ℕ) (k : Kernel) (images : List NamedImage) (image : List ℕ) (flat : FlatState) (locked : List Page) (read : List (List ℕ)) (q : Page) → Machine size k images image flat read → IsThere k.place q → NotDue k.place.due q → is_valid (state_of k.place q) ≡ false
     → Goes k images image flat locked read (serve_entry k.place q)

@@ -42,13 +42,14 @@ use Rattle.kernel_laws.proofs.Flat.Numbers.{changes_numbered}
 use Rattle.kernel_laws.proofs.Machine.Processes.{Stepping, stepping}
 use Rattle.flat_laws.proofs.Asking.{own_space, shared_same, no_sharers, some_sharers, change_same}
 use Rattle.flat_model.specs.Asked.{is_shared, given_up}
+use Rattle.kernel_laws.proofs.Kept.Changes.{takes_next, may_reap, GivesBack, takes_none, back_ready}
 use Rattle.run_laws.specs.Standing.{Own}
 use Rattle.kernel_model.specs.Unit.{lender_among, keeps_step, back_step, passing_change}
 use Rattle.kernel_laws.proofs.Kept.Borrowed.{lender_is}
 use Rattle.run_laws.proofs.Changes.{given_same}
-use Rattle.run_laws.proofs.OwnChanges.{Changing, keeps_place, keeps_holdings, own_false, end_false, own_told, takes_next, may_reap, own_kept, own_lands}
+use Rattle.run_laws.proofs.OwnChanges.{Changing, keeps_place, keeps_holdings, own_false, end_false, own_told, own_kept, own_lands}
 use Rattle.run_laws.proofs.OwnChanges as own
-use Rattle.run_laws.proofs.BackChanges.{GivesBack, back_told, back_lands, takes_none, back_ready, asks_same}
+use Rattle.run_laws.proofs.BackChanges.{back_told, back_lands, asks_same}
 use Rattle.run_laws.proofs.BackChanges as back
 use Rattle.run_laws.proofs.Acts.{none_found}
 use Rattle.run_laws.proofs.Written.{Mid}

@@ -1,5 +1,5 @@
 -- A change of a process that holds its own space, or doesn't give it up, leaves what stands.
-use Rattle.std.proofs.Common.{◌≡◌, ◌≢◌, ℕ, Bool, true, false, List, [], ◌∷◌, ◌++◌, length, Option, Some, None, Ok, refl, sym, ap, ◌∙◌, subst}
+use Rattle.std.proofs.Common.{◌≡◌, ◌≢◌, ℕ, Bool, true, false, List, [], length, Option, Some, None, Ok, refl, sym, ap, ◌∙◌, subst}
 use Rattle.flat_state.specs.Space.{Space}
 use Rattle.flat_state.specs.Flat.{Holds, Process, FlatState, NamedImage, Inputs, process_of}
 use Rattle.vm_facts.specs.declared.regs.Regs.{Regs}
@@ -17,33 +17,29 @@ use Rattle.page_model.specs.Dues.{DueStand}
 use Rattle.page_model.specs.Conditions.{HaveParts, CanChange, ApartFrom}
 use Rattle.page_model.specs.Swapper.{is_out}
 use Rattle.page_model.specs.Ownership.{OneOwner}
-use Rattle.kernel_model.specs.Kernel.{Kernel, Proc, Life, New, HoldsSpace}
+use Rattle.kernel_model.specs.Kernel.{Kernel, Life, HoldsSpace}
 use Rattle.kernel_model.specs.Coupled.{Fits, SameTables}
-use Rattle.kernel_model.specs.Sound.{Sound, lives, lives_in, DataFits}
-use Rattle.kernel_model.specs.ChangeStep.{change_step, holdings_after, space_of_life, gave_back, life_of_proc, with_proc, child_proc}
+use Rattle.kernel_model.specs.Sound.{Sound, lives}
+use Rattle.kernel_model.specs.ChangeStep.{change_step, holdings_after, space_of_life, gave_back, life_of_proc}
 use Rattle.kernel_model.specs.Asks.{asked, WantsThese}
-use Rattle.kernel_model.specs.Taken.{MayReap}
-use Rattle.kernel_model.specs.Numbers.{Numbered, TakesNext, SettlesFor, ReadyFor}
+use Rattle.kernel_model.specs.Numbers.{Numbered, SettlesFor, ReadyFor}
 use Rattle.kernel_model.specs.Start.{ImageFits, ImagesFit}
 use Rattle.flat_state.specs.Numbers.{IsNumbered}
 use Rattle.kernel_model.specs.Stands.{Stands}
-use Rattle.page_laws.proofs.Lists.Local.{none_some}
-use Rattle.kernel_laws.proofs.Flat.Numbered.{pushed_new, pushed_found}
 use Rattle.kernel_laws.proofs.Sound.Steps.{pass_sound, pass_lives}
 use Rattle.kernel_laws.proofs.Sound.NumbersApart.{flat_numbered, pass_numbered}
 use Rattle.kernel_laws.proofs.Sound.Allowed.{ready_sound, may_change, wants_these}
-use Rattle.kernel_laws.proofs.Machine.Ready.{coupled_ready, coupled_reaps}
+use Rattle.kernel_laws.proofs.Machine.Ready.{coupled_ready}
 use Rattle.kernel_laws.proofs.Sound.Changes.{Unhanded, change_unhanded}
 use Rattle.page_laws.proofs.Ends.Hands.{SameHands}
 use Rattle.page_laws.proofs.Due.Changes.{change_due}
-use Rattle.kernel_laws.proofs.Machine.Forks.{fit_image, next_new, next_pid_none, kept_none}
-use Rattle.kernel_laws.proofs.Machine.Tables.{kept_pid}
-use Rattle.kernel_laws.proofs.Flat.Lists.{pid_of}
-use Rattle.kernel_laws.proofs.Machine.Processes.{Stepping, stepping, by_life, step_is, with_at, with_not}
+use Rattle.kernel_laws.proofs.Machine.Forks.{fit_image, next_new}
+use Rattle.kernel_laws.proofs.Machine.Processes.{Stepping, stepping, by_life, step_is}
 use Rattle.kernel_laws.proofs.Machine.Through.{keep_tables, sleep_tables, reap_tables, resize_tables, fork_tables, lend_tables, exec_tables, end_tables}
 use Rattle.kernel_laws.proofs.Stands.Changes.{keep_stands, sleep_stands, reap_stands, resize_stands, fork_stands, lend_stands, exec_stands, end_stands}
 use Rattle.flat_laws.proofs.Asking.{own_space, shared_same, no_sharers, some_sharers, change_same}
 use Rattle.flat_model.specs.Asked.{is_shared, given_up, change_wanted}
+use Rattle.kernel_laws.proofs.Kept.Changes.{takes_next, may_reap, lend_lives}
 use Rattle.run_laws.specs.Standing.{machine_of, EachOnce, Placed, ExecFits, Own}
 use Rattle.kernel_model.specs.Unit.{keeps_step as next_of}
 use Rattle.run_laws.proofs.Bridge.{from_machine}
@@ -103,54 +99,6 @@ own_told A k flat pid regs e q s b Sleep fit nums f h w o out due m x t st = rec
 own_told A k flat pid regs e q s b (End status) fit nums f h w o out due m x t st = record { tables = end_tables k A.images flat pid regs e status q s nums f h (w ∙ end_false b status o) t; stands = end_stands A.images k flat pid regs e status q s t f h st }
 
 -- What a process asks of its machine.
-
-pub takes_next : (k : Kernel) (flat : FlatState) (change : Change) → SameTables k flat → NamesChild flat change → TakesNext k change
-takes_next k flat Keep t m = tt
-takes_next k flat (Resize d s) t m = tt
-takes_next k flat (Fork child) t m = m ∙ sym t.next_pid
-takes_next k flat (Lend child) t m = m ∙ sym t.next_pid
-takes_next k flat (Exec image top) t m = tt
-takes_next k flat (Reap child) t m = tt
-takes_next k flat Sleep t m = tt
-takes_next k flat (End status) t m = tt
-
-pub may_reap : (k : Kernel) (flat : FlatState) (change : Change) → SameTables k flat → NamesChild flat change → MayReap k.processes change
-may_reap k flat Keep t m = tt
-may_reap k flat (Resize d s) t m = tt
-may_reap k flat (Fork child) t m = tt
-may_reap k flat (Lend child) t m = tt
-may_reap k flat (Exec image top) t m = tt
-may_reap k flat (Reap child) t (z, status, fz, hz) = coupled_reaps k flat child status z t fz hz
-may_reap k flat Sleep t m = tt
-may_reap k flat (End status) t m = tt
-
--- parent and child live before the space passes
-pub lend_lives : (images : List NamedImage) (k : Kernel) (flat : FlatState) (pid : ℕ) (regs : Regs) (e : Entry) (q : Process) (s : Space) → IsNumbered flat → process_of flat pid ≡ Some q → q.holding ≡ Holds s → SameTables k flat
-    → (lives (change_step images k pid regs e (Lend flat.next_pid)).processes pid ≡ true) × (lives (change_step images k pid regs e (Lend flat.next_pid)).processes flat.next_pid ≡ true)
-lend_lives images k flat pid regs e q s nums f h t =
-    subst (λ (x : Kernel). (lives x.processes pid ≡ true) × (lives x.processes flat.next_pid ≡ true)) (sym (step_is images k pid regs e (Lend flat.next_pid) g.proc (HoldsSpace s.sid) g.kept g.life))
-    (ap lives_in parent_kept ∙ ap Rattle.kernel_model.specs.Sound.has_life g.life, ap lives_in child_kept)
-  where
-    g : Stepping k flat pid q s
-    g = stepping k flat pid q s t f h
-
-    kp : Proc
-    kp = record g.proc { regs = regs }
-
-    kn : Proc
-    kn = child_proc kp flat.next_pid New
-
-    kept_found : numbered kept_pid kp.pid k.processes ≡ Some g.proc
-    kept_found = ap (λ (m : ℕ). numbered kept_pid m k.processes) g.pid_is ∙ g.kept
-
-    child_other : flat.next_pid ≢ kp.pid
-    child_other i = none_some q (sym (next_pid_none flat nums) ∙ ap (λ (m : ℕ). numbered pid_of m flat.processes) (i ∙ g.pid_is) ∙ g.found)
-
-    parent_kept : numbered kept_pid pid (with_proc k.processes kp ++ kn ∷ []) ≡ Some kp
-    parent_kept = pushed_found kept_pid pid (with_proc k.processes kp) kn kp (ap (λ (m : ℕ). numbered kept_pid m (with_proc k.processes kp)) (sym g.pid_is) ∙ with_at k.processes kp g.proc kept_found)
-
-    child_kept : numbered kept_pid flat.next_pid (with_proc k.processes kp ++ kn ∷ []) ≡ Some kn
-    child_kept = pushed_new kept_pid flat.next_pid (with_proc k.processes kp) kn (with_not k.processes kp flat.next_pid child_other ∙ kept_none k flat flat.next_pid t.processes (next_pid_none flat nums)) refl
 
 -- sound and numbered behind the change
 pub record Kept (A : Inputs) (l : Kernel) : Type 0 where

@@ -44,7 +44,8 @@ use Rattle.run_laws.proofs.Writing.{SameSpace, puts_same, space_tables, touch_al
 use Rattle.run_laws.proofs.OwnChanges.{Changing, Changed, own_change}
 use Rattle.run_laws.proofs.Living.{LivedOr, BackTo}
 use Rattle.run_laws.proofs.Bridge.{kept_outlines, lives_same}
-use Rattle.run_laws.proofs.BackChanges.{GivesBack, back_change}
+use Rattle.kernel_laws.proofs.Kept.Changes.{GivesBack}
+use Rattle.run_laws.proofs.BackChanges.{back_change}
 
 -- The flat state and the placement once the bytes are written.
 

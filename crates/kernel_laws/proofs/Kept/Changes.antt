@@ -104,7 +104,7 @@ settles p sid b (Reap child) o r = tt
 settles p sid b Sleep o r = tt
 settles p sid b (End status) o r = (r (ends_own b status o)).1
 
-takes_next : (k : Kernel) (flat : FlatState) (change : Change) → SameTables k flat → NamesChild flat change → TakesNext k change
+pub takes_next : (k : Kernel) (flat : FlatState) (change : Change) → SameTables k flat → NamesChild flat change → TakesNext k change
 takes_next k flat Keep t m = tt
 takes_next k flat (Resize d s) t m = tt
 takes_next k flat (Fork child) t m = m ∙ sym t.next_pid
@@ -114,7 +114,7 @@ takes_next k flat (Reap child) t m = tt
 takes_next k flat Sleep t m = tt
 takes_next k flat (End status) t m = tt
 
-may_reap : (k : Kernel) (flat : FlatState) (change : Change) → SameTables k flat → NamesChild flat change → MayReap k.processes change
+pub may_reap : (k : Kernel) (flat : FlatState) (change : Change) → SameTables k flat → NamesChild flat change → MayReap k.processes change
 may_reap k flat Keep t m = tt
 may_reap k flat (Resize d s) t m = tt
 may_reap k flat (Fork child) t m = tt
@@ -331,12 +331,12 @@ own_stood size images k before image flat pid regs e q s b change w o x n a read
 
 -- Who gives its space back.
 
-takes_none : (k : Kernel) (change : Change) → GivesBack change → TakesNext k change
+pub takes_none : (k : Kernel) (change : Change) → GivesBack change → TakesNext k change
 takes_none k (Exec image top) gb = tt
 takes_none k (End status) gb = tt
 takes_none k _ gb = absurd gb
 
-back_ready : (k : Kernel) (flat : FlatState) (pid : ℕ) (q m : Process) (s : Space) (change : Change) → (a : Borrowing k flat pid q m s) → GivesBack change → ReadyFor (pass_step k pid m.pid) pid change
+pub back_ready : (k : Kernel) (flat : FlatState) (pid : ℕ) (q m : Process) (s : Space) (change : Change) → (a : Borrowing k flat pid q m s) → GivesBack change → ReadyFor (pass_step k pid m.pid) pid change
 back_ready k flat pid q m s change a gb =
     subst (λ (x : Kernel). ReadyFor x pid change) (sym (back_kernel k flat pid q m s a))
     (subst (λ (o : Option Proc). ReadyBy k1 pid (life_of_proc o) change) (sym (back_proc k flat pid q m s a)) (by change gb))
