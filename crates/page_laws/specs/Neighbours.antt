@@ -9,7 +9,7 @@ use Rattle.page_model.specs.Runs.{Run, chunk_of, desired_free}
 
 -- A run around page v: it has the page, and all others of it join; those above come before those below; and none could
 -- be added, since one more page is too many, or the next one on each side doesn't join.
-pub record IsWidest (Joins MayBe : ℕ → Type 0) (v : ℕ) (r : Run) : Type 0 where
+pub record IsWidestRun (Joins MayBe : ℕ → Type 0) (v : ℕ) (r : Run) : Type 0 where
   pub has : (r.lo ≤ v) × (v < r.lo + r.n)
   pub joins : (w : ℕ) → r.lo ≤ w → w < r.lo + r.n → w ≢ v → Joins w
   pub may_be : MayBe r.n
@@ -17,7 +17,7 @@ pub record IsWidest (Joins MayBe : ℕ → Type 0) (v : ℕ) (r : Run) : Type 0 
   pub whole : (MayBe (r.n + 1) → ⊥) ⊎ ((Joins (r.lo + r.n) → ⊥) × (0 < r.lo → Joins (r.lo - 1) → ⊥))
 
 -- A run from page v upwards: all others of it join, and none could be added.
-pub record IsLongest (Joins MayBe : ℕ → Type 0) (v : ℕ) (r : Run) : Type 0 where
+pub record IsLongestRun (Joins MayBe : ℕ → Type 0) (v : ℕ) (r : Run) : Type 0 where
   pub from : r.lo ≡ v
   pub some : 0 < r.n
   pub joins : (w : ℕ) → v < w → w < v + r.n → Joins w

@@ -26,7 +26,7 @@ ghost use Rattle.page_model.specs.Stored.{stored, store_at};
 ghost use Rattle.page_model.specs.Swapping.{ComesIn, GoesOut, NoneMoves};
 ghost use Rattle.page_model.specs.PuttingOut.{IsResident, put_rank, EndsPuttingOut};
 ghost use Rattle.page_model.specs.Runs.{run_in, run_out, run_put, run_alone, Run, pages_of_run};
-ghost use Rattle.page_laws.specs.Neighbours.{IsWidest, IsLongest, MayRead, IsSwappedBeside, IsUnfilledBeside, IsIdleBeside, IsSeatedBeside};
+ghost use Rattle.page_laws.specs.Neighbours.{IsWidestRun, IsLongestRun, MayRead, IsSwappedBeside, IsUnfilledBeside, IsIdleBeside, IsSeatedBeside};
 ghost use Rattle.page_model.specs.Frames.{times};
 ghost use Rattle.page_laws.specs.Sweeping.{MayBeSwept};
 ghost use Rattle.page_model.specs.Pages.{frame_of};
@@ -197,12 +197,12 @@ pub fn putting_out_ends()
 /// locked; a put 16, upwards, all dirty in frames off the free list, and of a clean page it alone. No further page could
 /// be added.
 pub fn runs_are_widest()
-    ensures data_in { (p : Placement) (q : Page) → IsWritable q → state_of p q ≡ OnSwap → IsWidest (IsSwappedBeside p q) (MayRead p 4) (number_of q) (run_in p q) }
-    ensures text_in { (p : Placement) (image v : ℕ) → state_of p (Text image v) ≡ OnSwap → IsLongest (IsSwappedBeside p (Text image v)) (MayRead p 2) v (run_in p (Text image v)) }
-    ensures file_in { (p : Placement) (image v : ℕ) → state_of p (Text image v) ≡ Unfilled → IsLongest (IsUnfilledBeside p (Text image v)) (MayRead p 2) v (run_in p (Text image v)) }
+    ensures data_in { (p : Placement) (q : Page) → IsWritable q → state_of p q ≡ OnSwap → IsWidestRun (IsSwappedBeside p q) (MayRead p 4) (number_of q) (run_in p q) }
+    ensures text_in { (p : Placement) (image v : ℕ) → state_of p (Text image v) ≡ OnSwap → IsLongestRun (IsSwappedBeside p (Text image v)) (MayRead p 2) v (run_in p (Text image v)) }
+    ensures file_in { (p : Placement) (image v : ℕ) → state_of p (Text image v) ≡ Unfilled → IsLongestRun (IsUnfilledBeside p (Text image v)) (MayRead p 2) v (run_in p (Text image v)) }
     ensures alone_in { (p : Placement) (q : Page) → IsWritable q → state_of p q ≡ Unfilled → run_in p q ≡ run_alone q }
-    ensures out { (p : Placement) (locked : List Page) (q : Page) → IsWidest (IsIdleBeside p locked q) (λ n. n ≤ 16) (number_of q) (run_out p locked q) }
-    ensures put { (p : Placement) (q : Page) → is_dirty p q ≡ true → IsLongest (IsSeatedBeside p q) (λ n. n ≤ 16) (number_of q) (run_put p q) }
+    ensures out { (p : Placement) (locked : List Page) (q : Page) → IsWidestRun (IsIdleBeside p locked q) (λ n. n ≤ 16) (number_of q) (run_out p locked q) }
+    ensures put { (p : Placement) (q : Page) → is_dirty p q ≡ true → IsLongestRun (IsSeatedBeside p q) (λ n. n ≤ 16) (number_of q) (run_put p q) }
     ensures alone_put { (p : Placement) (q : Page) → is_dirty p q ≡ false → run_put p q ≡ run_alone q }
 {}
 

@@ -27,7 +27,7 @@ use Rattle.run_laws.specs.Standing.{machine_of, Placed, IsAllowed}
 use Rattle.run_laws.proofs.Units.{plain_place, owns}
 use Rattle.run_laws.proofs.Wholes.{unit_allowed}
 use Rattle.run_laws.proofs.Writing.{touch_all_placed}
-use Rattle.paging_laws.specs.Lost.{space_of, IsLost, WasFree, WasCutOff, WasReplaced, HasEnded}
+use Rattle.paging_laws.specs.Lost.{space_held, IsLost, WasFree, WasCutOff, WasReplaced, HasEnded}
 
 -- Units of no process.
 
@@ -49,7 +49,7 @@ unit_written A s u q f r h n w = subst (λ (p : Placement). StaysOrWritten s.pla
 
 -- the page's frame is another one behind the change, so the change gave the page up
 given : (A : Inputs) (s : State) (u : Entry) (q : Page) (f pid : ℕ) (change : Change) → process_of_entry u ≡ Some pid → (step_at A s.point pid).change ≡ change
-    → IsGivenUp (space_of s pid) (is_borrower s.point.flat.processes pid) change q → IsLost A s u q f
+    → IsGivenUp (space_held s pid) (is_borrower s.point.flat.processes pid) change q → IsLost A s u q f
 given A s u q f pid (Resize d t) e i k = WasCutOff pid d t e i k
 given A s u q f pid (Exec image top) e i k = WasReplaced pid image top e i (record { own = k.0; page = k.1 })
 given A s u q f pid (End status) e i k = HasEnded pid status e i (record { own = k.0; page = k.1 })
@@ -60,8 +60,8 @@ given A s u q f pid (Reap child) e i k = absurd k
 given A s u q f pid Sleep e i k = absurd k
 
 stepped_lost : (A : Inputs) (s : State) (u : Entry) (q : Page) (f pid at : ℕ) (qs : List Page) → IsRun A s → process_of_entry u ≡ Some pid → frame_of (state_of s.place q) ≡ Some f
-    → frame_of (state_of (place_change A.images (touch_all s.place qs) pid (space_of s pid) (is_borrower s.point.flat.processes pid) s.point.flat.next_sid at (step_at A s.point pid).change) q) ≢ Some f → IsLost A s u q f
-stepped_lost A s u q f pid at qs r e h k = elim (change_frame A.images p pid (space_of s pid) (is_borrower s.point.flat.processes pid) s.point.flat.next_sid at (step_at A s.point pid).change q new) [
+    → frame_of (state_of (place_change A.images (touch_all s.place qs) pid (space_held s pid) (is_borrower s.point.flat.processes pid) s.point.flat.next_sid at (step_at A s.point pid).change) q) ≢ Some f → IsLost A s u q f
+stepped_lost A s u q f pid at qs r e h k = elim (change_frame A.images p pid (space_held s pid) (is_borrower s.point.flat.processes pid) s.point.flat.next_sid at (step_at A s.point pid).change q new) [
   | inl i ↦ absurd (k (i ∙ t.frames q ∙ h))
   | inr i ↦ given A s u q f pid (step_at A s.point pid).change e refl i.1
 ]

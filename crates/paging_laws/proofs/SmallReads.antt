@@ -14,7 +14,7 @@ use Rattle.page_model.specs.PageBytes.{IsWritable}
 use Rattle.page_model.specs.Runs.{Run, run_in, run_in_by, run_alone, spare_frames, chunk_of, desired_free}
 use Rattle.page_model.specs.Conditions.{EachPage, CanEnter}
 use Rattle.page_model.specs.Ownership.{OwnsFrames}
-use Rattle.page_laws.specs.Neighbours.{IsWidest, IsLongest, MayRead, IsSwappedBeside, IsUnfilledBeside}
+use Rattle.page_laws.specs.Neighbours.{IsWidestRun, IsLongestRun, MayRead, IsSwappedBeside, IsUnfilledBeside}
 use Rattle.page_laws.proofs.Lists.Local.{none_some}
 use Rattle.page_laws.proofs.Lists.Runs.{beside_number}
 use Rattle.page_laws.proofs.Ownership.Changes.{each_at}
@@ -46,7 +46,7 @@ near_by p q r h w l m = elim (cases_eq w (number_of q)) [
 unfilled_swapped : {C : Type 0} (p : Placement) (q : Page) → state_of p q ≡ OnSwap → state_of p q ≡ Unfilled → C
 unfilled_swapped p q e h = absurd (let k : OnSwap ≡ Unfilled = sym e ∙ h in cc)
 
-widest_small : (p : Placement) (q : Page) → most_read q ≡ 4 → state_of p q ≡ OnSwap → IsWidest (IsSwappedBeside p q) (MayRead p 4) (number_of q) (run_in p q) → IsSmallRun p q (run_in p q)
+widest_small : (p : Placement) (q : Page) → most_read q ≡ 4 → state_of p q ≡ OnSwap → IsWidestRun (IsSwappedBeside p q) (MayRead p 4) (number_of q) (run_in p q) → IsSmallRun p q (run_in p q)
 widest_small p q most e w = record {
   has = w.has;
   few = let k = w.may_be in subst (λ (x : ℕ). (run_in p q).n ≤ x) (sym most) k.0;
@@ -64,7 +64,7 @@ alone_small p q most e i = subst (IsSmallRun p q) (sym i) (record {
   spares = inl refl;
 })
 
-text_swapped : (p : Placement) (image v : ℕ) → state_of p (Text image v) ≡ OnSwap → IsLongest (IsSwappedBeside p (Text image v)) (MayRead p 2) v (run_in p (Text image v)) → IsSmallRun p (Text image v) (run_in p (Text image v))
+text_swapped : (p : Placement) (image v : ℕ) → state_of p (Text image v) ≡ OnSwap → IsLongestRun (IsSwappedBeside p (Text image v)) (MayRead p 2) v (run_in p (Text image v)) → IsSmallRun p (Text image v) (run_in p (Text image v))
 text_swapped p image v e w = let from = w.from in let some = w.some in record {
   has = (omega arith, omega arith);
   few = let k = w.may_be in k.0;
@@ -73,7 +73,7 @@ text_swapped p image v e w = let from = w.from in let some = w.some in record {
   spares = let k = w.may_be in k.1;
 }
 
-text_filed : (p : Placement) (image v : ℕ) → state_of p (Text image v) ≡ Unfilled → IsLongest (IsUnfilledBeside p (Text image v)) (MayRead p 2) v (run_in p (Text image v)) → IsSmallRun p (Text image v) (run_in p (Text image v))
+text_filed : (p : Placement) (image v : ℕ) → state_of p (Text image v) ≡ Unfilled → IsLongestRun (IsUnfilledBeside p (Text image v)) (MayRead p 2) v (run_in p (Text image v)) → IsSmallRun p (Text image v) (run_in p (Text image v))
 text_filed p image v e w = let from = w.from in let some = w.some in record {
   has = (omega arith, omega arith);
   few = let k = w.may_be in k.0;

@@ -11,11 +11,11 @@ use Rattle.run_text.specs.declared.answers.Transcript.{Transcript}
 use Rattle.run_text.specs.declared.answers.Transcript.TheVariants.{Is, BadLine}
 use Rattle.run_text.proofs.WrittenLines.{IsSmallLine, written_is_read}
 use Rattle.replay_check.specs.Verdicts.{first_bad}
-use Rattle.transcript_laws.specs.Replayed.{shown, IsTranscriptOf, IsAccepted}
+use Rattle.transcript_laws.specs.Replayed.{entries_shown, IsTranscriptOf, IsAccepted}
 use Rattle.transcript_laws.proofs.Shown.{shown_run, shown_count, shown_within}
 use Rattle.transcript_laws.proofs.Fronts.{none_is_bad}
 
-text_lines : (traced : Bool) (journal : List Entry) → text_of traced journal ≡ lines_of (shown traced journal)
+text_lines : (traced : Bool) (journal : List Entry) → text_of traced journal ≡ lines_of (entries_shown traced journal)
 unfolding text_of
 text_lines true journal = refl
 text_lines false journal = refl
@@ -44,10 +44,10 @@ accepted : (A : Inputs) (entries : List Entry) (t : Transcript) → first_bad A 
 accepted A entries (Is read) n r = (r, ap (first_bad A) r ∙ n)
 accepted A entries (BadLine m) n r = r
 
-pub replayed : (traced : Bool) (A : Inputs) (journal : List Entry) (s : State) (text : List ℕ) (read : Transcript) → IsTranscriptOf traced A journal s text → IsReadTranscript text read → IsAccepted A (shown traced journal) read
-replayed traced A journal s text read t r = let c = t.count in let d = l.count in let e = shown_count traced journal in accepted A (shown traced journal) read
-    (none_is_bad A (shown traced journal) s.point (shown_run traced A journal ∙ l.flat) (omega arith))
-    (written_is_read (shown traced journal) text read (shown_within traced journal (omega arith) t.within) (t.is ∙ text_lines traced journal) r (small_line text read t.short r))
+pub replayed : (traced : Bool) (A : Inputs) (journal : List Entry) (s : State) (text : List ℕ) (read : Transcript) → IsTranscriptOf traced A journal s text → IsReadTranscript text read → IsAccepted A (entries_shown traced journal) read
+replayed traced A journal s text read t r = let c = t.count in let d = l.count in let e = shown_count traced journal in accepted A (entries_shown traced journal) read
+    (none_is_bad A (entries_shown traced journal) s.point (shown_run traced A journal ∙ l.flat) (omega arith))
+    (written_is_read (entries_shown traced journal) text read (shown_within traced journal (omega arith) t.within) (t.is ∙ text_lines traced journal) r (small_line text read t.short r))
   where
     l : IsLawful A journal s
     l = t.lawful

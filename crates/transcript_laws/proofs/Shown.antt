@@ -8,7 +8,7 @@ use Rattle.flat_state.specs.Journal.{repeated, units_with, units_of, counted, in
 use Rattle.flat_model.specs.Run.{Point, process_of_entry, flat_entry_by, flat_entry, flat_units, start_point, flat_run}
 use Rattle.run_text.specs.Text.{is_paging, unless, without_paging, join_ran, join, joined}
 use Rattle.run_text.specs.Transcript.{IsWithin, AreWithin}
-use Rattle.transcript_laws.specs.Replayed.{shown}
+use Rattle.transcript_laws.specs.Replayed.{entries_shown}
 
 same_number : (p q : ℕ) → (p == q) ≡ true → p ≡ q
 same_number p q e = grind (arith, nat_tests)
@@ -61,31 +61,31 @@ passed : (A : Inputs) (point : Point) (u : Entry) → process_of_entry u ≡ Non
 unfolding flat_entry
 passed A point u e = ap (λ (o : Option ℕ). flat_entry_by A point o u) e
 
-abbrev Alike : Inputs → List Entry → List Entry → Type 0
-Alike A us vs = (o : Option Point) → flat_units A o us ≡ flat_units A o vs
+abbrev RunAlike : Inputs → List Entry → List Entry → Type 0
+RunAlike A us vs = (o : Option Point) → flat_units A o us ≡ flat_units A o vs
 
-unit_alike : (A : Inputs) (u : Entry) (us vs : List Entry) → Alike A us vs → Alike A (u ∷ us) (u ∷ vs)
+unit_alike : (A : Inputs) (u : Entry) (us vs : List Entry) → RunAlike A us vs → RunAlike A (u ∷ us) (u ∷ vs)
 unit_alike A u us vs h None = units_none A (u ∷ us) ∙ sym (units_none A (u ∷ vs))
 unit_alike A u us vs h (Some point) = units_first A point u us ∙ h (flat_entry A point u) ∙ sym (units_first A point u vs)
 
-repeated_alike : (A : Inputs) (u : Entry) (n : ℕ) (us vs : List Entry) → Alike A us vs → Alike A (repeated u n us) (repeated u n vs)
+repeated_alike : (A : Inputs) (u : Entry) (n : ℕ) (us vs : List Entry) → RunAlike A us vs → RunAlike A (repeated u n us) (repeated u n vs)
 repeated_alike A u zero us vs h = h
 repeated_alike A u (suc n) us vs h = unit_alike A u (repeated u n us) (repeated u n vs) (repeated_alike A u n us vs h)
 
-with_alike : (A : Inputs) (e : Entry) (us vs : List Entry) → Alike A us vs → Alike A (units_with e us) (units_with e vs)
+with_alike : (A : Inputs) (e : Entry) (us vs : List Entry) → RunAlike A us vs → RunAlike A (units_with e us) (units_with e vs)
 with_alike A (Ran p n) us vs h = repeated_alike A (Ran p 1) n us vs h
 with_alike A (Hands n) us vs h = repeated_alike A (Hands 1) n us vs h
 with_alike A e us vs h = unit_alike A e us vs h
 
-skipped : (A : Inputs) (u : Entry) (us : List Entry) → process_of_entry u ≡ None → Alike A us (u ∷ us)
+skipped : (A : Inputs) (u : Entry) (us : List Entry) → process_of_entry u ≡ None → RunAlike A us (u ∷ us)
 skipped A u us e None = units_none A us ∙ sym (units_none A (u ∷ us))
 skipped A u us e (Some point) = sym (units_first A point u us ∙ ap (λ (o : Option Point). flat_units A o us) (passed A point u e))
 
-hands_skipped : (A : Inputs) (n : ℕ) (us : List Entry) → Alike A us (repeated (Hands 1) n us)
+hands_skipped : (A : Inputs) (n : ℕ) (us : List Entry) → RunAlike A us (repeated (Hands 1) n us)
 hands_skipped A zero us o = refl
 hands_skipped A (suc n) us o = hands_skipped A n us o ∙ skipped A (Hands 1) (repeated (Hands 1) n us) refl o
 
-paging_skipped : (A : Inputs) (e : Entry) (us : List Entry) → is_paging e ≡ true → Alike A us (units_with e us)
+paging_skipped : (A : Inputs) (e : Entry) (us : List Entry) → is_paging e ≡ true → RunAlike A us (units_with e us)
 paging_skipped A (Zero q) us h = skipped A (Zero q) us refl
 paging_skipped A (Get q lo n) us h = skipped A (Get q lo n) us refl
 paging_skipped A (Copy q) us h = skipped A (Copy q) us refl
@@ -106,11 +106,11 @@ paging_skipped A (Refused p) us h = absurd cc
 paging_skipped A (Sleeps p) us h = absurd cc
 paging_skipped A (Ended p n) us h = absurd cc
 
-without_alike : (A : Inputs) (es : List Entry) → Alike A (units_of (without_paging es)) (units_of es)
+without_alike : (A : Inputs) (es : List Entry) → RunAlike A (units_of (without_paging es)) (units_of es)
 without_alike A [] = λ o. refl
 without_alike A (e ∷ es) = go (is_paging e) refl (without_alike A es)
   where
-    go : (b : Bool) → is_paging e ≡ b → Alike A (units_of (without_paging es)) (units_of es) → Alike A (units_of (unless b e (without_paging es))) (units_with e (units_of es))
+    go : (b : Bool) → is_paging e ≡ b → RunAlike A (units_of (without_paging es)) (units_of es) → RunAlike A (units_of (unless b e (without_paging es))) (units_with e (units_of es))
     go true h ih = λ o. ih o ∙ paging_skipped A e (units_of es) h o
     go false h ih = with_alike A e (units_of (without_paging es)) (units_of es) ih
 
@@ -130,11 +130,11 @@ without_count (e ∷ es) = go (is_paging e) refl (without_count es)
 
 -- What is shown.
 
-pub shown_run : (traced : Bool) (A : Inputs) (journal : List Entry) → flat_run A (shown traced journal) ≡ flat_run A journal
+pub shown_run : (traced : Bool) (A : Inputs) (journal : List Entry) → flat_run A (entries_shown traced journal) ≡ flat_run A journal
 shown_run true A journal = refl
 shown_run false A journal = ap (flat_units A (Some (start_point A))) (joined_units (without_paging journal)) ∙ without_alike A journal (Some (start_point A))
 
-pub shown_count : (traced : Bool) (journal : List Entry) → instructions_of (shown traced journal) ≡ instructions_of journal
+pub shown_count : (traced : Bool) (journal : List Entry) → instructions_of (entries_shown traced journal) ≡ instructions_of journal
 shown_count true journal = refl
 shown_count false journal = joined_count (without_paging journal) ∙ without_count journal
 
@@ -162,6 +162,6 @@ joined_within : (es : List Entry) → instructions_of es < 4294967296 → AreWit
 joined_within [] l h = h
 joined_within (e ∷ es) l h = let c = joined_count es in join_within e (joined es) (omega arith) h.0 (joined_within es (omega arith) h.1)
 
-pub shown_within : (traced : Bool) (journal : List Entry) → instructions_of journal < 4294967296 → AreWithin journal → AreWithin (shown traced journal)
+pub shown_within : (traced : Bool) (journal : List Entry) → instructions_of journal < 4294967296 → AreWithin journal → AreWithin (entries_shown traced journal)
 shown_within true journal l h = h
 shown_within false journal l h = let c = without_count journal in joined_within (without_paging journal) (omega arith) (without_within journal h)

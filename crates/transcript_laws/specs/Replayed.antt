@@ -12,9 +12,9 @@ use Rattle.replay_check.specs.Verdicts.{instruction_limit, first_bad}
 
 -- the entries that a text of a journal shows: all, or, without the trace of the paging, the others, neighbouring `Ran` of
 -- one process joined
-abbrev pub shown : Bool → List Entry → List Entry
-shown true journal = journal
-shown false journal = joined (without_paging journal)
+abbrev pub entries_shown : Bool → List Entry → List Entry
+entries_shown true journal = journal
+entries_shown false journal = joined (without_paging journal)
 
 -- The text of a lawful journal: its numbers have 32 bits, and no more instructions are counted than a transcript may have,
 -- nor are there more bytes.

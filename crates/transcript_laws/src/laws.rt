@@ -6,16 +6,16 @@ ghost use Rattle.flat_model.specs.Run.{flat_run};
 ghost use Rattle.run_model.specs.State.{State};
 ghost use Rattle.run_text.specs.Transcript.{IsReadTranscript};
 ghost use Rattle.run_text.specs.declared.answers.Transcript.{Transcript};
-ghost use Rattle.transcript_laws.specs.Replayed.{shown, IsTranscriptOf, IsAccepted};
+ghost use Rattle.transcript_laws.specs.Replayed.{entries_shown, IsTranscriptOf, IsAccepted};
 
 /// What a run writes, a judge of transcripts accepts: the text of a lawful journal, with the trace of the paging or without,
 /// is read as the entries that it shows, and these are a run of the flat machine, of no more instructions than may be.
 pub fn runs_are_replayed()
-    ensures { (traced : Bool) (A : Inputs) (journal : List Entry) (s : State) (text : List ℕ) (read : Transcript) → IsTranscriptOf traced A journal s text → IsReadTranscript text read → IsAccepted A (shown traced journal) read }
+    ensures { (traced : Bool) (A : Inputs) (journal : List Entry) (s : State) (text : List ℕ) (read : Transcript) → IsTranscriptOf traced A journal s text → IsReadTranscript text read → IsAccepted A (entries_shown traced journal) read }
 {}
 
 /// The entries that are shown of a journal lead the flat machine to the same point, and count as many instructions.
 pub fn shown_is_flat()
-    ensures run { (traced : Bool) (A : Inputs) (journal : List Entry) → flat_run A (shown traced journal) ≡ flat_run A journal }
-    ensures count { (traced : Bool) (journal : List Entry) → instructions_of (shown traced journal) ≡ instructions_of journal }
+    ensures run { (traced : Bool) (A : Inputs) (journal : List Entry) → flat_run A (entries_shown traced journal) ≡ flat_run A journal }
+    ensures count { (traced : Bool) (journal : List Entry) → instructions_of (entries_shown traced journal) ≡ instructions_of journal }
 {}

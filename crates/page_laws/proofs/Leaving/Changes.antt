@@ -29,10 +29,10 @@ use Rattle.page_laws.proofs.Bytes.Others.{touch_steady}
 use Rattle.page_laws.proofs.Blocks.Changes.{leave_other}
 use Rattle.page_laws.proofs.Due.Changes.{give_up_slot}
 
-abbrev pub frame_in : Placement → Page → Option ℕ
-frame_in p w = frame_of (state_of p w)
+abbrev pub page_frame : Placement → Page → Option ℕ
+page_frame p w = frame_of (state_of p w)
 
-slot_frame : (p q : Placement) (w : Page) → slot_of q w ≡ slot_of p w → frame_in q w ≡ frame_in p w
+slot_frame : (p q : Placement) (w : Page) → slot_of q w ≡ slot_of p w → page_frame q w ≡ page_frame p w
 slot_frame p q w e = ap (λ (x : Slot). frame_of x.state) e
 
 alike_frame : (x y : Slot) → Alike x y → frame_of x.state ≡ frame_of y.state
@@ -82,7 +82,7 @@ stack_within : (d s v : ℕ) (o : Option SpacePages) → v < s → frame_of (get
 stack_within d s v None l = refl
 stack_within d s v (Some x) l = alike_frame (get_or (stack_in (mapped (cut d s) (Some x))) v no_slot) (get_or x.stack_pages v no_slot) (sized_within s v x.stack_pages l)
 
-cut_past : (p : Placement) (sid d s : ℕ) (w : Page) → IsCutOff sid d s w → frame_in (cut_space p sid d s) w ≡ None
+cut_past : (p : Placement) (sid d s : ℕ) (w : Page) → IsCutOff sid d s w → page_frame (cut_space p sid d s) w ≡ None
 cut_past p sid d s (Data t v) k =
     ap (λ (x : ℕ). frame_of (get_or (data_in (numbered space_number x (changed space_number sid (cut d s) p.spaces))) v no_slot).state) k.0
     ∙ ap (λ (o : Option SpacePages). frame_of (get_or (data_in o) v no_slot).state) (changed_same space_number sid (cut d s) (λ x. refl) p.spaces)
@@ -93,7 +93,7 @@ cut_past p sid d s (Stack t v) k =
     ∙ stack_past d s v (numbered space_number sid p.spaces) k.1
 cut_past p sid d s (Text image v) k = absurd k
 
-cut_within : (p : Placement) (sid d s : ℕ) (w : Page) → (IsCutOff sid d s w → ⊥) → frame_in (cut_space p sid d s) w ≡ frame_in p w
+cut_within : (p : Placement) (sid d s : ℕ) (w : Page) → (IsCutOff sid d s w → ⊥) → page_frame (cut_space p sid d s) w ≡ page_frame p w
 cut_within p sid d s (Data t v) k = elim (cases_eq t sid) [
   | inl e ↦
       ap (λ (x : ℕ). frame_of (get_or (data_in (numbered space_number x (changed space_number sid (cut d s) p.spaces))) v no_slot).state) e
@@ -131,7 +131,7 @@ not_dropped p sid d s w k = each_page_append (λ r. w ≢ r) (data_from sid d (d
 
 -- a page has the frame that it had, or none, and then this is so
 abbrev pub StaysOrGoes : Placement → Placement → Page → Type 0 → Type 0
-StaysOrGoes p r w why = (frame_in r w ≡ frame_in p w) ⊎ ((frame_in r w ≡ None) × why)
+StaysOrGoes p r w why = (page_frame r w ≡ page_frame p w) ⊎ ((page_frame r w ≡ None) × why)
 
 resize_frame : (p : Placement) (sid d s : ℕ) (w : Page) → StaysOrGoes p (resize p sid d s) w (IsCutOff sid d s w)
 resize_frame p sid d s w = elim (cut_or sid d s w) [
@@ -141,26 +141,26 @@ resize_frame p sid d s w = elim (cut_or sid d s w) [
 
 -- A space that goes.
 
-leave_frame : (p : Placement) (v w : Page) → frame_in (leave_page p v) w ≡ frame_in p w
+leave_frame : (p : Placement) (v w : Page) → page_frame (leave_page p v) w ≡ page_frame p w
 leave_frame p v w = elim (page_cases w v) [
-  | inl e ↦ subst (λ (x : Page). frame_in (leave_page p v) x ≡ frame_in p x) (sym e) (own (state_of p v) refl)
+  | inl e ↦ subst (λ (x : Page). page_frame (leave_page p v) x ≡ page_frame p x) (sym e) (own (state_of p v) refl)
   | inr n ↦ slot_frame p (leave_page p v) w (leave_other p v w n)
 ]
   where
-    none : (s : PageState) → state_of p v ≡ s → frame_of s ≡ None → frame_in (put p v Unfilled false) v ≡ frame_in p v
+    none : (s : PageState) → state_of p v ≡ s → frame_of s ≡ None → page_frame (put p v Unfilled false) v ≡ page_frame p v
     none s e h = elim (there_or p v) [
       | inl l ↦ ap frame_of (put_state p v Unfilled false l) ∙ sym (ap frame_of e ∙ h)
       | inr l ↦ (let b : IsBlank (put p v Unfilled false) v = blank_put p v in ap frame_of b.state) ∙ sym (ap frame_of e ∙ h)
     ]
 
-    some : (f : ℕ) (free : List ℕ) → frame_in p v ≡ Some f → frame_in (turn p v (Invalid f) false free p.transfers) v ≡ frame_in p v
+    some : (f : ℕ) (free : List ℕ) → page_frame p v ≡ Some f → page_frame (turn p v (Invalid f) false free p.transfers) v ≡ page_frame p v
     some f free h = let t : Steady p (turn p v (Invalid f) false free p.transfers) = turn_steady p v f (Invalid f) false free p.transfers h refl in t.frames v
 
-    idle : (f n : ℕ) → state_of p v ≡ Invalid f → frame_in (leave_by p v (Invalid f) n) v ≡ frame_in p v
+    idle : (f n : ℕ) → state_of p v ≡ Invalid f → page_frame (leave_by p v (Invalid f) n) v ≡ page_frame p v
     idle f zero h = some f (p.free ++ f ∷ []) (ap frame_of h)
     idle f (suc n) h = some f p.free (ap frame_of h)
 
-    by : (s : PageState) (n : ℕ) → state_of p v ≡ s → frame_in (leave_by p v s n) v ≡ frame_in p v
+    by : (s : PageState) (n : ℕ) → state_of p v ≡ s → page_frame (leave_by p v s n) v ≡ page_frame p v
     by (Valid f) n h = some f (p.free ++ f ∷ []) (ap frame_of h)
     by (Invalid f) n h = idle f n h
     by OnSwap n h = none OnSwap h refl
@@ -168,24 +168,24 @@ leave_frame p v w = elim (page_cases w v) [
     by (Coming f) n h = refl
     by (Going f) n h = refl
 
-    own : (s : PageState) → state_of p v ≡ s → frame_in (leave_page p v) v ≡ frame_in p v
+    own : (s : PageState) → state_of p v ≡ s → page_frame (leave_page p v) v ≡ page_frame p v
     own s h = by (state_of p v) (listed p v) refl
 
-leave_all_frame : (qs : List Page) (p : Placement) (w : Page) → frame_in (leave_all p qs) w ≡ frame_in p w
+leave_all_frame : (qs : List Page) (p : Placement) (w : Page) → page_frame (leave_all p qs) w ≡ page_frame p w
 leave_all_frame [] p w = refl
 leave_all_frame (v ∷ qs) p w = leave_all_frame qs (leave_page p v) w ∙ leave_frame p v w
 
-leave_text_frame : (p : Placement) (image : ℕ) (w : Page) → frame_in (leave_text p image) w ≡ frame_in p w
+leave_text_frame : (p : Placement) (image : ℕ) (w : Page) → page_frame (leave_text p image) w ≡ page_frame p w
 leave_text_frame p image w = go (sharers p image)
   where
-    go : (n : ℕ) → frame_in (leave_text_by p image n) w ≡ frame_in p w
+    go : (n : ℕ) → page_frame (leave_text_by p image n) w ≡ page_frame p w
     go zero = leave_all_frame (pages_of_text p image) p w
     go (suc n) = refl
 
 equal_is : (a b : ℕ) → a ≡ b → (a == b) ≡ true
 equal_is a b e = grind (arith, nat_tests)
 
-removed_frame : (p : Placement) (sid : ℕ) (w : Page) → is_of_space sid w ≡ true → frame_in (remove_space p sid) w ≡ None
+removed_frame : (p : Placement) (sid : ℕ) (w : Page) → is_of_space sid w ≡ true → page_frame (remove_space p sid) w ≡ None
 removed_frame p sid (Data t v) e = ap (λ (x : ℕ). frame_of (get_or (data_in (numbered space_number x (remove_space p sid).spaces)) v no_slot).state) (is_equal t sid e)
     ∙ ap (λ (o : Option SpacePages). frame_of (get_or (data_in o) v no_slot).state) (removed_same sid p.spaces)
   where
@@ -209,7 +209,7 @@ give_up_frame p sid w = go w
     d : Placement
     d = drop_all p (pages_of_space p sid)
 
-    gone : (x : Page) → is_of_space sid x ≡ true → frame_in (give_up p sid) x ≡ None
+    gone : (x : Page) → is_of_space sid x ≡ true → page_frame (give_up p sid) x ≡ None
     gone x e = leave_text_frame (remove_space d sid) (image_of p sid) x ∙ removed_frame d sid x e
 
     go : (x : Page) → StaysOrGoes p (give_up p sid) x (is_of_space sid x ≡ true)
@@ -233,7 +233,7 @@ unless_frame false p sid w = elim (give_up_frame p sid w) [
 
 -- All changes.
 
-enter_frame : (p : Placement) (sid image : ℕ) (named : Option NamedImage) (w : Page) → IsNew p sid → frame_in (enter_image p sid image named) w ≡ frame_in p w
+enter_frame : (p : Placement) (sid image : ℕ) (named : Option NamedImage) (w : Page) → IsNew p sid → page_frame (enter_image p sid image named) w ≡ page_frame p w
 enter_frame p sid image None w n = refl
 enter_frame p sid image (Some named) w n = ap frame_of (enter_alike p sid image named.image.facts n w).0
 
@@ -249,7 +249,7 @@ change_frame images p pid sid borrowed next_sid at (Fork child) w n = inl (ap fr
 }) (fork_space p sid next_sid).due n (child_blank (slots_of p (Data sid 0))) (child_blank (slots_of p (Stack sid 0))) w).0)
 change_frame images p pid sid borrowed next_sid at (Lend child) w n = inl refl
 change_frame images p pid sid borrowed next_sid at (Exec image top) w n =
-    let e : frame_in (enter_image p next_sid image (image_numbered images image)) w ≡ frame_in p w = enter_frame p next_sid image (image_numbered images image) w n in
+    let e : page_frame (enter_image p next_sid image (image_numbered images image)) w ≡ page_frame p w = enter_frame p next_sid image (image_numbered images image) w n in
     elim (unless_frame borrowed (enter_image p next_sid image (image_numbered images image)) sid w) [
       | inl h ↦ inl (h ∙ e)
       | inr h ↦ inr h

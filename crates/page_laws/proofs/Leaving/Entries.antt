@@ -119,13 +119,13 @@ get_some p source demanded v f l = go p.free refl l
             at None = refl
             at (Some y) = refl
 
-pub record Reading (qs : List Page) (p : Placement) (source : Source) (demanded : Page) : Type 0 where
+pub record CanReadAll (qs : List Page) (p : Placement) (source : Source) (demanded : Page) : Type 0 where
   pub owns : OwnsFrames p
   pub enter : EachPage (CanEnter p) qs
   pub apart : AllApart qs
   pub latest : IsOpen p.transfers (Reads source demanded)
 
-pub reads_on : (v : Page) (qs : List Page) (p : Placement) (source : Source) (demanded : Page) → Reading (v ∷ qs) p source demanded → Reading qs (get_one p (Reads source demanded) v) source demanded
+pub reads_on : (v : Page) (qs : List Page) (p : Placement) (source : Source) (demanded : Page) → CanReadAll (v ∷ qs) p source demanded → CanReadAll qs (get_one p (Reads source demanded) v) source demanded
 reads_on v qs p source demanded r = record {
   owns = get_owner p source demanded v r.owns r.enter.0 r.latest;
   enter = each_page_both (CanEnter p) (λ x. x ≢ v) (CanEnter (get_one p (Reads source demanded) v)) qs r.enter.1 r.apart.0 (λ w h n. get_enters_still p (Reads source demanded) v w r.owns n h);
@@ -133,7 +133,7 @@ reads_on v qs p source demanded r = record {
   latest = get_open_still p (Reads source demanded) v r.latest;
 }
 
-get_all_frameless : (qs : List Page) (p : Placement) (source : Source) (demanded w : Page) → Reading qs p source demanded → EachPage (λ r. w ≢ r) qs → frame_of (state_of p w) ≡ None
+get_all_frameless : (qs : List Page) (p : Placement) (source : Source) (demanded w : Page) → CanReadAll qs p source demanded → EachPage (λ r. w ≢ r) qs → frame_of (state_of p w) ≡ None
     → slot_of (get_all p (Reads source demanded) qs) w ≡ slot_of p w
 get_all_frameless [] p source demanded w r n e = refl
 get_all_frameless (v ∷ qs) p source demanded w r n e =
@@ -143,7 +143,7 @@ get_all_frameless (v ∷ qs) p source demanded w r n e =
 left_none : (w : Page) (s : PageState) (m : Bool) → s ≡ left_state w m → frame_of s ≡ None
 left_none w s m e = ap frame_of e ∙ left_frameless w m
 
-get_all_kept : (qs : List Page) (p : Placement) (source : Source) (demanded w : Page) (f : ℕ) → Reading qs p source demanded → frame_of (state_of p w) ≡ Some f
+get_all_kept : (qs : List Page) (p : Placement) (source : Source) (demanded w : Page) (f : ℕ) → CanReadAll qs p source demanded → frame_of (state_of p w) ≡ Some f
     → (slot_of (get_all p (Reads source demanded) qs) w ≡ slot_of p w) ⊎ IsTaken p (get_all p (Reads source demanded) qs) w f
 get_all_kept [] p source demanded w f r e = inl refl
 get_all_kept (v ∷ qs) p source demanded w f r e = elim (get_kept p source demanded v w f r.owns r.enter.0 e) [
@@ -162,10 +162,10 @@ get_all_kept (v ∷ qs) p source demanded w f r e = elim (get_kept p source dema
     q : Placement
     q = get_one p (Reads source demanded) v
 
-    on : Reading qs q source demanded
+    on : CanReadAll qs q source demanded
     on = reads_on v qs p source demanded r
 
-pub reading : (p : Placement) (q : Page) (lo n : ℕ) → OwnsFrames p → EachPage (CanEnter p) (pages_from q lo n) → Reading (pages_from q lo n) (begin p (read_errand p q)) (source_for (state_of p q)) q
+pub reading : (p : Placement) (q : Page) (lo n : ℕ) → OwnsFrames p → EachPage (CanEnter p) (pages_from q lo n) → CanReadAll (pages_from q lo n) (begin p (read_errand p q)) (source_for (state_of p q)) q
 reading p q lo n o c = record {
   owns = begin_owner p (read_errand p q) o;
   enter = each_page_imp (CanEnter p) (CanEnter (begin p (read_errand p q))) (pages_from q lo n) c (λ x h. record { there = h.there; frameless = h.frameless });

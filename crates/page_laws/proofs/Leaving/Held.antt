@@ -27,7 +27,7 @@ use Rattle.page_laws.proofs.Moves.Steps.{page_in, once_at}
 use Rattle.page_laws.proofs.Ownership.Pages.{expire_owner}
 use Rattle.page_laws.proofs.Ownership.Hands.{move_owner}
 use Rattle.page_laws.proofs.Ownership.Runs.{Landing, landing_state, landing_frame, land_owner, land_transfers}
-use Rattle.page_laws.proofs.Leaving.Entries.{Reading, reads_on, reading, first_free, enters_other, entering_others}
+use Rattle.page_laws.proofs.Leaving.Entries.{CanReadAll, reads_on, reading, first_free, enters_other, entering_others}
 
 held_frame : (p : Placement) (w : Page) (f : ℕ) → IsUnwritten p w f → frame_of (state_of p w) ≡ Some f
 held_frame p w f u = elim u.held [
@@ -113,7 +113,7 @@ get_held p e v w f o n u = go p.free refl
     go (g ∷ rest) h = still p (get_at p e v (g ∷ rest)) w f (put_other (evict p g) v (Coming g) (mark_of p v) w n ∙ evict_held p g w f o (first_free p g rest h) u)
         (λ z. without_none f g (evict p g).free (ap (times f) (evict_free p g) ∙ z)) u
 
-get_all_held : (qs : List Page) (p : Placement) (source : Source) (demanded w : Page) (f : ℕ) → Reading qs p source demanded → EachPage (λ r. w ≢ r) qs → IsUnwritten p w f → IsUnwritten (get_all p (Reads source demanded) qs) w f
+get_all_held : (qs : List Page) (p : Placement) (source : Source) (demanded w : Page) (f : ℕ) → CanReadAll qs p source demanded → EachPage (λ r. w ≢ r) qs → IsUnwritten p w f → IsUnwritten (get_all p (Reads source demanded) qs) w f
 get_all_held [] p source demanded w f r n u = u
 get_all_held (v ∷ qs) p source demanded w f r n u =
     get_all_held qs (get_one p (Reads source demanded) v) source demanded w f (reads_on v qs p source demanded r) n.1 (get_held p (Reads source demanded) v w f r.owns n.0 u)

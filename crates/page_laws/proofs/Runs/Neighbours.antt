@@ -11,7 +11,7 @@ use Rattle.page_model.specs.Frames.{times}
 use Rattle.page_model.specs.Placement.{Placement, slots_of, state_of, is_dirty}
 use Rattle.page_model.specs.PageBytes.{IsWritable}
 use Rattle.page_model.specs.Runs.{Run, run_in, run_in_by, run_out, run_put, run_put_by, run_alone, chunk_of, is_near, desired_free, spare_frames, comes_from_swap, comes_from_file, is_idle, is_idle_by, goes_along, is_seated, is_seated_by}
-use Rattle.page_laws.specs.Neighbours.{IsWidest, IsLongest, MayRead, IsSwappedBeside, IsUnfilledBeside, IsIdleBeside, IsSeatedBeside}
+use Rattle.page_laws.specs.Neighbours.{IsWidestRun, IsLongestRun, MayRead, IsSwappedBeside, IsUnfilledBeside, IsIdleBeside, IsSeatedBeside}
 use Rattle.page_laws.proofs.Lists.Runs.{and_both}
 use Rattle.page_laws.proofs.Runs.Widest.{widest, longest}
 
@@ -127,22 +127,22 @@ seated_passes p q w h = both (is_seated p (beside q w)) (is_dirty p (beside q w)
 some_spare : (m n : ℕ) → 0 < m → 0 < min m (max 1 n)
 some_spare m n l = grind arith
 
-pub data_in : (p : Placement) (q : Page) → IsWritable q → state_of p q ≡ OnSwap → IsWidest (IsSwappedBeside p q) (MayRead p 4) (number_of q) (run_in p q)
+pub data_in : (p : Placement) (q : Page) → IsWritable q → state_of p q ≡ OnSwap → IsWidestRun (IsSwappedBeside p q) (MayRead p 4) (number_of q) (run_in p q)
 data_in p (Text image v) w e = absurd w
-data_in p (Data sid v) w e = subst (λ (s : PageState). IsWidest (IsSwappedBeside p (Data sid v)) (MayRead p 4) v (run_in_by p (Data sid v) s (spare_frames p))) (sym e)
+data_in p (Data sid v) w e = subst (λ (s : PageState). IsWidestRun (IsSwappedBeside p (Data sid v)) (MayRead p 4) v (run_in_by p (Data sid v) s (spare_frames p))) (sym e)
     (widest (comes_from_swap p (Data sid v)) (IsSwappedBeside p (Data sid v)) (MayRead p 4) v (min 4 (spare_frames p)) (some_spare 4 (length p.free - desired_free p) (omega arith))
     (swapped_joins p (Data sid v)) (swapped_passes p (Data sid v)) (spared 4 (desired_free p) (length p.free)) (too_many 4 (desired_free p) (length p.free)))
-data_in p (Stack sid v) w e = subst (λ (s : PageState). IsWidest (IsSwappedBeside p (Stack sid v)) (MayRead p 4) v (run_in_by p (Stack sid v) s (spare_frames p))) (sym e)
+data_in p (Stack sid v) w e = subst (λ (s : PageState). IsWidestRun (IsSwappedBeside p (Stack sid v)) (MayRead p 4) v (run_in_by p (Stack sid v) s (spare_frames p))) (sym e)
     (widest (comes_from_swap p (Stack sid v)) (IsSwappedBeside p (Stack sid v)) (MayRead p 4) v (min 4 (spare_frames p)) (some_spare 4 (length p.free - desired_free p) (omega arith))
     (swapped_joins p (Stack sid v)) (swapped_passes p (Stack sid v)) (spared 4 (desired_free p) (length p.free)) (too_many 4 (desired_free p) (length p.free)))
 
-pub text_in : (p : Placement) (image v : ℕ) → state_of p (Text image v) ≡ OnSwap → IsLongest (IsSwappedBeside p (Text image v)) (MayRead p 2) v (run_in p (Text image v))
-text_in p image v e = subst (λ (s : PageState). IsLongest (IsSwappedBeside p (Text image v)) (MayRead p 2) v (run_in_by p (Text image v) s (spare_frames p))) (sym e)
+pub text_in : (p : Placement) (image v : ℕ) → state_of p (Text image v) ≡ OnSwap → IsLongestRun (IsSwappedBeside p (Text image v)) (MayRead p 2) v (run_in p (Text image v))
+text_in p image v e = subst (λ (s : PageState). IsLongestRun (IsSwappedBeside p (Text image v)) (MayRead p 2) v (run_in_by p (Text image v) s (spare_frames p))) (sym e)
     (longest (comes_from_swap p (Text image v)) (IsSwappedBeside p (Text image v)) (MayRead p 2) v (min 2 (spare_frames p)) (some_spare 2 (length p.free - desired_free p) (omega arith))
     (swapped_joins p (Text image v)) (swapped_passes p (Text image v)) (spared 2 (desired_free p) (length p.free)) (too_many 2 (desired_free p) (length p.free)))
 
-pub file_in : (p : Placement) (image v : ℕ) → state_of p (Text image v) ≡ Unfilled → IsLongest (IsUnfilledBeside p (Text image v)) (MayRead p 2) v (run_in p (Text image v))
-file_in p image v e = subst (λ (s : PageState). IsLongest (IsUnfilledBeside p (Text image v)) (MayRead p 2) v (run_in_by p (Text image v) s (spare_frames p))) (sym e)
+pub file_in : (p : Placement) (image v : ℕ) → state_of p (Text image v) ≡ Unfilled → IsLongestRun (IsUnfilledBeside p (Text image v)) (MayRead p 2) v (run_in p (Text image v))
+file_in p image v e = subst (λ (s : PageState). IsLongestRun (IsUnfilledBeside p (Text image v)) (MayRead p 2) v (run_in_by p (Text image v) s (spare_frames p))) (sym e)
     (longest (comes_from_file p (Text image v)) (IsUnfilledBeside p (Text image v)) (MayRead p 2) v (min 2 (spare_frames p)) (some_spare 2 (length p.free - desired_free p) (omega arith))
     (filed_joins p (Text image v)) (filed_passes p (Text image v)) (spared 2 (desired_free p) (length p.free)) (too_many 2 (desired_free p) (length p.free)))
 
@@ -151,12 +151,12 @@ alone_in p (Text image v) w e = absurd w
 alone_in p (Data sid v) w e = ap (λ (s : PageState). run_in_by p (Data sid v) s (spare_frames p)) e
 alone_in p (Stack sid v) w e = ap (λ (s : PageState). run_in_by p (Stack sid v) s (spare_frames p)) e
 
-pub widest_out : (p : Placement) (locked : List Page) (q : Page) → IsWidest (IsIdleBeside p locked q) (λ n. n ≤ 16) (number_of q) (run_out p locked q)
+pub widest_out : (p : Placement) (locked : List Page) (q : Page) → IsWidestRun (IsIdleBeside p locked q) (λ n. n ≤ 16) (number_of q) (run_out p locked q)
 widest_out p locked q = widest (λ w. goes_along p locked (beside q w) && is_near q w) (IsIdleBeside p locked q) (λ n. n ≤ 16) (number_of q) 16 (omega arith)
     (idle_joins p locked q) (idle_passes p locked q) (λ n l m. m) (λ l. omega arith)
 
-pub longest_put : (p : Placement) (q : Page) → is_dirty p q ≡ true → IsLongest (IsSeatedBeside p q) (λ n. n ≤ 16) (number_of q) (run_put p q)
-longest_put p q d = subst (λ (b : Bool). IsLongest (IsSeatedBeside p q) (λ n. n ≤ 16) (number_of q) (run_put_by p q b)) (sym d)
+pub longest_put : (p : Placement) (q : Page) → is_dirty p q ≡ true → IsLongestRun (IsSeatedBeside p q) (λ n. n ≤ 16) (number_of q) (run_put p q)
+longest_put p q d = subst (λ (b : Bool). IsLongestRun (IsSeatedBeside p q) (λ n. n ≤ 16) (number_of q) (run_put_by p q b)) (sym d)
     (longest (λ w. is_seated p (beside q w) && (is_dirty p (beside q w) && is_near q w)) (IsSeatedBeside p q) (λ n. n ≤ 16) (number_of q) 16 (omega arith)
     (seated_joins p q) (seated_passes p q) (λ n l m. m) (λ l. omega arith))
 

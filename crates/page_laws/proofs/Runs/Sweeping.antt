@@ -76,14 +76,14 @@ expire_slot p locked w o = of (page_of p p.front) refl
 -- The back hand.
 
 -- what the back hand takes: invalid in this frame, off the free list, and not locked
-record IsTaken (p : Placement) (locked : List Page) (w : Page) (f : ℕ) (dirty : Bool) : Type 0 where
+record IsPicked (p : Placement) (locked : List Page) (w : Page) (f : ℕ) (dirty : Bool) : Type 0 where
   state : state_of p w ≡ Invalid f
   off : times f p.free ≡ 0
   unlocked : is_among w locked ≡ false
   mark : is_dirty p w ≡ dirty
 
 -- what was invalid behind the front hand
-swept_from : (p : Placement) (locked : List Page) (w : Page) (f : ℕ) (dirty : Bool) → OwnsFrames p → IsTaken (expire p locked) locked w f dirty → MayBeSwept p locked w f × (is_dirty p w ≡ dirty)
+swept_from : (p : Placement) (locked : List Page) (w : Page) (f : ℕ) (dirty : Bool) → OwnsFrames p → IsPicked (expire p locked) locked w f dirty → MayBeSwept p locked w f × (is_dirty p w ≡ dirty)
 swept_from p locked w f dirty o t = elim (expire_slot p locked w o) [
   | inl e ↦ (
     record { unlocked = t.unlocked; idle = inl (sym (ap (λ (x : Slot). x.state) e) ∙ t.state, ap (times f) (sym (expire_free p locked)) ∙ t.off) },
@@ -121,21 +121,21 @@ retired p q g f e z l = elim (cases_eq f g) [
       omega arith)
 ]
 
-swept_freed : (p : Placement) (locked : List Page) (f : ℕ) → OwnsFrames p → times f p.free ≡ 0 → 0 < times f (sweep p locked).free → (w : Page) × (page_of p f ≡ Some w) × IsTaken p locked w f false
+swept_freed : (p : Placement) (locked : List Page) (f : ℕ) → OwnsFrames p → times f p.free ≡ 0 → 0 < times f (sweep p locked).free → (w : Page) × (page_of p f ≡ Some w) × IsPicked p locked w f false
 swept_freed p locked f o z l = of (page_of p p.back) refl l
   where
     still : (0 < times f p.free) → ⊥
     still m = omega arith
 
     by : (q : Page) (g : ℕ) (d : Bool) → state_of p q ≡ Invalid g → times p.back p.free ≡ 0 → is_among q locked ≡ false → is_dirty p q ≡ d → page_of p p.back ≡ Some q
-        → 0 < times f (sweep_by p locked q d).free → (w : Page) × (page_of p f ≡ Some w) × IsTaken p locked w f false
+        → 0 < times f (sweep_by p locked q d).free → (w : Page) × (page_of p f ≡ Some w) × IsPicked p locked w f false
     by q g true e n k d h m = absurd (still (subst (λ (xs : List ℕ). 0 < times f xs) (launch_all_free (pages_of_run q (run_out p locked q)) (begin p Writes)) m))
     by q g false e n k d h m =
         let same : g ≡ f = retired p q g f e z m in
         (q, o.names q f (ap frame_of e ∙ ap (λ (x : ℕ). Some x) same), record { state = e ∙ ap Invalid same; off = z; unlocked = k; mark = d })
 
     to : (q : Page) (s : PageState) (n : ℕ) (b : Bool) → state_of p q ≡ s → times p.back p.free ≡ n → is_among q locked ≡ b → page_of p p.back ≡ Some q → 0 < times f (sweep_to p locked q s n b).free
-        → (w : Page) × (page_of p f ≡ Some w) × IsTaken p locked w f false
+        → (w : Page) × (page_of p f ≡ Some w) × IsPicked p locked w f false
     to q (Invalid g) zero false e n k h m = by q g (is_dirty p q) e n k refl h m
     to q (Invalid g) zero true e n k h m = absurd (still m)
     to q (Invalid g) (suc i) b e n k h m = absurd (still m)
@@ -145,7 +145,7 @@ swept_freed p locked f o z l = of (page_of p p.back) refl l
     to q (Going g) i b e n k h m = absurd (still m)
     to q OnSwap i b e n k h m = absurd (still m)
 
-    of : (h : Option Page) → page_of p p.back ≡ h → 0 < times f (sweep_of p locked p.back h).free → (w : Page) × (page_of p f ≡ Some w) × IsTaken p locked w f false
+    of : (h : Option Page) → page_of p p.back ≡ h → 0 < times f (sweep_of p locked p.back h).free → (w : Page) × (page_of p f ≡ Some w) × IsPicked p locked w f false
     of None e m = absurd (still m)
     of (Some q) e m = to q (state_of p q) (times p.back p.free) (is_among q locked) refl refl refl e m
 
@@ -183,16 +183,16 @@ going_from P p qs w f h e = elim (among_or P w qs h) [
 ]
 
 abbrev TakenSome : Placement → List Page → Page → Type 0
-TakenSome p locked w = (g : ℕ) × IsTaken p locked w g true
+TakenSome p locked w = (g : ℕ) × IsPicked p locked w g true
 
 run_taken : (p : Placement) (locked : List Page) (q : Page) → TakenSome p locked q → EachPage (TakenSome p locked) (pages_of_run q (run_out p locked q))
 run_taken p locked q h = run_each (TakenSome p locked) (λ w. goes_along p locked (beside q w) && is_near q w) q (run_out p locked q)
     (run_both_in (λ w. goes_along p locked (beside q w) && is_near q w) (number_of q) most_written) h
     (λ w e. let i : IsIdleBeside p locked q w = idle_joins p locked q w e in (i.frame, record { state = i.state; off = i.off; unlocked = i.unlocked; mark = i.dirty }))
 
-taken_at : (p : Placement) (locked : List Page) (w : Page) (f : ℕ) → TakenSome p locked w → frame_of (state_of p w) ≡ Some f → IsTaken p locked w f true
+taken_at : (p : Placement) (locked : List Page) (w : Page) (f : ℕ) → TakenSome p locked w → frame_of (state_of p w) ≡ Some f → IsPicked p locked w f true
 taken_at p locked w f h e =
-    let t : IsTaken p locked w h.0 true = h.1 in
+    let t : IsPicked p locked w h.0 true = h.1 in
     let same : h.0 ≡ f = some_is h.0 f (sym (ap frame_of t.state) ∙ e) in
     record { state = t.state ∙ ap Invalid same; off = ap (λ (x : ℕ). times x p.free) (sym same) ∙ t.off; unlocked = t.unlocked; mark = t.mark }
 
@@ -205,10 +205,10 @@ retire_going p q w g f e h = elim (page_cases w q) [
     at : state_of (retire p q) w ≡ state_of (retire_to p q (Invalid g)) w
     at = ap (λ (s : PageState). state_of (retire_to p q s) w) e
 
-swept_going : (p : Placement) (locked : List Page) (w : Page) (f : ℕ) → OwnsFrames p → state_of (sweep p locked) w ≡ Going f → (state_of p w ≡ Going f) ⊎ IsTaken p locked w f true
+swept_going : (p : Placement) (locked : List Page) (w : Page) (f : ℕ) → OwnsFrames p → state_of (sweep p locked) w ≡ Going f → (state_of p w ≡ Going f) ⊎ IsPicked p locked w f true
 swept_going p locked w f o l = of (page_of p p.back) refl l
   where
-    by : (q : Page) (g : ℕ) (d : Bool) → state_of p q ≡ Invalid g → times g p.free ≡ 0 → is_among q locked ≡ false → is_dirty p q ≡ d → state_of (sweep_by p locked q d) w ≡ Going f → (state_of p w ≡ Going f) ⊎ IsTaken p locked w f true
+    by : (q : Page) (g : ℕ) (d : Bool) → state_of p q ≡ Invalid g → times g p.free ≡ 0 → is_among q locked ≡ false → is_dirty p q ≡ d → state_of (sweep_by p locked q d) w ≡ Going f → (state_of p w ≡ Going f) ⊎ IsPicked p locked w f true
     by q g true e n k d m = elim (going_from (TakenSome p locked) p (pages_of_run q (run_out p locked q)) w f (run_taken p locked q (g, record { state = e; off = n; unlocked = k; mark = d })) m) [
       | inl h ↦ inl h
       | inr h ↦ inr (taken_at p locked w f h.0 h.1)
@@ -216,7 +216,7 @@ swept_going p locked w f o l = of (page_of p p.back) refl l
     by q g false e n k d m = inl (retire_going p q w g f e m)
 
     to : (q : Page) (s : PageState) (n : ℕ) (b : Bool) → state_of p q ≡ s → times p.back p.free ≡ n → is_among q locked ≡ b → page_of p p.back ≡ Some q
-        → state_of (sweep_to p locked q s n b) w ≡ Going f → (state_of p w ≡ Going f) ⊎ IsTaken p locked w f true
+        → state_of (sweep_to p locked q s n b) w ≡ Going f → (state_of p w ≡ Going f) ⊎ IsPicked p locked w f true
     to q (Invalid g) zero false e n k h m =
         let same : p.back ≡ g = some_is p.back g (sym (o.named p.back q h) ∙ ap frame_of e) in
         by q g (is_dirty p q) e (ap (λ (x : ℕ). times x p.free) (sym same) ∙ n) k refl m
@@ -228,7 +228,7 @@ swept_going p locked w f o l = of (page_of p p.back) refl l
     to q (Going g) i b e n k h m = inl m
     to q OnSwap i b e n k h m = inl m
 
-    of : (h : Option Page) → page_of p p.back ≡ h → state_of (sweep_of p locked p.back h) w ≡ Going f → (state_of p w ≡ Going f) ⊎ IsTaken p locked w f true
+    of : (h : Option Page) → page_of p p.back ≡ h → state_of (sweep_of p locked p.back h) w ≡ Going f → (state_of p w ≡ Going f) ⊎ IsPicked p locked w f true
     of None e m = inl m
     of (Some q) e m = to q (state_of p q) (times p.back p.free) (is_among q locked) refl refl refl e m
 

@@ -2,7 +2,7 @@
 use Rattle.std.proofs.Common.{◌≡◌, ◌≢◌, ◌⊎◌, inl, inr, ℕ, zero, suc, ◌+◌, ◌-◌, ◌<◌, ◌≤◌, Bool, true, false, cond, refl, sym, ap, ◌∙◌, subst, arith}
 use Rattle.std.proofs.lemmas.Bool.{cases_eq}
 use Rattle.page_model.specs.Runs.{Run, passing_above, passing_below, run_both, run_up}
-use Rattle.page_laws.specs.Neighbours.{IsWidest, IsLongest}
+use Rattle.page_laws.specs.Neighbours.{IsWidestRun, IsLongestRun}
 use Rattle.page_laws.proofs.Lists.Runs.{below_le, run_both_in, run_up_in}
 
 -- Where passing stops.
@@ -54,7 +54,7 @@ passed passes v w n (inl e) = absurd (n e)
 passed passes v w n (inr e) = e
 
 pub widest : (passes : ℕ → Bool) (Joins MayBe : ℕ → Type 0) (v most : ℕ) → 0 < most → ((w : ℕ) → passes w ≡ true → Joins w) → ((w : ℕ) → Joins w → passes w ≡ true)
-    → ((n : ℕ) → 0 < n → n ≤ most → MayBe n) → (MayBe (most + 1) → ⊥) → IsWidest Joins MayBe v (run_both passes v most)
+    → ((n : ℕ) → 0 < n → n ≤ most → MayBe n) → (MayBe (most + 1) → ⊥) → IsWidestRun Joins MayBe v (run_both passes v most)
 widest passes Joins MayBe v most some to back may full = let a = above_few in let b = below_few in let c = below_in in record {
   has = (omega arith, omega arith);
   joins = λ w l m n. to w (passed passes v w n (run_both_in passes v most w l m));
@@ -93,7 +93,7 @@ widest passes Joins MayBe v most some to back may full = let a = above_few in le
         never passes Joins (v + above + 1) back (above_stops passes v (most - 1) l) (subst Joins same j)
 
 pub longest : (passes : ℕ → Bool) (Joins MayBe : ℕ → Type 0) (v most : ℕ) → 0 < most → ((w : ℕ) → passes w ≡ true → Joins w) → ((w : ℕ) → Joins w → passes w ≡ true)
-    → ((n : ℕ) → 0 < n → n ≤ most → MayBe n) → (MayBe (most + 1) → ⊥) → IsLongest Joins MayBe v (run_up passes v most)
+    → ((n : ℕ) → 0 < n → n ≤ most → MayBe n) → (MayBe (most + 1) → ⊥) → IsLongestRun Joins MayBe v (run_up passes v most)
 longest passes Joins MayBe v most some to back may full = let a = above_few in record {
   from = refl;
   some = omega arith;
