@@ -7,7 +7,7 @@ use Rattle.vm_facts.specs.declared.page.PageState.TheVariants.{Unfilled, Valid, 
 use Rattle.flat_state.specs.declared.change.Change.{Change}
 use Rattle.flat_state.specs.declared.change.Change.TheVariants.{Keep, Resize, Fork, Lend, Exec, Reap, Sleep, End}
 use Rattle.flat_state.specs.Flat.{NamedImage, image_numbered}
-use Rattle.page_model.specs.Pages.{Slot, no_slot, SpacePages, data_in, stack_in}
+use Rattle.page_model.specs.Pages.{Slot, no_slot, data_in, stack_in}
 use Rattle.flat_state.specs.PageNames.{number_of, same_page}
 use Rattle.page_model.specs.Placement.{Placement, Due, Start, CopyOf, due_at, filling_by, slots_of, slot_of, state_of, sharers, image_of}
 use Rattle.page_model.specs.Moves.{touch, drop_all, leave_by, leave_page, leave_all, listed}

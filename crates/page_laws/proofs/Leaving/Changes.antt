@@ -9,21 +9,18 @@ use Rattle.vm_facts.specs.declared.page.PageState.TheVariants.{Unfilled, Valid, 
 use Rattle.flat_state.specs.Flat.{NamedImage, image_numbered}
 use Rattle.flat_state.specs.declared.change.Change.{Change}
 use Rattle.flat_state.specs.declared.change.Change.TheVariants.{Keep, Resize, Fork, Lend, Exec, Reap, Sleep, End}
-use Rattle.flat_state.specs.PageNames.{number_of}
 use Rattle.page_model.specs.Pages.{Slot, no_slot, SpacePages, frame_of, numbered, changed, data_in, stack_in}
 use Rattle.page_model.specs.Placement.{Placement, space_number, slots_of, slot_of, state_of, image_of, sharers, put}
 use Rattle.page_model.specs.Moves.{drop_all, touch, touch_all, turn, listed, leave_by, leave_page, leave_all}
 use Rattle.page_model.specs.Place.{cut_space, resize, data_count, stack_count, data_from, stack_from, child_slot, fork_space}
 use Rattle.page_model.specs.Place.{remove_space, pages_of_space, pages_of_text, leave_text, leave_text_by, give_up, give_up_unless, enter_image, place_change}
 use Rattle.page_model.specs.Conditions.{EachPage, IsNew}
-use Rattle.page_model.specs.PageBytes.{IsWritable}
 use Rattle.page_model.specs.Swapper.{is_of_space}
 use Rattle.page_laws.specs.Leaving.{IsCutOff, IsGivenUp}
 use Rattle.page_laws.proofs.Lists.Pages.{mapped, changed_same, changed_other, page_cases, put_state}
 use Rattle.page_laws.proofs.Lists.Runs.{each_page_append, pages_from_each}
-use Rattle.page_laws.proofs.Moves.Steps.{put_other_state}
 use Rattle.page_laws.proofs.Moves.Stays.{Steady, turn_steady, steady_both, steady_self}
-use Rattle.page_laws.proofs.Ownership.Changes.{Alike, sized_past, sized_within, cut, dropped_pages, add_alike, child_blank, enter_alike, removed_same, removed_other}
+use Rattle.page_laws.proofs.Ownership.Changes.{Alike, sized_past, sized_within, cut, dropped_pages, add_alike, child_blank, enter_alike, removed_same}
 use Rattle.page_laws.proofs.Ownership.Spaces.{there_or, IsBlank, blank_put, drop_all_other}
 use Rattle.page_laws.proofs.Bytes.Others.{touch_steady}
 use Rattle.page_laws.proofs.Blocks.Changes.{leave_other}

@@ -1,5 +1,5 @@
 -- Which pages lose their frames by a paging entry.
-use Rattle.std.proofs.Common.{◌≡◌, ◌≢◌, ◌⊎◌, inl, inr, ℕ, zero, suc, ◌+◌, ◌<◌, ◌≤◌, Bool, true, false, List, [], ◌∷◌, ◌++◌, Option, Some, None, refl, sym, ap, ◌∙◌, subst, arith}
+use Rattle.std.proofs.Common.{◌≡◌, ◌≢◌, ◌⊎◌, inl, inr, ℕ, zero, suc, ◌+◌, ◌<◌, Bool, true, List, [], ◌∷◌, Option, Some, None, refl, sym, ap, ◌∙◌, subst, arith}
 use Rattle.std.proofs.lemmas.Bool.{cases_eq}
 use Rattle.vm_facts.specs.declared.page.Page.{Page}
 use Rattle.vm_facts.specs.declared.page.PageState.{PageState}
@@ -12,7 +12,7 @@ use Rattle.page_model.specs.Frames.{times, without}
 use Rattle.page_model.specs.Placement.{Placement, Reads, Source, slot_of, state_of, mark_of, page_of}
 use Rattle.page_model.specs.Moves.{evict, evict_at, fill, fill_at, begin, get_one, get_at, get_all, done, reclaim}
 use Rattle.page_model.specs.Hands.{hand_move, hand_moves}
-use Rattle.page_model.specs.Place.{filled, put_step, place_entry}
+use Rattle.page_model.specs.Place.{put_step, place_entry}
 use Rattle.page_model.specs.Serve.{source_for, read_errand}
 use Rattle.page_model.specs.Conditions.{EachPage, AllApart, CanEnter, CanPlace}
 use Rattle.page_model.specs.Ownership.{OwnsFrames, IsListed, is_marked_dirty}
@@ -26,7 +26,6 @@ use Rattle.page_laws.proofs.Moves.Steps.{page_in, left_frameless, evict_other}
 use Rattle.page_laws.proofs.Moves.Stays.{Steady, Stays, move_stays, done_steady}
 use Rattle.page_laws.proofs.Ownership.Pages.{get_owner}
 use Rattle.page_laws.proofs.Ownership.Runs.{begin_owner, get_enters_still, get_open_still}
-use Rattle.page_laws.proofs.Ownership.Hands.{move_owner}
 use Rattle.page_laws.proofs.Bytes.Others.{put_steady, reclaim_steady}
 
 pub first_free : (p : Placement) (f : ℕ) (rest : List ℕ) → p.free ≡ f ∷ rest → 0 < times f p.free

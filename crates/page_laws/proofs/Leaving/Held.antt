@@ -1,5 +1,5 @@
 -- A page that must be written keeps its frame through each paging entry, till its write completes.
-use Rattle.std.proofs.Common.{◌≡◌, ◌≢◌, ◌⊎◌, inl, inr, ℕ, zero, suc, ◌+◌, ◌<◌, ◌≤◌, Bool, true, false, List, [], ◌∷◌, ◌++◌, Option, Some, None, refl, sym, ap, ◌∙◌, subst, arith}
+use Rattle.std.proofs.Common.{◌≡◌, ◌≢◌, ◌⊎◌, inl, inr, ℕ, zero, suc, ◌<◌, Bool, true, false, List, [], ◌∷◌, ◌++◌, Option, Some, None, refl, sym, ap, ◌∙◌, subst, arith}
 use Rattle.std.proofs.lemmas.Bool.{cases_eq}
 use Rattle.vm_facts.specs.declared.page.Page.{Page}
 use Rattle.vm_facts.specs.declared.page.Page.TheVariants.{Data, Stack, Text}
@@ -10,18 +10,18 @@ use Rattle.vm_facts.specs.declared.entry.Entry.TheVariants as entries
 use Rattle.flat_state.specs.PageNames.{number_of, pages_from, is_among, same_page}
 use Rattle.page_model.specs.Pages.{Slot, frame_of, is_dirty_by, left_state, written_mark}
 use Rattle.page_model.specs.Frames.{times, without}
-use Rattle.page_model.specs.Placement.{Placement, Transfer, Part, Errand, Writes, Reads, Source, moving_state, slot_of, state_of, mark_of, is_dirty, page_of, parts_of, flying}
+use Rattle.page_model.specs.Placement.{Placement, Transfer, Part, Errand, Writes, Reads, Source, moving_state, slot_of, state_of, mark_of, is_dirty, page_of, parts_of}
 use Rattle.page_model.specs.Moves.{evict, evict_at, fill, fill_at, begin, get_one, get_at, get_all, turn, join_last, launch, launch_to}
 use Rattle.page_model.specs.Moves.{launch_all, launch_run, land, land_read, land_all, arrived_mark, done, done_of, reclaim, reclaim_to, retire, retire_to}
 use Rattle.page_model.specs.Runs.{pages_of_run, run_out}
 use Rattle.page_model.specs.Hands.{expire, expire_of, expire_if, expire_to, sweep, sweep_of, sweep_to, sweep_by, hand_move, hand_moves}
 use Rattle.page_model.specs.Place.{put_step, put_by, place_entry}
 use Rattle.page_model.specs.Serve.{source_for, read_errand}
-use Rattle.page_model.specs.Conditions.{EachPage, CanEnter, CanPlace}
+use Rattle.page_model.specs.Conditions.{EachPage, CanPlace}
 use Rattle.page_model.specs.Ownership.{OwnsFrames, IsListed, seats}
 use Rattle.page_laws.specs.Leaving.{IsUnwritten, IsWritten}
 use Rattle.page_laws.proofs.Lists.Frames.{times-append, times_one_other, times_without, times_without_other}
-use Rattle.page_laws.proofs.Lists.Local.{some_is, none_some}
+use Rattle.page_laws.proofs.Lists.Local.{some_is}
 use Rattle.page_laws.proofs.Lists.Pages.{page_cases, put_state, put_mark, put_other}
 use Rattle.page_laws.proofs.Moves.Steps.{page_in, once_at}
 use Rattle.page_laws.proofs.Ownership.Pages.{expire_owner}

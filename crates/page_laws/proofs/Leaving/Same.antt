@@ -1,8 +1,7 @@
 -- A change of a process, and its going out and coming in, leave each page that stands the same.
-use Rattle.std.proofs.Common.{◌≡◌, ◌⊎◌, inl, inr, ℕ, ◌+◌, ◌*◌, ◌≤◌, Bool, List, [], length, Option, Some, None, refl, sym, ap, ◌∙◌, arith}
+use Rattle.std.proofs.Common.{◌≡◌, inl, inr, ℕ, ◌*◌, ◌≤◌, Bool, List, [], length, Option, Some, None, refl, sym, ap, ◌∙◌, arith}
 use Rattle.vm_facts.specs.declared.page.Page.{Page}
 use Rattle.vm_facts.specs.declared.page.Page.TheVariants.{Data, Stack, Text}
-use Rattle.swap_book.specs.declared.Owner.{Owner}
 use Rattle.swap_book.specs.declared.Owner.TheVariants as owners
 use Rattle.swap_book.specs.Holdings.{Holdings, block_in}
 use Rattle.swap_book.specs.Book.{IsBook, IsPlace, ArePlacesApart}
@@ -16,7 +15,7 @@ use Rattle.page_model.specs.Place.{moved, place_change}
 use Rattle.page_model.specs.Conditions.{IsNew}
 use Rattle.page_model.specs.Ownership.{owner_of}
 use Rattle.page_model.specs.PageBytes.{Bytes, bytes_in, SamePage, SameBytes}
-use Rattle.page_model.specs.Stored.{stored, stored_at, store_at}
+use Rattle.page_model.specs.Stored.{stored, store_at}
 use Rattle.page_laws.proofs.Lists.Local.{some_is, none_some}
 use Rattle.page_laws.proofs.Blocks.Places.{stored_other}
 use Rattle.page_laws.proofs.Leaving.Changes.{change_frame}

@@ -1,35 +1,20 @@
 -- The hands, and how many frames there are, through each entry.
-use Rattle.std.proofs.Common.{◌≡◌, ℕ, zero, suc, ◌+◌, ◌≤◌, ◌==◌, Bool, true, false, cond, List, [], ◌∷◌, length, map, set, Option, Some, refl, sym, ap, ◌∙◌, subst, arith}
-use Rattle.std.proofs.lemmas.Bool.Decides.{nat_tests}
+use Rattle.std.proofs.Common.{◌≡◌, ℕ, zero, suc, List, length, refl, ap, ◌∙◌}
 use Rattle.vm_facts.specs.declared.page.Page.{Page}
-use Rattle.vm_facts.specs.declared.page.Page.TheVariants.{Data, Stack, Text}
-use Rattle.vm_facts.specs.declared.page.PageState.{PageState}
-use Rattle.vm_facts.specs.declared.page.PageState.TheVariants.{Unfilled, Valid, Invalid, Coming, Going, OnSwap}
-use Rattle.vm_facts.specs.declared.regs.Regs.{Regs}
 use Rattle.vm_facts.specs.declared.entry.Entry.{Entry}
 use Rattle.vm_facts.specs.declared.entry.Entry.TheVariants as entries
-use Rattle.swap_book.specs.Owners.{u_pieces}
-use Rattle.swap_book.specs.Holdings.{Holdings}
-use Rattle.page_model.specs.Pages.{numbered}
 use Rattle.flat_state.specs.PageNames.{pages_from, number_of}
-use Rattle.page_model.specs.Frames.{set_frame}
-use Rattle.page_model.specs.Placement.{Placement, Transfer, Part, Errand, Writes, Reads, state_of, due_at}
+use Rattle.page_model.specs.Placement.{Placement}
 use Rattle.page_model.specs.Moves.{fill, begin, touch, touch_to, done}
 use Rattle.page_model.specs.Hands.{hand_move, hand_moves}
 use Rattle.page_model.specs.Place.{filled, put_step, place_entry}
 use Rattle.page_model.specs.Serve.{read_errand}
-use Rattle.page_model.specs.Conditions.{begins, CanPlace, EntryShared, CanEnter, IsShared}
 use Rattle.page_model.specs.Rank.{HandsStand}
-use Rattle.page_model.specs.Ownership.{OwnsFrames, OwnsBlocks, OneOwner, TextAside, u_blocks}
-use Rattle.flat_state.specs.Journal.{append}
-use Rattle.page_laws.proofs.Lists.Local.{none_some, some_is}
-use Rattle.page_laws.proofs.Lists.Frames.{length_set_frame}
-use Rattle.page_laws.proofs.Ownership.Pages.{touch_owner, touch_turns}
+use Rattle.page_model.specs.Ownership.{OwnsFrames}
 use Rattle.page_laws.proofs.Moves.Stays.{Steady, Stays, move_stays}
 use Rattle.page_laws.proofs.Ends.Forcing.{move_stands}
 use Rattle.page_laws.proofs.Ends.Hands.{SameHands, hands_self, hands_stand, fill_hands, get_all_hands, reclaim_hands, done_hands}
-use Rattle.page_laws.proofs.Bytes.Others.{put_steady, touch_steady}
-use Rattle.page_laws.proofs.Moves.Transfers.{entry_count}
+use Rattle.page_laws.proofs.Bytes.Others.{put_steady}
 
 pub record KeepsHands (p q : Placement) : Type 0 where
   pub stand : HandsStand p → HandsStand q
@@ -77,4 +62,3 @@ entry_keep locked at p (entries.Refused pid) o = keep_self p
 entry_keep locked at p (entries.Sleeps pid) o = keep_self p
 entry_keep locked at p (entries.Ended pid status) o = keep_self p
 entry_keep locked at p (entries.Owners x y m h) o = keep_self p
-

@@ -4,7 +4,7 @@ use Rattle.vm_facts.specs.declared.page.Page.{Page}
 use Rattle.vm_facts.specs.declared.page.Page.TheVariants.{Data, Stack, Text}
 use Rattle.vm_facts.specs.declared.page.PageState.{PageState}
 use Rattle.vm_facts.specs.declared.page.PageState.TheVariants.{Unfilled, Valid, Invalid, Coming, Going, OnSwap}
-use Rattle.page_model.specs.Pages.{Slot, frame_of, written_mark}
+use Rattle.page_model.specs.Pages.{Slot, frame_of}
 use Rattle.flat_state.specs.PageNames.{same_page}
 use Rattle.page_model.specs.Frames.{times, without}
 use Rattle.page_model.specs.Placement.{Placement, Transfer, Errand, Writes, Reads, Source, moving, state_of, mark_of, page_of, IsThere, parts_of, flying, moving_state, put}

@@ -1,5 +1,5 @@
 -- The runs of reads and writes are the widest and the longest ones.
-use Rattle.std.proofs.Common.{◌≡◌, ◌⊎◌, inl, inr, ℕ, zero, suc, ◌+◌, ◌-◌, ◌<◌, ◌≤◌, ◌==◌, ◌&&◌, nat_lt, max, min, Bool, true, false, not, List, length, refl, sym, ap, ◌∙◌, subst, arith}
+use Rattle.std.proofs.Common.{◌≡◌, ◌⊎◌, inl, inr, ℕ, ◌+◌, ◌-◌, ◌<◌, ◌≤◌, ◌==◌, ◌&&◌, nat_lt, max, min, Bool, true, false, not, List, length, refl, sym, ap, ◌∙◌, subst, arith}
 use Rattle.std.proofs.lemmas.Bool.Decides.{nat_tests}
 use Rattle.vm_facts.specs.declared.page.Page.{Page}
 use Rattle.vm_facts.specs.declared.page.Page.TheVariants.{Data, Stack, Text}
@@ -10,7 +10,7 @@ use Rattle.page_model.specs.Pages.{is_on_swap, is_unfilled}
 use Rattle.page_model.specs.Frames.{times}
 use Rattle.page_model.specs.Placement.{Placement, slots_of, state_of, is_dirty}
 use Rattle.page_model.specs.PageBytes.{IsWritable}
-use Rattle.page_model.specs.Runs.{Run, run_in, run_in_by, run_out, run_put, run_put_by, run_alone, chunk_of, is_near, desired_free, spare_frames, comes_from_swap, comes_from_file, is_idle, is_idle_by, goes_along, is_seated, is_seated_by}
+use Rattle.page_model.specs.Runs.{run_in, run_in_by, run_out, run_put, run_put_by, run_alone, chunk_of, is_near, desired_free, spare_frames, comes_from_swap, comes_from_file, is_idle, is_idle_by, goes_along, is_seated, is_seated_by}
 use Rattle.page_laws.specs.Neighbours.{IsWidestRun, IsLongestRun, MayRead, IsSwappedBeside, IsUnfilledBeside, IsIdleBeside, IsSeatedBeside}
 use Rattle.page_laws.proofs.Lists.Runs.{and_both}
 use Rattle.page_laws.proofs.Runs.Widest.{widest, longest}

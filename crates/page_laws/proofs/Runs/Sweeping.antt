@@ -1,5 +1,5 @@
 -- What a move of the hands frees or writes was invalid, off the free list and not locked.
-use Rattle.std.proofs.Common.{◌≡◌, ◌≢◌, ◌⊎◌, inl, inr, ℕ, zero, suc, ◌+◌, ◌<◌, ◌≤◌, ◌&&◌, Bool, true, false, not, List, [], ◌∷◌, ◌++◌, Option, Some, None, refl, sym, ap, ◌∙◌, subst, arith}
+use Rattle.std.proofs.Common.{◌≡◌, ◌≢◌, ◌⊎◌, inl, inr, ℕ, zero, suc, ◌<◌, ◌&&◌, Bool, true, false, List, [], ◌∷◌, ◌++◌, Option, Some, None, refl, sym, ap, ◌∙◌, subst, arith}
 use Rattle.std.proofs.lemmas.Bool.{cases_eq}
 use Rattle.vm_facts.specs.declared.page.Page.{Page}
 use Rattle.vm_facts.specs.declared.page.PageState.{PageState}
@@ -7,17 +7,17 @@ use Rattle.vm_facts.specs.declared.page.PageState.TheVariants.{Unfilled, Valid, 
 use Rattle.flat_state.specs.PageNames.{number_of, beside, is_among}
 use Rattle.page_model.specs.Pages.{Slot, frame_of, is_dirty_by}
 use Rattle.page_model.specs.Frames.{times}
-use Rattle.page_model.specs.Placement.{Placement, Writes, slot_of, state_of, mark_of, is_dirty, page_of, put}
+use Rattle.page_model.specs.Placement.{Placement, Writes, slot_of, state_of, mark_of, is_dirty, page_of}
 use Rattle.page_model.specs.Moves.{begin, launch, launch_to, launch_all, launch_run, retire, retire_to}
 use Rattle.page_model.specs.Runs.{pages_of_run, run_out, goes_along, is_near, most_written}
 use Rattle.page_model.specs.Hands.{expire, expire_of, expire_if, expire_to, sweep, sweep_of, sweep_to, sweep_by, hand_move}
-use Rattle.page_model.specs.Ownership.{OwnsFrames, IsListed}
+use Rattle.page_model.specs.Ownership.{OwnsFrames}
 use Rattle.page_model.specs.Conditions.{EachPage}
 use Rattle.page_laws.specs.Neighbours.{IsIdleBeside}
 use Rattle.page_laws.specs.Sweeping.{MayBeSwept}
 use Rattle.page_laws.proofs.Lists.Frames.{times-append, times_one_other}
 use Rattle.page_laws.proofs.Lists.Pages.{page_cases, put_state, put_mark, put_other}
-use Rattle.page_laws.proofs.Lists.Local.{some_is, none_some}
+use Rattle.page_laws.proofs.Lists.Local.{some_is}
 use Rattle.page_laws.proofs.Lists.Runs.{run_each, run_both_in}
 use Rattle.page_laws.proofs.Moves.Steps.{page_in}
 use Rattle.page_laws.proofs.Moves.Stays.{Steady, expire_free, expire_steady, launch_run_steady}

@@ -1,7 +1,6 @@
 -- A run of pages that pass is the widest one, and one upwards the longest.
 use Rattle.std.proofs.Common.{◌≡◌, ◌≢◌, ◌⊎◌, inl, inr, ℕ, zero, suc, ◌+◌, ◌-◌, ◌<◌, ◌≤◌, Bool, true, false, cond, refl, sym, ap, ◌∙◌, subst, arith}
-use Rattle.std.proofs.lemmas.Bool.{cases_eq}
-use Rattle.page_model.specs.Runs.{Run, passing_above, passing_below, run_both, run_up}
+use Rattle.page_model.specs.Runs.{passing_above, passing_below, run_both, run_up}
 use Rattle.page_laws.specs.Neighbours.{IsWidestRun, IsLongestRun}
 use Rattle.page_laws.proofs.Lists.Runs.{below_le, run_both_in, run_up_in}
 

@@ -17,8 +17,7 @@ use Rattle.page_model.specs.Runs.{run_put, run_put_by, run_up, run_alone, is_sea
 use Rattle.page_model.specs.Serve.{is_full}
 use Rattle.page_model.specs.Place.{put_by, put_step, moved, place_entry, data_from, stack_from, pages_of_space}
 use Rattle.page_model.specs.Conditions.{EachPage, HasSeat, CanPlace, CanBegin, HaveParts, EntryShared}
-use Rattle.page_model.specs.Ownership.{OwnsFrames, OneOwner}
-use Rattle.flat_state.specs.Journal.{append}
+use Rattle.page_model.specs.Ownership.{OwnsFrames}
 use Rattle.page_model.specs.Swapper.{residence_of, is_out, is_of_space, is_of_text, names_page, is_settled, first_seated, put_unit_by, put_out_by, put_out_if, put_out_unit}
 use Rattle.page_model.specs.Dues.{DueStand, LeavesDue}
 use Rattle.page_model.specs.PuttingOut.{IsResident, is_active_by, is_active, active_count, put_rank, put_rank_by, EndsPuttingOut}
@@ -35,7 +34,6 @@ use Rattle.page_laws.proofs.Ends.Serving.{land_all_transfers}
 use Rattle.page_laws.proofs.Moves.Transfers.{entry_count}
 use Rattle.page_laws.proofs.Moves.Parts.{entry_parts}
 use Rattle.page_laws.proofs.Due.Entries.{entry_due}
-use Rattle.page_laws.proofs.Blocks.Steps.{place_entry_one}
 
 -- No page becomes active.
 
