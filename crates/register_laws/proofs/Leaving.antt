@@ -12,7 +12,7 @@ use Rattle.vm_facts.specs.declared.regs.Regs.{Regs}
 use Rattle.user_vax.specs.declared.operand.Place.{Place}
 use Rattle.user_vax.specs.declared.operand.Place.TheVariants as places
 use Rattle.vax_alu.specs.Results.{quotient_of}
-use Rattle.user_vax.specs.declared.refused.TheConstants.{SIGILL, SIGFPE}
+use Rattle.user_vax.specs.Signals.{sigill, sigfpe}
 use Rattle.vax_code.specs.declared.table.Name.{Name}
 use Rattle.vax_code.specs.declared.table.Name.TheVariants as names
 use Rattle.user_vax.specs.declared.operand.Evaluated.{Evaluated}
@@ -34,7 +34,7 @@ use Rattle.user_vax.specs.Instruction.{evaluations, write_tests, tested_effect, 
 use Rattle.user_vax.specs.Program.{Program, Gives, Refuses, Reads, Tests, ◌>>=◌, run, after_read, after_test}
 use Rattle.user_vax.specs.Operands.{register, with_register, past, back, number_at, address_of, evaluation, evaluation_at, evaluation_through}
 use Rattle.user_vax.specs.Effects.{Effect, bytes_at, registers_only, store_effect, push_onto, division, pop, pop_into, subroutine_return, result_effect, push_effect, with_move_codes}
-use Rattle.user_vax.specs.Frames.{push_all, restored, linkage, bit, with_raised_stack, arguments_dropped, unwound, with_state_codes, procedure_return, procedure_call, procedure_entry, with_frame, with_aligned_stack, frame}
+use Rattle.user_vax.specs.Frames.{push_all, restored, linkage, bit, with_raised_stack, arguments_dropped, unwound, with_state_codes, registers_returned, procedure_return, procedure_call, procedure_entry, with_frame, with_aligned_stack, frame}
 use Rattle.kernel_model.specs.UPage.{AllLongwords, AreRegs}
 use Rattle.register_laws.proofs.Registers.{regs_set}
 
@@ -162,17 +162,21 @@ unwound_leaves state regs h =
     (λ linked k. leave_bind AreRegs AreRegs (restored 12 (state / 2 ^ 16) linked) (λ with_saved. arguments_dropped (bit state 29) (with_raised_stack with_saved (state / 2 ^ 30))) (restored_leaves 12 (state / 2 ^ 16) linked k)
     (λ with_saved m. dropped_leaves (bit state 29) (with_raised_stack with_saved (state / 2 ^ 30)) (raised_leaves with_saved (state / 2 ^ 30) m)))
 
-pub procedure_return_leaves : (regs : Regs) → AreRegs regs → AllLeave EffectFits (procedure_return regs)
-unfolding procedure_return
-procedure_return_leaves regs h =
-    leave_bind (λ (x : Regs × ℕ). AreRegs x.0 × (x.1 < 2 ^ 32)) EffectFits (pop (with_register regs 14 (past (register regs 13) 4)))
-    (λ state. if state.1 / 2 ^ 4 % 2 ^ 12 == 0 then (unwound state.1 state.0 >>= λ after. Gives (registers_only (with_state_codes after state.1))) else Refuses SIGILL)
+returned_leaves : (regs : Regs) → AreRegs regs → AllLeave AreRegs (registers_returned regs)
+unfolding registers_returned
+returned_leaves regs h =
+    leave_bind (λ (x : Regs × ℕ). AreRegs x.0 × (x.1 < 2 ^ 32)) AreRegs (pop (with_register regs 14 (past (register regs 13) 4)))
+    (λ state. if state.1 / 2 ^ 4 % 2 ^ 12 == 0 then (unwound state.1 state.0 >>= λ after. Gives (with_state_codes after state.1)) else Refuses sigill)
     (pop_leaves (with_register regs 14 (past (register regs 13) 4)) (regs_set regs 14 (past (register regs 13) 4) (omega arith) h))
     (λ state k. go state k.0 (state.1 / 2 ^ 4 % 2 ^ 12 == 0))
   where
-    go : (state : Regs × ℕ) → AreRegs state.0 → (b : Bool) → AllLeave EffectFits (if b then (unwound state.1 state.0 >>= λ after. Gives (registers_only (with_state_codes after state.1))) else Refuses SIGILL)
-    go state k true = leave_bind AreRegs EffectFits (unwound state.1 state.0) (λ after. Gives (registers_only (with_state_codes after state.1))) (unwound_leaves state.1 state.0 k) (λ after m. (record { count = m.count; each = m.each }, tt))
+    go : (state : Regs × ℕ) → AreRegs state.0 → (b : Bool) → AllLeave AreRegs (if b then (unwound state.1 state.0 >>= λ after. Gives (with_state_codes after state.1)) else Refuses sigill)
+    go state k true = leave_bind AreRegs AreRegs (unwound state.1 state.0) (λ after. Gives (with_state_codes after state.1)) (unwound_leaves state.1 state.0 k) (λ after m. record { count = m.count; each = m.each })
     go state k false = omega arith
+
+pub procedure_return_leaves : (regs : Regs) → AreRegs regs → AllLeave EffectFits (procedure_return regs)
+unfolding procedure_return
+procedure_return_leaves regs h = leave_bind AreRegs EffectFits (registers_returned regs) (λ after. Gives (registers_only after)) (returned_leaves regs h) (λ after k. (k, tt))
 
 frame_leaves : (before : Effect) (counted : Bool) (mask : ℕ) → EffectFits before → EffectFits (with_frame before counted mask)
 unfolding with_frame
@@ -192,10 +196,10 @@ pub procedure_call_leaves : (before : Effect) (counted : Bool) (ap target : ℕ)
 unfolding procedure_call
 procedure_call_leaves before counted ap target small h =
     leave_bind (λ (n : ℕ). n < 256 ^ 2) EffectFits (number_at 2 target)
-    (λ mask. if nat_le (2 ^ 12) mask then Refuses SIGILL else Gives (procedure_entry (with_frame before counted mask) ap target))
+    (λ mask. if nat_le (2 ^ 12) mask then Refuses sigill else Gives (procedure_entry (with_frame before counted mask) ap target))
     (number_small 2 target) (λ mask k. go mask (nat_le (2 ^ 12) mask))
   where
-    go : (mask : ℕ) (b : Bool) → AllLeave EffectFits (if b then Refuses SIGILL else Gives (procedure_entry (with_frame before counted mask) ap target))
+    go : (mask : ℕ) (b : Bool) → AllLeave EffectFits (if b then Refuses sigill else Gives (procedure_entry (with_frame before counted mask) ap target))
     go mask true = omega arith
     go mask false = entered_leaves (with_frame before counted mask) ap target small (frame_leaves before counted mask h)
 
@@ -203,7 +207,7 @@ pub division_leaves : (regs : Regs) (place : Place) (dividend divisor : ℕ) →
 unfolding division
 division_leaves regs place dividend divisor h = go (divisor == 0)
   where
-    go : (b : Bool) → AllLeave EffectFits (if b then Refuses SIGFPE else Gives (result_effect regs 4 place (quotient_of dividend divisor)))
+    go : (b : Bool) → AllLeave EffectFits (if b then Refuses sigfpe else Gives (result_effect regs 4 place (quotient_of dividend divisor)))
     go true = omega arith
     go false = store_leaves _ 4 place _ four_fits record { count = h.count; each = h.each }
 

@@ -3,7 +3,7 @@ use Rattle.std.proofs.Common.{◌≡◌, ℕ, zero, suc, false, [], ◌∷◌, �
 use Rattle.vm_facts.specs.declared.page.Page.TheVariants.{Data, Stack, Text}
 use Rattle.vm_facts.specs.declared.entry.Entry.{Entry}
 use Rattle.vm_facts.specs.declared.entry.Entry.TheVariants.{Zero, Copy, Get, Reclaim, Done, Event, Turn, Owners, Ran, Out, Call, Grew, Ended}
-use Rattle.user_vax.specs.Frames.{procedure_call, with_frame, push_all, saved, procedure_return, unwound, linkage, restored, arguments_dropped}
+use Rattle.user_vax.specs.Frames.{procedure_call, with_frame, push_all, saved, registers_returned, procedure_return, unwound, linkage, restored, arguments_dropped}
 use Rattle.user_vax.specs.Effects.{pop, pop_into, bytes_at, store_effect, push_onto}
 use Rattle.flat_model.specs.Calls.{string_from, arguments_from, execve_reply, image_named, argument, three_arguments, bytes_from, exit_reply, written_to, write_reply, reply_of}
 use Rattle.resource_map.specs.Room.{lowest_room, lowest as lowest_of, has_room, all_pass}
@@ -128,7 +128,7 @@ hi_units = Zero (Stack 1 0) ∷ Turn 1 ∷ Get (Text 1 0) 0 1 ∷ Done ∷ Ran 1
 
 -- from the start the run makes these units, and no more
 hi_makes : units_from 10 hi (start hi hi_held) ≡ hi_units
-unfolding units_from more hi hi_held hi_image next_unit after state_after act asks held_step flat_step distinct step_accesses touched argument three_arguments bytes_from exit_reply written_to write_reply reply_of replaced returned apply_change apply_writes argument_area start_regs spot_at kept place_all computation bytes_at store_effect fetch evaluations write_tests tested_effect execution execution_by instruction number_at address_of evaluation_at evaluation_through evaluation byte_at number_read signed_at displacement_at base_at indexed_at specifier_at operand_at counted place_at operands_at instruction_at decoded all_rows row_for first_held pieces chunk chunk_start lowest chunks_holding chunk_reached counted_from last_piece text_pieces fit is_in is_held lowest_room lowest_of has_room all_pass push_onto procedure_call with_frame push_all saved procedure_return pop unwound linkage pop_into restored arguments_dropped string_from arguments_from execve_reply image_named
+unfolding units_from more hi hi_held hi_image next_unit after state_after act asks held_step flat_step distinct step_accesses touched argument three_arguments bytes_from exit_reply written_to write_reply reply_of replaced returned apply_change apply_writes argument_area start_regs spot_at kept place_all computation bytes_at store_effect fetch evaluations write_tests tested_effect execution execution_by instruction number_at address_of evaluation_at evaluation_through evaluation byte_at number_read signed_at displacement_at base_at indexed_at specifier_at operand_at counted place_at operands_at instruction_at decoded all_rows row_for first_held pieces chunk chunk_start lowest chunks_holding chunk_reached counted_from last_piece text_pieces fit is_in is_held lowest_room lowest_of has_room all_pass push_onto procedure_call with_frame push_all saved registers_returned procedure_return pop unwound linkage pop_into restored arguments_dropped string_from arguments_from execve_reply image_named
 hi_makes = refl
 
 auto_run : Inputs
@@ -142,7 +142,7 @@ auto_run_units = Zero (Stack 1 0) ∷ Turn 1 ∷ Get (Text 1 0) 0 1 ∷ Done ∷
 
 -- from the start the run makes these units, and no more
 auto_run_makes : units_from 12 auto_run (start auto_run auto_run_held) ≡ auto_run_units
-unfolding units_from more auto_run auto_run_held auto_image next_unit after state_after act asks held_step flat_step distinct step_accesses touched argument three_arguments bytes_from exit_reply written_to write_reply reply_of replaced returned apply_change apply_writes argument_area start_regs spot_at kept place_all computation bytes_at store_effect fetch evaluations write_tests tested_effect execution execution_by instruction number_at address_of evaluation_at evaluation_through evaluation byte_at number_read signed_at displacement_at base_at indexed_at specifier_at operand_at counted place_at operands_at instruction_at decoded all_rows row_for first_held pieces chunk chunk_start lowest chunks_holding chunk_reached counted_from last_piece text_pieces fit is_in is_held lowest_room lowest_of has_room all_pass push_onto procedure_call with_frame push_all saved procedure_return pop unwound linkage pop_into restored arguments_dropped string_from arguments_from execve_reply image_named
+unfolding units_from more auto_run auto_run_held auto_image next_unit after state_after act asks held_step flat_step distinct step_accesses touched argument three_arguments bytes_from exit_reply written_to write_reply reply_of replaced returned apply_change apply_writes argument_area start_regs spot_at kept place_all computation bytes_at store_effect fetch evaluations write_tests tested_effect execution execution_by instruction number_at address_of evaluation_at evaluation_through evaluation byte_at number_read signed_at displacement_at base_at indexed_at specifier_at operand_at counted place_at operands_at instruction_at decoded all_rows row_for first_held pieces chunk chunk_start lowest chunks_holding chunk_reached counted_from last_piece text_pieces fit is_in is_held lowest_room lowest_of has_room all_pass push_onto procedure_call with_frame push_all saved registers_returned procedure_return pop unwound linkage pop_into restored arguments_dropped string_from arguments_from execve_reply image_named
 auto_run_makes = refl
 
 both : Inputs
@@ -156,7 +156,7 @@ both_units = Zero (Stack 1 0) ∷ Zero (Stack 2 0) ∷ Event 1 ∷ Get (Text 1 0
 
 -- from the start the run makes these units, and no more
 both_makes : units_from 29 both (start both both_held) ≡ both_units
-unfolding units_from more both both_held hi_image auto_image next_unit after state_after act asks held_step flat_step distinct step_accesses touched argument three_arguments bytes_from exit_reply written_to write_reply reply_of replaced returned apply_change apply_writes argument_area start_regs spot_at kept place_all computation bytes_at store_effect fetch evaluations write_tests tested_effect execution execution_by instruction number_at address_of evaluation_at evaluation_through evaluation byte_at number_read signed_at displacement_at base_at indexed_at specifier_at operand_at counted place_at operands_at instruction_at decoded all_rows row_for first_held pieces chunk chunk_start lowest chunks_holding chunk_reached counted_from last_piece text_pieces fit is_in is_held lowest_room lowest_of has_room all_pass push_onto procedure_call with_frame push_all saved procedure_return pop unwound linkage pop_into restored arguments_dropped string_from arguments_from execve_reply image_named
+unfolding units_from more both both_held hi_image auto_image next_unit after state_after act asks held_step flat_step distinct step_accesses touched argument three_arguments bytes_from exit_reply written_to write_reply reply_of replaced returned apply_change apply_writes argument_area start_regs spot_at kept place_all computation bytes_at store_effect fetch evaluations write_tests tested_effect execution execution_by instruction number_at address_of evaluation_at evaluation_through evaluation byte_at number_read signed_at displacement_at base_at indexed_at specifier_at operand_at counted place_at operands_at instruction_at decoded all_rows row_for first_held pieces chunk chunk_start lowest chunks_holding chunk_reached counted_from last_piece text_pieces fit is_in is_held lowest_room lowest_of has_room all_pass push_onto procedure_call with_frame push_all saved registers_returned procedure_return pop unwound linkage pop_into restored arguments_dropped string_from arguments_from execve_reply image_named
 both_makes = refl
 
 forks : Inputs
@@ -170,7 +170,7 @@ forks_units = Zero (Stack 1 0) ∷ Turn 1 ∷ Get (Text 1 0) 0 1 ∷ Done ∷ Ca
 
 -- from the start the run makes these units, and no more
 forks_makes : units_from 25 forks (start forks forks_held) ≡ forks_units
-unfolding units_from more forks forks_held forky_image next_unit after state_after act asks held_step flat_step distinct step_accesses touched argument three_arguments bytes_from exit_reply written_to write_reply reply_of replaced returned apply_change apply_writes argument_area start_regs spot_at kept place_all computation bytes_at store_effect fetch evaluations write_tests tested_effect execution execution_by instruction number_at address_of evaluation_at evaluation_through evaluation byte_at number_read signed_at displacement_at base_at indexed_at specifier_at operand_at counted place_at operands_at instruction_at decoded all_rows row_for first_held pieces chunk chunk_start lowest chunks_holding chunk_reached counted_from last_piece text_pieces fit is_in is_held lowest_room lowest_of has_room all_pass push_onto procedure_call with_frame push_all saved procedure_return pop unwound linkage pop_into restored arguments_dropped string_from arguments_from execve_reply image_named
+unfolding units_from more forks forks_held forky_image next_unit after state_after act asks held_step flat_step distinct step_accesses touched argument three_arguments bytes_from exit_reply written_to write_reply reply_of replaced returned apply_change apply_writes argument_area start_regs spot_at kept place_all computation bytes_at store_effect fetch evaluations write_tests tested_effect execution execution_by instruction number_at address_of evaluation_at evaluation_through evaluation byte_at number_read signed_at displacement_at base_at indexed_at specifier_at operand_at counted place_at operands_at instruction_at decoded all_rows row_for first_held pieces chunk chunk_start lowest chunks_holding chunk_reached counted_from last_piece text_pieces fit is_in is_held lowest_room lowest_of has_room all_pass push_onto procedure_call with_frame push_all saved registers_returned procedure_return pop unwound linkage pop_into restored arguments_dropped string_from arguments_from execve_reply image_named
 forks_makes = refl
 
 calling : Inputs
@@ -184,7 +184,7 @@ calling_units = Zero (Stack 1 0) ∷ Turn 1 ∷ Get (Text 1 0) 0 1 ∷ Done ∷ 
 
 -- from the start the run makes these units, and no more
 calling_makes : units_from 14 calling (start calling calling_held) ≡ calling_units
-unfolding units_from more calling calling_held calls_image next_unit after state_after act asks held_step flat_step distinct step_accesses touched argument three_arguments bytes_from exit_reply written_to write_reply reply_of replaced returned apply_change apply_writes argument_area start_regs spot_at kept place_all computation bytes_at store_effect fetch evaluations write_tests tested_effect execution execution_by instruction number_at address_of evaluation_at evaluation_through evaluation byte_at number_read signed_at displacement_at base_at indexed_at specifier_at operand_at counted place_at operands_at instruction_at decoded all_rows row_for first_held pieces chunk chunk_start lowest chunks_holding chunk_reached counted_from last_piece text_pieces fit is_in is_held lowest_room lowest_of has_room all_pass push_onto procedure_call with_frame push_all saved procedure_return pop unwound linkage pop_into restored arguments_dropped string_from arguments_from execve_reply image_named
+unfolding units_from more calling calling_held calls_image next_unit after state_after act asks held_step flat_step distinct step_accesses touched argument three_arguments bytes_from exit_reply written_to write_reply reply_of replaced returned apply_change apply_writes argument_area start_regs spot_at kept place_all computation bytes_at store_effect fetch evaluations write_tests tested_effect execution execution_by instruction number_at address_of evaluation_at evaluation_through evaluation byte_at number_read signed_at displacement_at base_at indexed_at specifier_at operand_at counted place_at operands_at instruction_at decoded all_rows row_for first_held pieces chunk chunk_start lowest chunks_holding chunk_reached counted_from last_piece text_pieces fit is_in is_held lowest_room lowest_of has_room all_pass push_onto procedure_call with_frame push_all saved registers_returned procedure_return pop unwound linkage pop_into restored arguments_dropped string_from arguments_from execve_reply image_named
 calling_makes = refl
 
 lends : Inputs
@@ -198,7 +198,7 @@ lends_units = Zero (Stack 1 0) ∷ Turn 1 ∷ Get (Text 1 0) 0 1 ∷ Done ∷ Ca
 
 -- from the start the run makes these units, and no more
 lends_makes : units_from 20 lends (start lends lends_held) ≡ lends_units
-unfolding units_from more lends lends_held lendy_image next_unit after state_after act asks held_step flat_step distinct step_accesses touched argument three_arguments bytes_from exit_reply written_to write_reply reply_of replaced returned apply_change apply_writes argument_area start_regs spot_at kept place_all computation bytes_at store_effect fetch evaluations write_tests tested_effect execution execution_by instruction number_at address_of evaluation_at evaluation_through evaluation byte_at number_read signed_at displacement_at base_at indexed_at specifier_at operand_at counted place_at operands_at instruction_at decoded all_rows row_for first_held pieces chunk chunk_start lowest chunks_holding chunk_reached counted_from last_piece text_pieces fit is_in is_held lowest_room lowest_of has_room all_pass push_onto procedure_call with_frame push_all saved procedure_return pop unwound linkage pop_into restored arguments_dropped string_from arguments_from execve_reply image_named
+unfolding units_from more lends lends_held lendy_image next_unit after state_after act asks held_step flat_step distinct step_accesses touched argument three_arguments bytes_from exit_reply written_to write_reply reply_of replaced returned apply_change apply_writes argument_area start_regs spot_at kept place_all computation bytes_at store_effect fetch evaluations write_tests tested_effect execution execution_by instruction number_at address_of evaluation_at evaluation_through evaluation byte_at number_read signed_at displacement_at base_at indexed_at specifier_at operand_at counted place_at operands_at instruction_at decoded all_rows row_for first_held pieces chunk chunk_start lowest chunks_holding chunk_reached counted_from last_piece text_pieces fit is_in is_held lowest_room lowest_of has_room all_pass push_onto procedure_call with_frame push_all saved registers_returned procedure_return pop unwound linkage pop_into restored arguments_dropped string_from arguments_from execve_reply image_named
 lends_makes = refl
 
 execs : Inputs
@@ -212,7 +212,7 @@ execs_units = Zero (Stack 1 0) ∷ Zero (Stack 2 0) ∷ Turn 1 ∷ Get (Text 1 0
 
 -- from the start the run makes these units, and no more
 execs_makes : units_from 23 execs (start execs execs_held) ≡ execs_units
-unfolding units_from more execs execs_held hi_image ex_image next_unit after state_after act asks held_step flat_step distinct step_accesses touched argument three_arguments bytes_from exit_reply written_to write_reply reply_of replaced returned apply_change apply_writes argument_area start_regs spot_at kept place_all computation bytes_at store_effect fetch evaluations write_tests tested_effect execution execution_by instruction number_at address_of evaluation_at evaluation_through evaluation byte_at number_read signed_at displacement_at base_at indexed_at specifier_at operand_at counted place_at operands_at instruction_at decoded all_rows row_for first_held pieces chunk chunk_start lowest chunks_holding chunk_reached counted_from last_piece text_pieces fit is_in is_held lowest_room lowest_of has_room all_pass push_onto procedure_call with_frame push_all saved procedure_return pop unwound linkage pop_into restored arguments_dropped string_from arguments_from execve_reply image_named
+unfolding units_from more execs execs_held hi_image ex_image next_unit after state_after act asks held_step flat_step distinct step_accesses touched argument three_arguments bytes_from exit_reply written_to write_reply reply_of replaced returned apply_change apply_writes argument_area start_regs spot_at kept place_all computation bytes_at store_effect fetch evaluations write_tests tested_effect execution execution_by instruction number_at address_of evaluation_at evaluation_through evaluation byte_at number_read signed_at displacement_at base_at indexed_at specifier_at operand_at counted place_at operands_at instruction_at decoded all_rows row_for first_held pieces chunk chunk_start lowest chunks_holding chunk_reached counted_from last_piece text_pieces fit is_in is_held lowest_room lowest_of has_room all_pass push_onto procedure_call with_frame push_all saved registers_returned procedure_return pop unwound linkage pop_into restored arguments_dropped string_from arguments_from execve_reply image_named
 execs_makes = refl
 
 deeper : Inputs
@@ -226,7 +226,7 @@ deeper_units = Zero (Stack 1 0) ∷ Turn 1 ∷ Get (Text 1 0) 0 1 ∷ Done ∷ G
 
 -- from the start the run makes these units, and no more
 deeper_makes : units_from 9 deeper (start deeper deeper_held) ≡ deeper_units
-unfolding units_from more deeper deeper_held deep_image next_unit after state_after act asks held_step flat_step distinct step_accesses touched argument three_arguments bytes_from exit_reply written_to write_reply reply_of replaced returned apply_change apply_writes argument_area start_regs spot_at kept place_all computation bytes_at store_effect fetch evaluations write_tests tested_effect execution execution_by instruction number_at address_of evaluation_at evaluation_through evaluation byte_at number_read signed_at displacement_at base_at indexed_at specifier_at operand_at counted place_at operands_at instruction_at decoded all_rows row_for first_held pieces chunk chunk_start lowest chunks_holding chunk_reached counted_from last_piece text_pieces fit is_in is_held lowest_room lowest_of has_room all_pass push_onto procedure_call with_frame push_all saved procedure_return pop unwound linkage pop_into restored arguments_dropped string_from arguments_from execve_reply image_named
+unfolding units_from more deeper deeper_held deep_image next_unit after state_after act asks held_step flat_step distinct step_accesses touched argument three_arguments bytes_from exit_reply written_to write_reply reply_of replaced returned apply_change apply_writes argument_area start_regs spot_at kept place_all computation bytes_at store_effect fetch evaluations write_tests tested_effect execution execution_by instruction number_at address_of evaluation_at evaluation_through evaluation byte_at number_read signed_at displacement_at base_at indexed_at specifier_at operand_at counted place_at operands_at instruction_at decoded all_rows row_for first_held pieces chunk chunk_start lowest chunks_holding chunk_reached counted_from last_piece text_pieces fit is_in is_held lowest_room lowest_of has_room all_pass push_onto procedure_call with_frame push_all saved registers_returned procedure_return pop unwound linkage pop_into restored arguments_dropped string_from arguments_from execve_reply image_named
 deeper_makes = refl
 
 nested : Inputs
@@ -240,5 +240,5 @@ nested_units = Zero (Stack 1 0) ∷ Turn 1 ∷ Get (Text 1 0) 0 1 ∷ Done ∷ C
 
 -- from the start the run makes these units, and no more
 nested_makes : units_from 28 nested (start nested nested_held) ≡ nested_units
-unfolding units_from more nested nested_held nest_image next_unit after state_after act asks held_step flat_step distinct step_accesses touched argument three_arguments bytes_from exit_reply written_to write_reply reply_of replaced returned apply_change apply_writes argument_area start_regs spot_at kept place_all computation bytes_at store_effect fetch evaluations write_tests tested_effect execution execution_by instruction number_at address_of evaluation_at evaluation_through evaluation byte_at number_read signed_at displacement_at base_at indexed_at specifier_at operand_at counted place_at operands_at instruction_at decoded all_rows row_for first_held pieces chunk chunk_start lowest chunks_holding chunk_reached counted_from last_piece text_pieces fit is_in is_held lowest_room lowest_of has_room all_pass push_onto procedure_call with_frame push_all saved procedure_return pop unwound linkage pop_into restored arguments_dropped string_from arguments_from execve_reply image_named
+unfolding units_from more nested nested_held nest_image next_unit after state_after act asks held_step flat_step distinct step_accesses touched argument three_arguments bytes_from exit_reply written_to write_reply reply_of replaced returned apply_change apply_writes argument_area start_regs spot_at kept place_all computation bytes_at store_effect fetch evaluations write_tests tested_effect execution execution_by instruction number_at address_of evaluation_at evaluation_through evaluation byte_at number_read signed_at displacement_at base_at indexed_at specifier_at operand_at counted place_at operands_at instruction_at decoded all_rows row_for first_held pieces chunk chunk_start lowest chunks_holding chunk_reached counted_from last_piece text_pieces fit is_in is_held lowest_room lowest_of has_room all_pass push_onto procedure_call with_frame push_all saved registers_returned procedure_return pop unwound linkage pop_into restored arguments_dropped string_from arguments_from execve_reply image_named
 nested_makes = refl
