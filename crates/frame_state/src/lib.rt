@@ -18,7 +18,6 @@ ghost use Rattle.frame_state.specs.Lending.{LendsFillingBytes, LendsResidentByte
 
 use std::alloc::Global;
 use std::marker::Model;
-
 pub use vm_facts::NoMemory;
 
 #[cfg(test)]

@@ -34,6 +34,7 @@ pub mod laws;
 
 pub use laws::{
     blocks_kept, due_kept, few_transfers, forcing_ends, frames_are_left, memory_kept,
-    moves_take_idle_pages, moves_write_their_run, others_same, ownership_kept, putting_out_ends, residence_moves,
-    runs_are_widest, serving_ends, serving_units, spaces_kept, start_stands, swapper_chooses,
+    moves_take_idle_pages, moves_write_their_run, others_same, ownership_kept, putting_out_ends,
+    residence_moves, runs_are_widest, serving_ends, serving_units, spaces_kept, start_stands,
+    swapper_chooses,
 };

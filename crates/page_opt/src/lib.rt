@@ -21,7 +21,6 @@ use next_use::next_uses;
 use replay::Replay;
 use resident::Resident;
 use std::alloc::Global;
-
 pub use vm_facts::NoMemory;
 
 /// A page that leaves the cache.

@@ -16,7 +16,6 @@ ghost use Rattle.resource_map.specs.Extents.{InOrder, free_blocks, covers, joins
 
 use std::alloc::Global;
 use std::marker::Model;
-
 pub use vm_facts::NoMemory;
 
 /// The blocks of one unit; no extent crosses a multiple of it.

@@ -15,7 +15,6 @@ mod tree;
 
 use recency::hits_by_depth;
 use std::alloc::Global;
-
 pub use vm_facts::NoMemory;
 
 /// The page faults of LRU at each size of memory: entry n - 1 has the faults with room for n pages, from 1

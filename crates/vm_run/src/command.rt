@@ -204,15 +204,15 @@ fn run_command<F: Files, S: Sink>(
     sink: &mut S,
 ) -> u8
     ensures { Transcribes (record {
-        words = map (λ word. word.now) words.now;
-        files = F.holds files.old;
-        faults = record { open_before = F.open_faults files.old; open_after = F.open_faults files.new; page_before = F.page_faults files.old; page_after = F.page_faults files.new };
-        zero_blocks = zero_blocks;
-        one_blocks = one_blocks;
-        written_before = S.written sink.old;
-        written_after = S.written sink.new;
-        sink_faults_before = S.faults sink.old;
-        sink_faults_after = S.faults sink.new;
+      words = map (λ word. word.now) words.now;
+      files = F.holds files.old;
+      faults = record { open_before = F.open_faults files.old; open_after = F.open_faults files.new; page_before = F.page_faults files.old; page_after = F.page_faults files.new };
+      zero_blocks = zero_blocks;
+      one_blocks = one_blocks;
+      written_before = S.written sink.old;
+      written_after = S.written sink.new;
+      sink_faults_before = S.faults sink.old;
+      sink_faults_after = S.faults sink.new;
     }) result }
 {
     let ran = run_words(alloc, words, files, zero_blocks, one_blocks);
@@ -245,15 +245,15 @@ pub fn vmrun<F: Files, D: SwapDev, E: SwapDev, S: Sink>(
     sink: &mut S,
 ) -> u8
     ensures obeys { Obeys (tool_of (map (λ word. word.now) words.now)) (record {
-        words = map (λ word. word.now) words.now;
-        files = F.holds files.old;
-        faults = record { open_before = F.open_faults files.old; open_after = F.open_faults files.new; page_before = F.page_faults files.old; page_after = F.page_faults files.new };
-        zero_blocks = D.blocks zero.old;
-        one_blocks = E.blocks one.old;
-        written_before = S.written sink.old;
-        written_after = S.written sink.new;
-        sink_faults_before = S.faults sink.old;
-        sink_faults_after = S.faults sink.new;
+      words = map (λ word. word.now) words.now;
+      files = F.holds files.old;
+      faults = record { open_before = F.open_faults files.old; open_after = F.open_faults files.new; page_before = F.page_faults files.old; page_after = F.page_faults files.new };
+      zero_blocks = D.blocks zero.old;
+      one_blocks = E.blocks one.old;
+      written_before = S.written sink.old;
+      written_after = S.written sink.new;
+      sink_faults_before = S.faults sink.old;
+      sink_faults_after = S.faults sink.new;
     }) result }
     ensures zero { zero.new ≡ zero.old }
     ensures one { one.new ≡ one.old }

@@ -61,12 +61,7 @@ impl Ending {
 
     /// The line that follows the transcript; none at the end of a run that is finished. Only one with a name
     /// or a number in it needs memory.
-    pub fn fault_line(
-        self,
-        alloc: Global,
-        schedule: &str,
-        image: &str,
-    ) -> Result<Line, AllocError>
+    pub fn fault_line(self, alloc: Global, schedule: &str, image: &str) -> Result<Line, AllocError>
         ensures line { IfOk result (λ line. bytes_of line ≡ fault_line schedule.now image.now self) }
         ensures lost { IfErr result (λ _. CanBeLost self) }
     {

@@ -6,8 +6,8 @@ ghost use Rattle.vm_run.specs.ResidentLaws.{wrote_more, wrote_answers};
 
 use crate::segment::Segment;
 use aout_image::Image;
-use io_edge::{Files, Moved};
 use flat_state::{PAGE, Spot, locate};
+use io_edge::{Files, Moved};
 use std::alloc::{AllocError, Global};
 use std::marker::Model;
 use vm_facts::{ByteRead, MayWrite, Memory};

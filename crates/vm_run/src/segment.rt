@@ -3,8 +3,8 @@ ghost use Rattle.io_edge.specs.Count.{Counts, OnDone, OnFailed};
 ghost use Rattle.io_edge.specs.FileHolding.{HasRange, HoldsRange};
 ghost use Rattle.vm_run.specs.Resident.{Segment as Pages, IsWhole, is_filled, byte_of, put_byte, longer, FillsWith};
 
-use io_edge::{Files, Moved};
 use flat_state::PAGE;
+use io_edge::{Files, Moved};
 use std::alloc::{AllocError, Global};
 use std::marker::Model;
 
