@@ -1,20 +1,20 @@
-ghost use Rattle.std.specs.Prelude.{◌≡◌, ℕ, List};
+ghost use Rattle.std.specs.Prelude.{◌≡◌, ℕ, List, map, Ok};
 ghost use Rattle.swap_book.specs.Holdings.{Holdings};
+ghost use Rattle.swap_book.specs.Placing.{place_all};
 ghost use Rattle.flat_state.specs.Flat.{NamedImage, Inputs};
 ghost use Rattle.flat_state.specs.declared.change.Change.{Change as AnyChange};
 ghost use Rattle.page_model.specs.Placement.{Starting};
-ghost use Rattle.kernel_model.specs.Kernel.{Kernel, image_after, done_step};
+ghost use Rattle.kernel_model.specs.Kernel.{image_after};
 ghost use Rattle.kernel_model.specs.Coupled.{Coupled};
-ghost use Rattle.kernel_model.specs.Sound.{Sound};
 ghost use Rattle.kernel_model.specs.Start.{ImagesFit};
 ghost use Rattle.kernel_model.specs.Asks.{asked};
-ghost use Rattle.kernel_model.specs.Unit.{KernelUnit, KernelState, with_found, state_after, states_after};
-ghost use Rattle.kernel_model.specs.Invariant.{Invariant, May, MayAll, CanStart, started};
+ghost use Rattle.kernel_model.specs.Unit.{KernelUnit, KernelState, FindUnit, DoneUnit, with_found, state_after, states_after};
+ghost use Rattle.kernel_model.specs.Invariant.{Invariant, May, MayAll, Waits, CanStart, started};
 
 /// All that is so of the kernel between two units is so at the start of a run, after each unit that it may make, and after
-/// each list of units, one after another: each frame and each block of swap has one owner, no two numbers are one, what is due waits to be
-/// filled, and the kernel's frames, its files and its swap image stand for the flat state, which changes by what processes
-/// do and by nothing else. It is so too while pieces that were found wait for the change that takes them.
+/// each list of units, one after another: each frame and each block of swap has one owner, no two numbers are one, what is
+/// due waits to be filled, and the kernel's frames, its files and its swap image stand for the flat state, which changes by
+/// what processes do and by nothing else. It is so too while pieces that were found wait for the change that takes them.
 pub fn machine_kept()
     ensures start { (A : Inputs) (first : List Starting) (hs : Holdings) (frames : List (List ℕ)) (image : List ℕ)
         → CanStart A first hs frames image → Invariant A.swap_blocks A.images (started A first hs frames image) }
@@ -25,13 +25,17 @@ pub fn machine_kept()
 {}
 
 /// Pieces that were found and wait for a change take nothing from others: also with them the kernel stands for the flat
-/// state, and the end of a write stores the same. And the end of a transfer changes nothing of what a change asks, so the
-/// pieces that were found before it are still those that the change takes.
+/// state, and the end of a write stores the same. Once what a change asks for was found, all is so as before; and so it is
+/// after any number of transfers that end, while the pieces that wait are still those that the change asks for.
 pub fn pieces_wait()
     ensures coupled { (size : ℕ) (images : List NamedImage) (m : KernelState) → Invariant size images m
         → Coupled (with_found m) images m.image m.flat }
     ensures image { (size : ℕ) (images : List NamedImage) (m : KernelState) → Invariant size images m
         → image_after (with_found m) m.image ≡ image_after m.kernel m.image }
-    ensures asks { (size : ℕ) (images : List NamedImage) (k : Kernel) (read : List (List ℕ)) (pid : ℕ) (change : AnyChange) → Sound size k
-        → asked images (done_step k read) pid change ≡ asked images k pid change }
+    ensures found { (size : ℕ) (images : List NamedImage) (m : KernelState) (found : Holdings) (pid : ℕ) (change : AnyChange)
+        → Invariant size images m → place_all size m.kernel.holdings (asked images m.kernel pid change) ≡ Ok found
+        → Waits size images (state_after images m (FindUnit found)) pid change }
+    ensures waits { (size : ℕ) (images : List NamedImage) (reads : List (List (List ℕ))) (m : KernelState) (pid : ℕ) (change : AnyChange)
+        → Waits size images m pid change → MayAll size images m (map DoneUnit reads)
+        → Waits size images (states_after images m (map DoneUnit reads)) pid change }
 {}

@@ -172,6 +172,11 @@ abbrev pub MayAll : ℕ → List NamedImage → KernelState → List KernelUnit 
 MayAll size images m [] = Unit {0}
 MayAll size images m (u ∷ us) = May size images m u × MayAll size images (state_after images m u) us
 
+-- all is so that is between two units, and the pieces that wait are those that a change of the process asks for
+pub record Waits (size : ℕ) (images : List NamedImage) (m : KernelState) (pid : ℕ) (change : Change) : Type 0 where
+  pub invariant : Invariant size images m
+  pub pieces : place_all size m.kernel.holdings (asked images m.kernel pid change) ≡ Ok m.found
+
 -- The start.
 
 -- the kernel at the start of a run, with these holdings, bytes in the frames and swap image

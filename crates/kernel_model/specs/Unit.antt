@@ -88,7 +88,8 @@ pub data KernelUnit : Type 0 where
   OutUnit : ℕ → KernelUnit
   InUnit : ℕ → KernelUnit
 
--- the unit of a paging entry, with the pages that are locked and what is read for the oldest transfer; the hands move once
+-- the unit of a paging entry, with the pages that are locked and what is read for the oldest transfer; the hands move
+-- once, and an entry of a process is noted alone
 abbrev pub unit_for : List Page → List (List ℕ) → Entry → KernelUnit
 unit_for locked read (entries.Zero q) = ZeroUnit q
 unit_for locked read (entries.Copy q) = CopyUnit q

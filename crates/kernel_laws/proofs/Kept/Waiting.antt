@@ -1,5 +1,5 @@
 -- Pieces that wait change nothing of what the kernel stands for, nor does the end of a transfer change what is asked.
-use Rattle.std.proofs.Common.{◌≡◌, ℕ, ◌*◌, List, [], ◌∷◌, ◌++◌, Option, Some, None, Ok, refl, sym, ap, ap₂, ◌∙◌}
+use Rattle.std.proofs.Common.{◌≡◌, ℕ, ◌*◌, List, [], ◌∷◌, ◌++◌, Option, Some, None, Ok, refl, sym, ap, ap₂, ◌∙◌, map}
 use Rattle.vm_facts.specs.declared.page.Page.TheVariants.{Data, Stack, Text}
 use Rattle.aout_image.specs.Image.{data_pages_of}
 use Rattle.swap_dmap.specs.Chunks.{pieces}
@@ -20,9 +20,10 @@ use Rattle.kernel_model.specs.Coupled.{Coupled}
 use Rattle.kernel_model.specs.Sound.{Sound, lives}
 use Rattle.kernel_model.specs.Stands.{Stands}
 use Rattle.kernel_model.specs.Asks.{further, text_asked, image_asked, change_asks, asked}
-use Rattle.kernel_model.specs.Unit.{KernelState, with_found}
-use Rattle.kernel_model.specs.Invariant.{WereFound, Invariant}
+use Rattle.kernel_model.specs.Unit.{KernelState, FindUnit, DoneUnit, with_found, state_after, states_after}
+use Rattle.kernel_model.specs.Invariant.{WereFound, Invariant, MayAll, Waits}
 use Rattle.page_laws.proofs.Moves.Stays.{Steady, done_steady}
+use Rattle.kernel_laws.proofs.Kept.Pages.{done_kept, find_kept}
 use Rattle.kernel_laws.proofs.Machine.Done.{oldest_store}
 use Rattle.kernel_laws.proofs.Machine.Images.{CanStore, AllStore}
 use Rattle.kernel_laws.proofs.Machine.Takes.{still_found, takes_coupled}
@@ -81,7 +82,17 @@ asks_steady images p q sid next Sleep s = refl
 asks_steady images p q sid next (End status) s = refl
 
 -- the end of a transfer changes nothing of what a change asks
-pub done_asks : (size : ℕ) (images : List NamedImage) (k : Kernel) (read : List (List ℕ)) (pid : ℕ) (change : Change) → Sound size k → asked images (done_step k read) pid change ≡ asked images k pid change
+done_asks : (size : ℕ) (images : List NamedImage) (k : Kernel) (read : List (List ℕ)) (pid : ℕ) (change : Change) → Sound size k → asked images (done_step k read) pid change ≡ asked images k pid change
 done_asks size images k read pid change so =
     let o : OneOwner size (lives k.processes) k.place k.holdings = so.owner in
     asks_steady images k.place (done k.place) _ k.next_sid change (done_steady k.place o.frames)
+
+pub finds_wait : (size : ℕ) (images : List NamedImage) (m : KernelState) (found : Holdings) (pid : ℕ) (change : Change) → Invariant size images m → place_all size m.kernel.holdings (asked images m.kernel pid change) ≡ Ok found → Waits size images (state_after images m (FindUnit found)) pid change
+finds_wait size images m found pid change i e = record { invariant = find_kept size images m found i (record { pieces = asked images m.kernel pid change; placed = e }); pieces = e }
+
+pub dones_wait : (size : ℕ) (images : List NamedImage) (reads : List (List (List ℕ))) (m : KernelState) (pid : ℕ) (change : Change) → Waits size images m pid change → MayAll size images m (map DoneUnit reads) → Waits size images (states_after images m (map DoneUnit reads)) pid change
+dones_wait size images [] m pid change w may = w
+dones_wait size images (read ∷ reads) m pid change w may =
+    let i : Invariant size images m = w.invariant in
+    dones_wait size images reads (state_after images m (DoneUnit read)) pid change
+    (record { invariant = done_kept size images m read i may.0; pieces = ap (place_all size m.kernel.holdings) (done_asks size images m.kernel read pid change i.sound) ∙ w.pieces }) may.1
