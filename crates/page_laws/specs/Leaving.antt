@@ -50,6 +50,15 @@ StaysOrTaken p e r q f = (frame_of (state_of r q) ≡ Some f) ⊎ ((takes_frames
 abbrev pub StaysOrGivenUp : Placement → ℕ → Bool → Change → Placement → Page → Type 0
 StaysOrGivenUp p sid borrowed change r q = (frame_of (state_of r q) ≡ frame_of (state_of p q)) ⊎ ((frame_of (state_of r q) ≡ None) × IsGivenUp sid borrowed change q)
 
+-- a data or stack page that is dirty, in this frame
+pub record IsDirtyIn (p : Placement) (q : Page) (f : ℕ) : Type 0 where
+  pub frame : frame_of (state_of p q) ≡ Some f
+  pub dirty : is_marked_dirty q (mark_of p q) ≡ true
+
+-- behind a change it is so still, or was given up
+abbrev pub DirtyOrGivenUp : ℕ → Bool → Change → Placement → Page → ℕ → Type 0
+DirtyOrGivenUp sid borrowed change r q f = IsDirtyIn r q f ⊎ IsGivenUp sid borrowed change q
+
 -- A page that must be written before its frame may be taken: it is dirty, or text that isn't saved, and is in a frame off
 -- the free list, usable or not, or on its way to swap from there.
 pub record IsUnwritten (p : Placement) (q : Page) (f : ℕ) : Type 0 where

@@ -30,7 +30,7 @@ ghost use Rattle.page_laws.specs.Neighbours.{IsWidestRun, IsLongestRun, MayRead,
 ghost use Rattle.page_model.specs.Frames.{times};
 ghost use Rattle.page_laws.specs.Sweeping.{MayBeSwept};
 ghost use Rattle.page_model.specs.Pages.{frame_of};
-ghost use Rattle.page_laws.specs.Leaving.{StaysOrTaken, StaysOrGivenUp, IsUnwritten, StaysOrWritten};
+ghost use Rattle.page_laws.specs.Leaving.{StaysOrTaken, StaysOrGivenUp, IsDirtyIn, DirtyOrGivenUp, IsUnwritten, StaysOrWritten};
 ghost use Rattle.page_model.specs.Dues.{DueStand, LeavesDue, NotDue};
 
 /// What a run begins with is as the other laws ask: no page is filled, dirty or saved; each frame is free; and the hands
@@ -220,10 +220,11 @@ pub fn moves_write_their_run()
 {}
 
 /// How a page leaves its frame. By a paging entry only if that takes the frame from the free list, for a fill or a read;
-/// and by a change of a process only if the change gives the page up. What must be written first, dirty pages and text
+/// and by a change of a process only if the change gives the page up, till when a dirty page stays dirty there. What must be written first, dirty pages and text
 /// that isn't saved, stays in its frame and off the free list through each paging entry, till the end of its write.
 pub fn frames_are_left()
     ensures entry { (locked : List Page) (at : ℕ) (p : Placement) (e : Entry) (q : Page) (f : ℕ) → OwnsFrames p → CanPlace p e → frame_of (state_of p q) ≡ Some f → StaysOrTaken p e (place_entry locked at p e) q f }
     ensures change { (images : List NamedImage) (p : Placement) (pid sid next at : ℕ) (lent : Bool) (change : AnyChange) (q : Page) → IsNew p next → StaysOrGivenUp p sid lent change (place_change images p pid sid lent next at change) q }
+    ensures dirty { (images : List NamedImage) (p : Placement) (pid sid new at f : ℕ) (lent : Bool) (x : AnyChange) (q : Page) → IsNew p new → IsDirtyIn p q f → DirtyOrGivenUp sid lent x (place_change images p pid sid lent new at x) q f }
     ensures written { (locked : List Page) (at : ℕ) (p : Placement) (e : Entry) (q : Page) (f : ℕ) → OwnsFrames p → CanPlace p e → IsUnwritten p q f → StaysOrWritten p e (place_entry locked at p e) q f }
 {}

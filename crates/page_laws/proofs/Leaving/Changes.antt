@@ -32,9 +32,6 @@ page_frame p w = frame_of (state_of p w)
 slot_frame : (p q : Placement) (w : Page) → slot_of q w ≡ slot_of p w → page_frame q w ≡ page_frame p w
 slot_frame p q w e = ap (λ (x : Slot). frame_of x.state) e
 
-alike_frame : (x y : Slot) → Alike x y → frame_of x.state ≡ frame_of y.state
-alike_frame x y e = ap frame_of e.0
-
 -- User writes.
 
 pub touch_all_steady : (qs : List Page) (p : Placement) → Steady p (touch_all p qs)
@@ -46,7 +43,7 @@ touch_all_steady (q ∷ qs) p = steady_both p (touch p q) (touch_all (touch p q)
 le_or : (a b : ℕ) → (a ≤ b) ⊎ (b < a)
 le_or a b = grind arith
 
-cut_or : (sid d s : ℕ) (w : Page) → IsCutOff sid d s w ⊎ (IsCutOff sid d s w → ⊥)
+pub cut_or : (sid d s : ℕ) (w : Page) → IsCutOff sid d s w ⊎ (IsCutOff sid d s w → ⊥)
 cut_or sid d s (Data t v) = elim (cases_eq t sid) [
   | inl e ↦ elim (le_or d v) [
     | inl l ↦ inl (e, l)
@@ -71,13 +68,13 @@ stack_past : (d s v : ℕ) (o : Option SpacePages) → s ≤ v → frame_of (get
 stack_past d s v None l = refl
 stack_past d s v (Some x) l = ap (λ (y : Slot). frame_of y.state) (sized_past s v x.stack_pages l)
 
-data_within : (d s v : ℕ) (o : Option SpacePages) → v < d → frame_of (get_or (data_in (mapped (cut d s) o)) v no_slot).state ≡ frame_of (get_or (data_in o) v no_slot).state
-data_within d s v None l = refl
-data_within d s v (Some x) l = alike_frame (get_or (data_in (mapped (cut d s) (Some x))) v no_slot) (get_or x.data_pages v no_slot) (sized_within d v x.data_pages l)
+data_within : (d s v : ℕ) (o : Option SpacePages) → v < d → Alike (get_or (data_in (mapped (cut d s) o)) v no_slot) (get_or (data_in o) v no_slot)
+data_within d s v None l = (refl, refl)
+data_within d s v (Some x) l = sized_within d v x.data_pages l
 
-stack_within : (d s v : ℕ) (o : Option SpacePages) → v < s → frame_of (get_or (stack_in (mapped (cut d s) o)) v no_slot).state ≡ frame_of (get_or (stack_in o) v no_slot).state
-stack_within d s v None l = refl
-stack_within d s v (Some x) l = alike_frame (get_or (stack_in (mapped (cut d s) (Some x))) v no_slot) (get_or x.stack_pages v no_slot) (sized_within s v x.stack_pages l)
+stack_within : (d s v : ℕ) (o : Option SpacePages) → v < s → Alike (get_or (stack_in (mapped (cut d s) o)) v no_slot) (get_or (stack_in o) v no_slot)
+stack_within d s v None l = (refl, refl)
+stack_within d s v (Some x) l = sized_within s v x.stack_pages l
 
 cut_past : (p : Placement) (sid d s : ℕ) (w : Page) → IsCutOff sid d s w → page_frame (cut_space p sid d s) w ≡ None
 cut_past p sid d s (Data t v) k =
@@ -90,14 +87,12 @@ cut_past p sid d s (Stack t v) k =
     ∙ stack_past d s v (numbered space_number sid p.spaces) k.1
 cut_past p sid d s (Text image v) k = absurd k
 
-cut_within : (p : Placement) (sid d s : ℕ) (w : Page) → (IsCutOff sid d s w → ⊥) → page_frame (cut_space p sid d s) w ≡ page_frame p w
-cut_within p sid d s (Data t v) k = elim (cases_eq t sid) [
-  | inl e ↦
-      ap (λ (x : ℕ). frame_of (get_or (data_in (numbered space_number x (changed space_number sid (cut d s) p.spaces))) v no_slot).state) e
-      ∙ ap (λ (o : Option SpacePages). frame_of (get_or (data_in o) v no_slot).state) (changed_same space_number sid (cut d s) (λ x. refl) p.spaces)
-      ∙ data_within d s v (numbered space_number sid p.spaces) (below e)
-      ∙ ap (λ (x : ℕ). frame_of (get_or (data_in (numbered space_number x p.spaces)) v no_slot).state) (sym e)
-  | inr n ↦ ap (λ (o : Option SpacePages). frame_of (get_or (data_in o) v no_slot).state) (changed_other space_number sid t (cut d s) (λ x. refl) n p.spaces)
+pub cut_alike : (p : Placement) (sid d s : ℕ) (w : Page) → (IsCutOff sid d s w → ⊥) → Alike (slot_of (cut_space p sid d s) w) (slot_of p w)
+cut_alike p sid d s (Data t v) k = elim (cases_eq t sid) [
+  | inl e ↦ subst (λ (x : ℕ). Alike (get_or (data_in (numbered space_number x (changed space_number sid (cut d s) p.spaces))) v no_slot) (get_or (data_in (numbered space_number x p.spaces)) v no_slot)) (sym e)
+      (subst (λ (y : Option SpacePages). Alike (get_or (data_in y) v no_slot) (get_or (data_in (numbered space_number sid p.spaces)) v no_slot)) (sym (changed_same space_number sid (cut d s) (λ x. refl) p.spaces))
+      (data_within d s v (numbered space_number sid p.spaces) (below e)))
+  | inr n ↦ subst (λ (y : Option SpacePages). Alike (get_or (data_in y) v no_slot) (get_or (data_in (numbered space_number t p.spaces)) v no_slot)) (sym (changed_other space_number sid t (cut d s) (λ x. refl) n p.spaces)) (refl, refl)
 ]
   where
     below : t ≡ sid → v < d
@@ -105,13 +100,11 @@ cut_within p sid d s (Data t v) k = elim (cases_eq t sid) [
       | inl l ↦ absurd (k (e, l))
       | inr l ↦ l
     ]
-cut_within p sid d s (Stack t v) k = elim (cases_eq t sid) [
-  | inl e ↦
-      ap (λ (x : ℕ). frame_of (get_or (stack_in (numbered space_number x (changed space_number sid (cut d s) p.spaces))) v no_slot).state) e
-      ∙ ap (λ (o : Option SpacePages). frame_of (get_or (stack_in o) v no_slot).state) (changed_same space_number sid (cut d s) (λ x. refl) p.spaces)
-      ∙ stack_within d s v (numbered space_number sid p.spaces) (below e)
-      ∙ ap (λ (x : ℕ). frame_of (get_or (stack_in (numbered space_number x p.spaces)) v no_slot).state) (sym e)
-  | inr n ↦ ap (λ (o : Option SpacePages). frame_of (get_or (stack_in o) v no_slot).state) (changed_other space_number sid t (cut d s) (λ x. refl) n p.spaces)
+cut_alike p sid d s (Stack t v) k = elim (cases_eq t sid) [
+  | inl e ↦ subst (λ (x : ℕ). Alike (get_or (stack_in (numbered space_number x (changed space_number sid (cut d s) p.spaces))) v no_slot) (get_or (stack_in (numbered space_number x p.spaces)) v no_slot)) (sym e)
+      (subst (λ (y : Option SpacePages). Alike (get_or (stack_in y) v no_slot) (get_or (stack_in (numbered space_number sid p.spaces)) v no_slot)) (sym (changed_same space_number sid (cut d s) (λ x. refl) p.spaces))
+      (stack_within d s v (numbered space_number sid p.spaces) (below e)))
+  | inr n ↦ subst (λ (y : Option SpacePages). Alike (get_or (stack_in y) v no_slot) (get_or (stack_in (numbered space_number t p.spaces)) v no_slot)) (sym (changed_other space_number sid t (cut d s) (λ x. refl) n p.spaces)) (refl, refl)
 ]
   where
     below : t ≡ sid → v < s
@@ -119,9 +112,9 @@ cut_within p sid d s (Stack t v) k = elim (cases_eq t sid) [
       | inl l ↦ absurd (k (e, l))
       | inr l ↦ l
     ]
-cut_within p sid d s (Text image v) k = refl
+cut_alike p sid d s (Text image v) k = (refl, refl)
 
-not_dropped : (p : Placement) (sid d s : ℕ) (w : Page) → (IsCutOff sid d s w → ⊥) → EachPage (λ r. w ≢ r) (dropped_pages p sid d s)
+pub not_dropped : (p : Placement) (sid d s : ℕ) (w : Page) → (IsCutOff sid d s w → ⊥) → EachPage (λ r. w ≢ r) (dropped_pages p sid d s)
 not_dropped p sid d s w k = each_page_append (λ r. w ≢ r) (data_from sid d (data_count p sid - d)) (stack_from sid s (stack_count p sid - s))
     (pages_from_each (λ r. w ≢ r) (Data sid d) d (data_count p sid - d) (λ v l m e. k (subst (IsCutOff sid d s) (sym e) (refl, l))))
     (pages_from_each (λ r. w ≢ r) (Stack sid s) s (stack_count p sid - s) (λ v l m e. k (subst (IsCutOff sid d s) (sym e) (refl, l))))
@@ -133,7 +126,7 @@ StaysOrGoes p r w why = (page_frame r w ≡ page_frame p w) ⊎ ((page_frame r w
 resize_frame : (p : Placement) (sid d s : ℕ) (w : Page) → StaysOrGoes p (resize p sid d s) w (IsCutOff sid d s w)
 resize_frame p sid d s w = elim (cut_or sid d s w) [
   | inl k ↦ inr (cut_past (drop_all p (dropped_pages p sid d s)) sid d s w k, k)
-  | inr k ↦ inl (cut_within (drop_all p (dropped_pages p sid d s)) sid d s w k ∙ slot_frame p (drop_all p (dropped_pages p sid d s)) w (drop_all_other (dropped_pages p sid d s) p w (not_dropped p sid d s w k)))
+  | inr k ↦ inl (ap frame_of (cut_alike (drop_all p (dropped_pages p sid d s)) sid d s w k).0 ∙ slot_frame p (drop_all p (dropped_pages p sid d s)) w (drop_all_other (dropped_pages p sid d s) p w (not_dropped p sid d s w k)))
 ]
 
 -- A space that goes.
@@ -179,7 +172,7 @@ leave_text_frame p image w = go (sharers p image)
     go zero = leave_all_frame (pages_of_text p image) p w
     go (suc n) = refl
 
-equal_is : (a b : ℕ) → a ≡ b → (a == b) ≡ true
+pub equal_is : (a b : ℕ) → a ≡ b → (a == b) ≡ true
 equal_is a b e = grind (arith, nat_tests)
 
 removed_frame : (p : Placement) (sid : ℕ) (w : Page) → is_of_space sid w ≡ true → page_frame (remove_space p sid) w ≡ None

@@ -29,7 +29,7 @@ use Rattle.page_laws.proofs.Ownership.Hands.{move_owner}
 use Rattle.page_laws.proofs.Ownership.Runs.{Landing, landing_state, landing_frame, land_owner, land_transfers}
 use Rattle.page_laws.proofs.Leaving.Entries.{CanReadAll, reads_on, reading, first_free, enters_other, entering_others}
 
-held_frame : (p : Placement) (w : Page) (f : ℕ) → IsUnwritten p w f → frame_of (state_of p w) ≡ Some f
+pub held_frame : (p : Placement) (w : Page) (f : ℕ) → IsUnwritten p w f → frame_of (state_of p w) ≡ Some f
 held_frame p w f u = elim u.held [
   | inl e ↦ ap frame_of e
   | inr e ↦ elim e [
