@@ -220,8 +220,9 @@ pub fn moves_write_their_run()
 {}
 
 /// How a page leaves its frame. By a paging entry only if that takes the frame from the free list, for a fill or a read;
-/// and by a change of a process only if the change gives the page up, till when a dirty page stays dirty there. What must be written first, dirty pages and text
-/// that isn't saved, stays in its frame and off the free list through each paging entry, till the end of its write.
+/// and by a change of a process only if the change gives the page up; till then a dirty page stays dirty there. What must
+/// be written first, dirty pages and text that isn't saved, stays in its frame and off the free list through each paging
+/// entry, till the end of its write.
 pub fn frames_are_left()
     ensures entry { (locked : List Page) (at : ℕ) (p : Placement) (e : Entry) (q : Page) (f : ℕ) → OwnsFrames p → CanPlace p e → frame_of (state_of p q) ≡ Some f → StaysOrTaken p e (place_entry locked at p e) q f }
     ensures change { (images : List NamedImage) (p : Placement) (pid sid next at : ℕ) (lent : Bool) (change : AnyChange) (q : Page) → IsNew p next → StaysOrGivenUp p sid lent change (place_change images p pid sid lent next at change) q }

@@ -1,3 +1,4 @@
 pub mod Called
 pub mod SmallReads
 pub mod Lost
+pub mod Cleaned

@@ -59,9 +59,15 @@ given A s u q f pid (Lend child) e i k = absurd k
 given A s u q f pid (Reap child) e i k = absurd k
 given A s u q f pid Sleep e i k = absurd k
 
+-- once a process wrote its pages, the next space's number is new still
+pub touched_new : (A : Inputs) (s : State) (qs : List Page) → IsRun A s → IsNew (touch_all s.place qs) s.point.flat.next_sid
+touched_new A s qs r =
+    let st : Placed A s.point.flat (touch_all s.place qs) s.holdings = touch_all_placed A s.point.flat qs s.place s.holdings r.placed in
+    new_number (machine_of s.point.flat (touch_all s.place qs) s.holdings) st.numbered
+
 stepped_lost : (A : Inputs) (s : State) (u : Entry) (q : Page) (f pid at : ℕ) (qs : List Page) → IsRun A s → process_of_entry u ≡ Some pid → frame_of (state_of s.place q) ≡ Some f
     → frame_of (state_of (place_change A.images (touch_all s.place qs) pid (space_held s pid) (is_borrower s.point.flat.processes pid) s.point.flat.next_sid at (step_at A s.point pid).change) q) ≢ Some f → IsLost A s u q f
-stepped_lost A s u q f pid at qs r e h k = elim (change_frame A.images p pid (space_held s pid) (is_borrower s.point.flat.processes pid) s.point.flat.next_sid at (step_at A s.point pid).change q new) [
+stepped_lost A s u q f pid at qs r e h k = elim (change_frame A.images p pid (space_held s pid) (is_borrower s.point.flat.processes pid) s.point.flat.next_sid at (step_at A s.point pid).change q (touched_new A s qs r)) [
   | inl i ↦ absurd (k (i ∙ t.frames q ∙ h))
   | inr i ↦ given A s u q f pid (step_at A s.point pid).change e refl i.1
 ]
@@ -71,11 +77,6 @@ stepped_lost A s u q f pid at qs r e h k = elim (change_frame A.images p pid (sp
 
     t : Steady s.place p
     t = touch_all_steady qs s.place
-
-    new : IsNew p s.point.flat.next_sid
-    new =
-        let st : Placed A s.point.flat p s.holdings = touch_all_placed A s.point.flat qs s.place s.holdings r.placed in
-        new_number (machine_of s.point.flat p s.holdings) st.numbered
 
 flat_lost : (A : Inputs) (s : State) (u : Entry) (q : Page) (f pid : ℕ) → IsRun A s → process_of_entry u ≡ Some pid → frame_of (state_of s.place q) ≡ Some f → frame_of (state_of (after A s u).place q) ≢ Some f → IsLost A s u q f
 unfolding after

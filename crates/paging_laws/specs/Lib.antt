@@ -1,2 +1,3 @@
 pub mod Called
 pub mod Lost
+pub mod Cleaned

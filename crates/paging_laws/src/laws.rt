@@ -5,14 +5,17 @@ ghost use Rattle.vm_facts.specs.declared.entry.Entry.TheVariants as entries;
 ghost use Rattle.flat_state.specs.Flat.{Inputs};
 ghost use Rattle.page_model.specs.Pages.{frame_of};
 ghost use Rattle.page_model.specs.Placement.{state_of};
-ghost use Rattle.page_laws.specs.Leaving.{IsUnwritten, StaysOrWritten};
+ghost use Rattle.page_laws.specs.Leaving.{IsDirtyIn, IsUnwritten, StaysOrWritten};
 ghost use Rattle.flat_model.specs.Run.{process_of_entry};
 ghost use Rattle.run_model.specs.State.{State};
 ghost use Rattle.run_model.specs.After.{after};
 ghost use Rattle.run_model.specs.Next.{next_unit};
+ghost use Rattle.run_model.specs.Lawful.{Follows};
+ghost use Rattle.kernel_model.specs.Start.{ImagesFit};
 ghost use Rattle.run_laws.specs.Running.{IsRun, IsReady};
 ghost use Rattle.paging_laws.specs.Called.{IsWanted, IsStartDue, IsCopyDue, IsParentOfDue, IsSmallRead};
 ghost use Rattle.paging_laws.specs.Lost.{IsLost};
+ghost use Rattle.paging_laws.specs.Cleaned.{IsCleaned, CleanedIn};
 
 /// Where an instruction is counted, a stack grows, and a process calls, sleeps or ends, the process can step and is in,
 /// nothing is due, and all pages that the instruction touches are valid.
@@ -46,4 +49,12 @@ pub fn reads_are_small()
 pub fn pages_leave_frames()
     ensures lost { (A : Inputs) (s : State) (u : Entry) (q : Page) (f : ℕ) → IsRun A s → next_unit A s ≡ Some u → frame_of (state_of s.place q) ≡ Some f → frame_of (state_of (after A s u).place q) ≢ Some f → IsLost A s u q f }
     ensures written { (A : Inputs) (s : State) (u : Entry) (q : Page) (f : ℕ) → IsRun A s → next_unit A s ≡ Some u → process_of_entry u ≡ None → IsUnwritten s.place q f → StaysOrWritten s.place u (after A s u).place q f }
+{}
+
+/// A dirty page of data or stack stays dirty, in its frame, behind each unit, but for one that completes a write of it or
+/// the step of a process that gives it up. So where it isn't there, or isn't dirty, behind a list of units, one of them did
+/// so: no frame of a dirty page is given to another one before the page is written.
+pub fn dirty_pages_are_written()
+    ensures unit { (A : Inputs) (s : State) (u : Entry) (q : Page) (f : ℕ) → IsRun A s → next_unit A s ≡ Some u → IsDirtyIn s.place q f → IsDirtyIn (after A s u).place q f ⊎ IsCleaned A s u q f }
+    ensures units { (A : Inputs) (us : List Entry) (s t : State) (q : Page) (f : ℕ) → ImagesFit A.images → IsRun A s → Follows A s us t → IsDirtyIn s.place q f → IsDirtyIn t.place q f ⊎ CleanedIn A s us q f }
 {}

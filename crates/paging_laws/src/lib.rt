@@ -6,8 +6,12 @@
 //! - `reads_are_small`: no read brings a page that a frame holds, nor many, nor from far apart.
 //! - `pages_leave_frames`: each page that loses its frame does so for a reason of `IsLost`; what must be written is
 //!   written first.
+//! - `dirty_pages_are_written`: a dirty page stays dirty in its frame, however long, till it was written or given up.
 #![tactic(auto)]
 
 mod laws;
 
-pub use laws::{pages_are_called_for, pages_leave_frames, processes_are_ready, reads_are_small};
+pub use laws::{
+    dirty_pages_are_written, pages_are_called_for, pages_leave_frames, processes_are_ready,
+    reads_are_small,
+};
