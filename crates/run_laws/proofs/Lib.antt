@@ -43,3 +43,4 @@ pub mod Residents
 pub mod Going
 pub mod LockedRoom
 pub mod Room
+pub mod ByteReads

@@ -7,6 +7,6 @@ mod machine;
 
 pub use laws::{instructions_have_room, lawful_is_flat, runs_end, runs_stand, units_allowed};
 pub use machine::{
-    images_agree, inputs_fit, machine_units, machines_stand, registers_stand, residents_stand,
-    sizes_stand,
+    images_agree, inputs_fit, machine_units, machines_stand, reads_are_flat, registers_stand,
+    residents_stand, sizes_stand,
 };

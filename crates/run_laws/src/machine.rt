@@ -1,10 +1,16 @@
-ghost use Rattle.std.specs.Prelude.{◌≡◌, ℕ, ◌+◌, ◌*◌, ◌^◌, ◌<◌, ◌≤◌, Bool, List, [], length, Some};
+ghost use Rattle.std.specs.Prelude.{◌≡◌, ℕ, ◌+◌, ◌*◌, ◌^◌, ◌<◌, ◌≤◌, Bool, List, [], length, Some, slice_index};
 ghost use Rattle.vm_facts.specs.declared.page.Page.{Page};
 ghost use Rattle.vm_facts.specs.declared.entry.Entry.{Entry};
 ghost use Rattle.vm_facts.specs.declared.entry.Entry.TheVariants as entries;
 ghost use Rattle.swap_book.specs.declared.Owner.TheVariants as owners;
 ghost use Rattle.swap_book.specs.Holdings.{Holdings, block_in};
-ghost use Rattle.flat_state.specs.Flat.{Inputs, start_state, FlatState, process_of};
+ghost use Rattle.flat_state.specs.Flat.{Inputs, start_state, FlatState, process_of, Process, Holds};
+ghost use Rattle.flat_state.specs.Space.{Space, byte_at};
+ghost use Rattle.flat_state.specs.declared.spot.Spot.{Spot as AnySpot};
+ghost use Rattle.vm_facts.specs.declared.memory.ByteRead.TheVariants as reads;
+ghost use Rattle.vm_facts.specs.declared.page.PageState.TheVariants.{Valid};
+ghost use Rattle.page_model.specs.Placement.{state_of};
+ghost use Rattle.flat_model.specs.Touched.{page_read};
 ghost use Rattle.flat_model.specs.Step.{flat_step};
 ghost use Rattle.flat_model.specs.Run.{Point, flat_run, step_at};
 ghost use Rattle.register_laws.specs.Longwords.{AllFit, AllImages};
@@ -16,7 +22,7 @@ ghost use Rattle.run_model.specs.Next.{next_unit};
 ghost use Rattle.run_laws.specs.Residing.{AllResident};
 ghost use Rattle.run_laws.specs.Sized.{FlatSized, InputsSized, PlaceSized};
 ghost use Rattle.run_model.specs.Lawful.{Reaches, Follows};
-ghost use Rattle.kernel_model.specs.Kernel.{Kernel, Proc, plain_step, zero_step, copy_step, get_step, reclaim_step, push_step, done_step, note_step, out_step, in_step, image_after};
+ghost use Rattle.kernel_model.specs.Kernel.{frame_bytes, Kernel, Proc, plain_step, zero_step, copy_step, get_step, reclaim_step, push_step, done_step, note_step, out_step, in_step, image_after};
 ghost use Rattle.kernel_model.specs.UPage.{AreRegs, regs_in};
 ghost use Rattle.kernel_model.specs.Coupled.{AreRead, beside_kernel, Coupled};
 ghost use Rattle.page_model.specs.Stored.{stored_at, store_at};
@@ -27,7 +33,7 @@ ghost use Rattle.run_model.specs.After.{after};
 ghost use Rattle.run_laws.specs.Running.{IsRun, CanRun};
 ghost use Rattle.flat_state.specs.Change.{apply_writes};
 ghost use Rattle.kernel_model.specs.Unit.{proc_of, u_bytes};
-ghost use Rattle.run_laws.specs.Machine.{written_step, taken_step, EndsStep, process_step, ran_step, unit_step, unit_image, IsGiven, StandsAt, Makes, IsNote, Completes, Next};
+ghost use Rattle.run_laws.specs.Machine.{place_in, written_step, taken_step, EndsStep, process_step, ran_step, unit_step, unit_image, IsGiven, StandsAt, Makes, IsNote, Completes, Next};
 ghost use Rattle.run_laws.specs.Images.{AllFlat, HasSwapped};
 ghost use Rattle.flat_state.specs.Journal.{appended};
 ghost use Rattle.run_model.specs.Swapped.{image_behind, swapped_from, swapped};
@@ -112,4 +118,13 @@ pub fn residents_stand()
 pub fn registers_stand()
     ensures reached { (A : Inputs) (hs : Holdings) (journal : List Entry) (s : State) → CanRun A hs → AllImages A.images → length A.first + 1 + A.limit < 2 ^ 32 → Reaches A journal s → AllFit s.point.flat.processes }
     ensures given { (A : Inputs) (s : State) (k : Kernel) (image : List ℕ) (read : List (List ℕ)) (pid : ℕ) → Next A s k image (entries.SwapOut pid) → AllFit s.point.flat.processes → IsGiven A s k image read (entries.SwapOut pid) }
+{}
+
+/// What a process reads in the flat machine is what the frames hold: a byte of a page that is valid, of text, data or stack,
+/// is the byte at its place in the page's frame, whatever the files and the swap image are.
+pub fn reads_are_flat()
+    ensures { (A : Inputs) (s : State) (k : Kernel) (image : List ℕ) (pid : ℕ) (q : Process) (x : Space) (spot : AnySpot) (v : Page) (f : ℕ)
+        → IsRun A s → StandsAt A s k image → process_of s.point.flat pid ≡ Some q → q.holding ≡ Holds x
+        → page_read x spot ≡ Some v → state_of k.place v ≡ Valid f
+        → byte_at x spot ≡ reads.Is (slice_index (frame_bytes k f) (place_in spot)) }
 {}
