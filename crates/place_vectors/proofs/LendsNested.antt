@@ -1,0 +1,57 @@
+-- A space lent by vfork, and lent again by the borrower: the ends of both borrowers move no page, and the lender's end
+-- gives up the space.
+use Rattle.std.proofs.Common.{◌≡◌, true, false, List, [], ◌∷◌, ◌++◌, Some, None, refl}
+use Rattle.vm_facts.specs.declared.page.Page.TheVariants.{Data, Stack, Text}
+use Rattle.vm_facts.specs.declared.page.PageState.TheVariants.{Invalid}
+use Rattle.vm_facts.specs.declared.entry.Entry.TheVariants as entries
+use Rattle.aout_image.specs.declared.Kind.TheVariants.{Paged}
+use Rattle.swap_dmap.specs.Chunks.{chunk, chunk_start, lowest, chunk_reached, counted_from, spot, text_spot}
+use Rattle.flat_state.specs.Flat.{NamedImage}
+use Rattle.flat_state.specs.declared.change.Change.TheVariants.{Lend, End}
+use Rattle.page_model.specs.Pages.{Zeros}
+use Rattle.page_model.specs.Placement.{Placement}
+use Rattle.place_vectors.proofs.Walk.{Operation, Fixed, Serve, Step, Seen, Unit, Ends, named, slot, empty, frames, starting, walk}
+
+images : List NamedImage
+images =
+    named Paged 1024 0 1024 0 ∷ []
+
+operations : List Operation
+operations =
+    Fixed [] 1 (entries.Zero (Stack 1 0)) ∷
+    Serve [] 3 (Text 1 0) true ∷
+    Serve [] 4 (Text 1 0) true ∷
+    Step 1 1 false 2 5 [] (Lend 2) ∷
+    Step 2 1 true 2 8 [] (Lend 3) ∷
+    Serve (Text 1 0 ∷ []) 11 (Data 1 0) true ∷
+    Step 3 1 true 2 13 [] (End 0) ∷
+    Step 2 1 true 2 16 [] (End 0) ∷
+    Step 1 1 false 2 22 [] (End 0) ∷ []
+
+last : Placement
+last = record {
+  spaces = [];
+  texts =
+      record {
+        image = 1;
+        text_pages = slot (Invalid 2) false Zeros ∷ [];
+      } ∷ [];
+  holds = None ∷ Some (Text 1 0) ∷ empty 62;
+  free = 1 ∷ frames 3 62 ++ 2 ∷ [];
+  transfers = [];
+  front = 17;
+  back = 1;
+  residents = [];
+  due = [];
+}
+
+seen : List Seen
+seen =
+    Unit (Some (entries.Get (Text 1 0) 0 1)) ∷
+    Unit (Some entries.Done) ∷
+    Unit (Some (entries.Zero (Data 1 0))) ∷
+    Ends last ∷ []
+
+lends_nested : walk images operations (starting images (1 ∷ []) 64) ≡ seen
+unfolding images operations last seen spot chunk_reached lowest chunk_start chunk counted_from text_spot
+lends_nested = refl

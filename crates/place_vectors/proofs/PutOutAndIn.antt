@@ -1,0 +1,238 @@
+-- The swapper puts out a process of 56 dirty data pages, by writes of at most 16 pages of one chunk, each ended before
+-- the next, and brings it in again; its text page stays.
+use Rattle.std.proofs.Common.{◌≡◌, true, false, List, [], ◌∷◌, ◌++◌, replicate, Some, None, refl}
+use Rattle.vm_facts.specs.declared.page.Page.TheVariants.{Data, Stack, Text}
+use Rattle.vm_facts.specs.declared.page.PageState.TheVariants.{Unfilled, Valid, Invalid}
+use Rattle.vm_facts.specs.declared.entry.Entry.TheVariants as entries
+use Rattle.aout_image.specs.declared.Kind.TheVariants.{Paged}
+use Rattle.swap_dmap.specs.Chunks.{chunk, chunk_start, lowest, chunk_reached, counted_from, spot, text_spot}
+use Rattle.flat_state.specs.Flat.{NamedImage}
+use Rattle.page_model.specs.Pages.{Zeros}
+use Rattle.page_model.specs.Placement.{Placement}
+use Rattle.page_model.specs.Swapper.{Out}
+use Rattle.place_vectors.proofs.Walk.{Operation, Fixed, Serve, PutsOut, Choose, Seen, Unit, Chose, Ends, named, runner, slot, empty, frames, starting, walk}
+
+images : List NamedImage
+images =
+    named Paged 1024 0 204800 0 ∷ []
+
+operations : List Operation
+operations =
+    Fixed [] 1 (entries.Zero (Stack 1 0)) ∷
+    Serve [] 3 (Text 1 0) false ∷
+    Serve [] 0 (Text 1 0) false ∷
+    Fixed [] 5 entries.Done ∷
+    Serve (Text 1 0 ∷ []) 8 (Data 1 0) false ∷
+    Serve (Text 1 0 ∷ []) 10 (Data 1 1) false ∷
+    Serve (Text 1 0 ∷ []) 12 (Data 1 2) false ∷
+    Serve (Text 1 0 ∷ []) 14 (Data 1 3) false ∷
+    Serve (Text 1 0 ∷ []) 16 (Data 1 4) false ∷
+    Serve (Text 1 0 ∷ []) 18 (Data 1 5) false ∷
+    Serve (Text 1 0 ∷ []) 20 (Data 1 6) false ∷
+    Serve (Text 1 0 ∷ []) 22 (Data 1 7) false ∷
+    Serve (Text 1 0 ∷ []) 24 (Data 1 8) false ∷
+    Serve (Text 1 0 ∷ []) 26 (Data 1 9) false ∷
+    Serve (Text 1 0 ∷ []) 28 (Data 1 10) false ∷
+    Serve (Text 1 0 ∷ []) 30 (Data 1 11) false ∷
+    Serve (Text 1 0 ∷ []) 32 (Data 1 12) false ∷
+    Serve (Text 1 0 ∷ []) 34 (Data 1 13) false ∷
+    Serve (Text 1 0 ∷ []) 36 (Data 1 14) false ∷
+    Serve (Text 1 0 ∷ []) 38 (Data 1 15) false ∷
+    Serve (Text 1 0 ∷ []) 40 (Data 1 16) false ∷
+    Serve (Text 1 0 ∷ []) 42 (Data 1 17) false ∷
+    Serve (Text 1 0 ∷ []) 44 (Data 1 18) false ∷
+    Serve (Text 1 0 ∷ []) 46 (Data 1 19) false ∷
+    Serve (Text 1 0 ∷ []) 48 (Data 1 20) false ∷
+    Serve (Text 1 0 ∷ []) 50 (Data 1 21) false ∷
+    Serve (Text 1 0 ∷ []) 52 (Data 1 22) false ∷
+    Serve (Text 1 0 ∷ []) 54 (Data 1 23) false ∷
+    Serve (Text 1 0 ∷ []) 56 (Data 1 24) false ∷
+    Serve (Text 1 0 ∷ []) 58 (Data 1 25) false ∷
+    Serve (Text 1 0 ∷ []) 60 (Data 1 26) false ∷
+    Serve (Text 1 0 ∷ []) 62 (Data 1 27) false ∷
+    Serve (Text 1 0 ∷ []) 64 (Data 1 28) false ∷
+    Serve (Text 1 0 ∷ []) 66 (Data 1 29) false ∷
+    Serve (Text 1 0 ∷ []) 68 (Data 1 30) false ∷
+    Serve (Text 1 0 ∷ []) 70 (Data 1 31) false ∷
+    Serve (Text 1 0 ∷ []) 72 (Data 1 32) false ∷
+    Serve (Text 1 0 ∷ []) 74 (Data 1 33) false ∷
+    Serve (Text 1 0 ∷ []) 76 (Data 1 34) false ∷
+    Serve (Text 1 0 ∷ []) 78 (Data 1 35) false ∷
+    Serve (Text 1 0 ∷ []) 80 (Data 1 36) false ∷
+    Serve (Text 1 0 ∷ []) 82 (Data 1 37) false ∷
+    Serve (Text 1 0 ∷ []) 84 (Data 1 38) false ∷
+    Serve (Text 1 0 ∷ []) 86 (Data 1 39) false ∷
+    Serve (Text 1 0 ∷ []) 88 (Data 1 40) false ∷
+    Serve (Text 1 0 ∷ []) 90 (Data 1 41) false ∷
+    Serve (Text 1 0 ∷ []) 92 (Data 1 42) false ∷
+    Serve (Text 1 0 ∷ []) 94 (Data 1 43) false ∷
+    Serve (Text 1 0 ∷ []) 96 (Data 1 44) false ∷
+    Serve (Text 1 0 ∷ []) 98 (Data 1 45) false ∷
+    Serve (Text 1 0 ∷ []) 100 (Data 1 46) false ∷
+    Serve (Text 1 0 ∷ []) 102 (Data 1 47) false ∷
+    Serve (Text 1 0 ∷ []) 104 (Data 1 48) false ∷
+    Serve (Text 1 0 ∷ []) 106 (Data 1 49) false ∷
+    Serve (Text 1 0 ∷ []) 108 (Data 1 50) false ∷
+    Serve (Text 1 0 ∷ []) 110 (Data 1 51) false ∷
+    Serve (Text 1 0 ∷ []) 112 (Data 1 52) false ∷
+    Serve (Text 1 0 ∷ []) 114 (Data 1 53) false ∷
+    Serve (Text 1 0 ∷ []) 116 (Data 1 54) false ∷
+    Serve (Text 1 0 ∷ []) 118 (Data 1 55) false ∷
+    Choose (runner 1 1 false false ∷ []) ∷
+    PutsOut 121 1 1 ∷
+    PutsOut 122 1 1 ∷
+    PutsOut 123 1 1 ∷
+    PutsOut 124 1 1 ∷
+    PutsOut 125 1 1 ∷
+    PutsOut 126 1 1 ∷
+    PutsOut 127 1 1 ∷
+    PutsOut 128 1 1 ∷
+    PutsOut 129 1 1 ∷
+    PutsOut 130 1 1 ∷
+    PutsOut 131 1 1 ∷
+    Fixed (Text 1 0 ∷ []) 135 (entries.SwapIn 1) ∷
+    Serve (Text 1 0 ∷ []) 136 (Data 1 56) true ∷ []
+
+last : Placement
+last = record {
+  spaces =
+      record {
+        sid = 1;
+        image = 1;
+        data_pages =
+            slot (Invalid 3) false Zeros ∷ slot (Invalid 4) false Zeros ∷
+            slot (Invalid 5) false Zeros ∷ slot (Invalid 6) false Zeros ∷
+            slot (Invalid 7) false Zeros ∷ slot (Invalid 8) false Zeros ∷
+            slot (Invalid 9) false Zeros ∷ slot (Invalid 10) false Zeros ∷
+            slot (Invalid 11) false Zeros ∷ slot (Invalid 12) false Zeros ∷
+            slot (Invalid 13) false Zeros ∷ slot (Invalid 14) false Zeros ∷
+            slot (Invalid 15) false Zeros ∷ slot (Invalid 16) false Zeros ∷
+            slot (Invalid 17) false Zeros ∷ slot (Invalid 18) false Zeros ∷
+            slot (Invalid 19) false Zeros ∷ slot (Invalid 20) false Zeros ∷
+            slot (Invalid 21) false Zeros ∷ slot (Invalid 22) false Zeros ∷
+            slot (Invalid 23) false Zeros ∷ slot (Invalid 24) false Zeros ∷
+            slot (Invalid 25) false Zeros ∷ slot (Invalid 26) false Zeros ∷
+            slot (Invalid 27) false Zeros ∷ slot (Invalid 28) false Zeros ∷
+            slot (Invalid 29) false Zeros ∷ slot (Invalid 30) false Zeros ∷
+            slot (Invalid 31) false Zeros ∷ slot (Invalid 32) false Zeros ∷
+            slot (Invalid 33) false Zeros ∷ slot (Invalid 34) false Zeros ∷
+            slot (Invalid 35) false Zeros ∷ slot (Invalid 36) false Zeros ∷
+            slot (Invalid 37) false Zeros ∷ slot (Invalid 38) false Zeros ∷
+            slot (Invalid 39) false Zeros ∷ slot (Invalid 40) false Zeros ∷
+            slot (Invalid 41) false Zeros ∷ slot (Invalid 42) false Zeros ∷
+            slot (Invalid 43) false Zeros ∷ slot (Invalid 44) false Zeros ∷
+            slot (Invalid 45) false Zeros ∷ slot (Invalid 46) false Zeros ∷
+            slot (Invalid 47) false Zeros ∷ slot (Invalid 48) false Zeros ∷
+            slot (Invalid 49) false Zeros ∷ slot (Invalid 50) false Zeros ∷
+            slot (Invalid 51) false Zeros ∷ slot (Invalid 52) false Zeros ∷
+            slot (Invalid 53) false Zeros ∷ slot (Invalid 54) false Zeros ∷
+            slot (Invalid 55) false Zeros ∷ slot (Invalid 56) false Zeros ∷
+            slot (Invalid 57) false Zeros ∷ slot (Invalid 58) false Zeros ∷
+            slot (Valid 59) true Zeros ∷ replicate 143 (slot Unfilled false Zeros);
+        stack_pages = slot (Invalid 1) false Zeros ∷ [];
+      } ∷ [];
+  texts =
+      record {
+        image = 1;
+        text_pages = slot (Valid 2) false Zeros ∷ [];
+      } ∷ [];
+  holds =
+      Some (Stack 1 0) ∷ Some (Text 1 0) ∷ Some (Data 1 0) ∷ Some (Data 1 1) ∷ Some (Data 1 2) ∷
+      Some (Data 1 3) ∷ Some (Data 1 4) ∷ Some (Data 1 5) ∷ Some (Data 1 6) ∷ Some (Data 1 7) ∷
+      Some (Data 1 8) ∷ Some (Data 1 9) ∷ Some (Data 1 10) ∷ Some (Data 1 11) ∷ Some (Data 1 12) ∷
+      Some (Data 1 13) ∷ Some (Data 1 14) ∷ Some (Data 1 15) ∷ Some (Data 1 16) ∷ Some (Data 1 17) ∷
+      Some (Data 1 18) ∷ Some (Data 1 19) ∷ Some (Data 1 20) ∷ Some (Data 1 21) ∷ Some (Data 1 22) ∷
+      Some (Data 1 23) ∷ Some (Data 1 24) ∷ Some (Data 1 25) ∷ Some (Data 1 26) ∷ Some (Data 1 27) ∷
+      Some (Data 1 28) ∷ Some (Data 1 29) ∷ Some (Data 1 30) ∷ Some (Data 1 31) ∷ Some (Data 1 32) ∷
+      Some (Data 1 33) ∷ Some (Data 1 34) ∷ Some (Data 1 35) ∷ Some (Data 1 36) ∷ Some (Data 1 37) ∷
+      Some (Data 1 38) ∷ Some (Data 1 39) ∷ Some (Data 1 40) ∷ Some (Data 1 41) ∷ Some (Data 1 42) ∷
+      Some (Data 1 43) ∷ Some (Data 1 44) ∷ Some (Data 1 45) ∷ Some (Data 1 46) ∷ Some (Data 1 47) ∷
+      Some (Data 1 48) ∷ Some (Data 1 49) ∷ Some (Data 1 50) ∷ Some (Data 1 51) ∷ Some (Data 1 52) ∷
+      Some (Data 1 53) ∷ Some (Data 1 54) ∷ Some (Data 1 55) ∷ Some (Data 1 56) ∷ empty 5;
+  free = frames 60 5 ++ frames 3 56 ++ 1 ∷ [];
+  transfers = [];
+  front = 17;
+  back = 1;
+  residents =
+      record { pid = 1; out = false; since = 135 } ∷ [];
+  due = [];
+}
+
+seen : List Seen
+seen =
+    Unit (Some (entries.Get (Text 1 0) 0 1)) ∷
+    Unit None ∷
+    Unit (Some (entries.Zero (Data 1 0))) ∷
+    Unit (Some (entries.Zero (Data 1 1))) ∷
+    Unit (Some (entries.Zero (Data 1 2))) ∷
+    Unit (Some (entries.Zero (Data 1 3))) ∷
+    Unit (Some (entries.Zero (Data 1 4))) ∷
+    Unit (Some (entries.Zero (Data 1 5))) ∷
+    Unit (Some (entries.Zero (Data 1 6))) ∷
+    Unit (Some (entries.Zero (Data 1 7))) ∷
+    Unit (Some (entries.Zero (Data 1 8))) ∷
+    Unit (Some (entries.Zero (Data 1 9))) ∷
+    Unit (Some (entries.Zero (Data 1 10))) ∷
+    Unit (Some (entries.Zero (Data 1 11))) ∷
+    Unit (Some (entries.Zero (Data 1 12))) ∷
+    Unit (Some (entries.Zero (Data 1 13))) ∷
+    Unit (Some (entries.Zero (Data 1 14))) ∷
+    Unit (Some (entries.Zero (Data 1 15))) ∷
+    Unit (Some (entries.Zero (Data 1 16))) ∷
+    Unit (Some (entries.Zero (Data 1 17))) ∷
+    Unit (Some (entries.Zero (Data 1 18))) ∷
+    Unit (Some (entries.Zero (Data 1 19))) ∷
+    Unit (Some (entries.Zero (Data 1 20))) ∷
+    Unit (Some (entries.Zero (Data 1 21))) ∷
+    Unit (Some (entries.Zero (Data 1 22))) ∷
+    Unit (Some (entries.Zero (Data 1 23))) ∷
+    Unit (Some (entries.Zero (Data 1 24))) ∷
+    Unit (Some (entries.Zero (Data 1 25))) ∷
+    Unit (Some (entries.Zero (Data 1 26))) ∷
+    Unit (Some (entries.Zero (Data 1 27))) ∷
+    Unit (Some (entries.Zero (Data 1 28))) ∷
+    Unit (Some (entries.Zero (Data 1 29))) ∷
+    Unit (Some (entries.Zero (Data 1 30))) ∷
+    Unit (Some (entries.Zero (Data 1 31))) ∷
+    Unit (Some (entries.Zero (Data 1 32))) ∷
+    Unit (Some (entries.Zero (Data 1 33))) ∷
+    Unit (Some (entries.Zero (Data 1 34))) ∷
+    Unit (Some (entries.Zero (Data 1 35))) ∷
+    Unit (Some (entries.Zero (Data 1 36))) ∷
+    Unit (Some (entries.Zero (Data 1 37))) ∷
+    Unit (Some (entries.Zero (Data 1 38))) ∷
+    Unit (Some (entries.Zero (Data 1 39))) ∷
+    Unit (Some (entries.Zero (Data 1 40))) ∷
+    Unit (Some (entries.Zero (Data 1 41))) ∷
+    Unit (Some (entries.Zero (Data 1 42))) ∷
+    Unit (Some (entries.Zero (Data 1 43))) ∷
+    Unit (Some (entries.Zero (Data 1 44))) ∷
+    Unit (Some (entries.Zero (Data 1 45))) ∷
+    Unit (Some (entries.Zero (Data 1 46))) ∷
+    Unit (Some (entries.Zero (Data 1 47))) ∷
+    Unit (Some (entries.Zero (Data 1 48))) ∷
+    Unit (Some (entries.Zero (Data 1 49))) ∷
+    Unit (Some (entries.Zero (Data 1 50))) ∷
+    Unit (Some (entries.Zero (Data 1 51))) ∷
+    Unit (Some (entries.Zero (Data 1 52))) ∷
+    Unit (Some (entries.Zero (Data 1 53))) ∷
+    Unit (Some (entries.Zero (Data 1 54))) ∷
+    Unit (Some (entries.Zero (Data 1 55))) ∷
+    Chose (Out 1) ∷
+    Unit (Some (entries.Put (Data 1 0) 16)) ∷
+    Unit (Some entries.Done) ∷
+    Unit (Some (entries.Put (Data 1 16) 16)) ∷
+    Unit (Some entries.Done) ∷
+    Unit (Some (entries.Put (Data 1 32) 16)) ∷
+    Unit (Some entries.Done) ∷
+    Unit (Some (entries.Put (Data 1 48) 8)) ∷
+    Unit (Some entries.Done) ∷
+    Unit (Some (entries.Put (Stack 1 0) 1)) ∷
+    Unit (Some entries.Done) ∷
+    Unit (Some (entries.SwapOut 1)) ∷
+    Unit (Some (entries.Zero (Data 1 56))) ∷
+    Ends last ∷ []
+
+put_out_and_in : walk images operations (starting images (1 ∷ []) 64) ≡ seen
+unfolding images operations last seen spot chunk_reached lowest chunk_start chunk counted_from text_spot
+put_out_and_in = refl
