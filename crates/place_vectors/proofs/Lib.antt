@@ -15,3 +15,6 @@ mod PutOutAndIn
 mod ForksWithFewFrames
 mod ForcedFrames
 mod StackReadByFours
+mod Limits
+mod SwapperChoice
+mod TextAtItsLastEnd
