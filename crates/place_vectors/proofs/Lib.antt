@@ -18,3 +18,5 @@ mod StackReadByFours
 mod Limits
 mod SwapperChoice
 mod TextAtItsLastEnd
+mod HandsRest
+mod TextOnSwap

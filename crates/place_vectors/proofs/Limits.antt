@@ -129,6 +129,6 @@ unfolding waiting spot chunk_reached lowest chunk_start chunk counted_from text_
 putting_out_in_flight = refl
 
 -- moves are made while fewer than a quarter of the frames are free
-hands_rest : wants_moves (waiting 15 0) ∷ wants_moves (waiting 16 0) ∷ [] ≡ true ∷ false ∷ []
+quarter_free_rests : wants_moves (waiting 15 0) ∷ wants_moves (waiting 16 0) ∷ [] ≡ true ∷ false ∷ []
 unfolding waiting
-hands_rest = refl
+quarter_free_rests = refl

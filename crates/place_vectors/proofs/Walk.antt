@@ -9,6 +9,7 @@ use Rattle.flat_state.specs.declared.change.Change.{Change}
 use Rattle.page_model.specs.Pages.{Slot, Filling}
 use Rattle.page_model.specs.Placement.{Placement, Starting, start_placement}
 use Rattle.page_model.specs.Moves.{touch_all}
+use Rattle.page_model.specs.Hands.{wants_moves}
 use Rattle.page_model.specs.Serve.{serve_unit}
 use Rattle.page_model.specs.Place.{place_entry, place_change}
 use Rattle.page_model.specs.Swapper.{Runner, Choice, swap_choice, put_out_unit}
@@ -64,6 +65,8 @@ pub data Operation : Type 0 where
   PutsOut : ℕ → ℕ → ℕ → Operation
   -- a turn of the swapper over these processes
   Choose : List Runner → Operation
+  -- whether the hands should move by themselves
+  Wants : Operation
   -- a change of a process: its pid, its space, whether it borrowed that, the number of the next space, the place in
   -- the journal, and the pages that it wrote before
   Step : ℕ → ℕ → Bool → ℕ → ℕ → List Page → Change → Operation
@@ -72,6 +75,7 @@ pub data Operation : Type 0 where
 pub data Seen : Type 0 where
   Unit : Option Entry → Seen
   Chose : Choice → Seen
+  Moves : Bool → Seen
   Ends : Placement → Seen
 
 -- a unit is made where there is one
@@ -87,5 +91,14 @@ walk images (Serve locked at q now ∷ rest) p =
 walk images (PutsOut at pid sid ∷ rest) p =
     Unit (Some (put_out_unit p pid sid)) ∷ walk images rest (place_entry [] at p (put_out_unit p pid sid))
 walk images (Choose runners ∷ rest) p = Chose (swap_choice p runners) ∷ walk images rest p
+walk images (Wants ∷ rest) p = Moves (wants_moves p) ∷ walk images rest p
 walk images (Step pid sid borrowed next_sid at written change ∷ rest) p =
     walk images rest (place_change images (touch_all p written) pid sid borrowed next_sid at change)
+
+-- the units and choices alone
+abbrev pub chosen : List Seen → List Seen
+chosen [] = []
+chosen (Ends p ∷ xs) = chosen xs
+chosen (Unit e ∷ xs) = Unit e ∷ chosen xs
+chosen (Chose c ∷ xs) = Chose c ∷ chosen xs
+chosen (Moves b ∷ xs) = Moves b ∷ chosen xs
