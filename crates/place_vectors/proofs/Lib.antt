@@ -20,3 +20,5 @@ mod SwapperChoice
 mod TextAtItsLastEnd
 mod HandsRest
 mod TextOnSwap
+mod RingOf200Pages
+mod OneMoveOfTheHands
