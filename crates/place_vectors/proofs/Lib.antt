@@ -22,3 +22,4 @@ mod HandsRest
 mod TextOnSwap
 mod RingOf200Pages
 mod OneMoveOfTheHands
+mod PutOutByRuns

@@ -1,4 +1,4 @@
--- Three processes and seven forks in 64 frames, till all have ended: stack pages come from swap by up to four of one
+-- Three processes and seven forks in 64 frames, of which three end: stack pages come from swap by up to four of one
 -- chunk, with moves of the hands and forced frames all along.
 use Rattle.std.proofs.Common.{◌≡◌, true, false, List, [], ◌∷◌, replicate, Some, None, refl}
 use Rattle.vm_facts.specs.declared.page.Page.TheVariants.{Data, Stack, Text}
