@@ -23,3 +23,4 @@ mod TextOnSwap
 mod RingOf200Pages
 mod OneMoveOfTheHands
 mod PutOutByRuns
+mod ReadsAndFills
