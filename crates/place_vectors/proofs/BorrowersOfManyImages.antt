@@ -10,7 +10,7 @@ use Rattle.flat_state.specs.Flat.{NamedImage}
 use Rattle.flat_state.specs.declared.change.Change.TheVariants.{Resize, Fork, Lend, Exec, End}
 use Rattle.page_model.specs.Pages.{Zeros}
 use Rattle.page_model.specs.Placement.{Placement}
-use Rattle.place_vectors.proofs.Walk.{Operation, Fixed, Serve, Step, Seen, Unit, Ends, named, slot, empty, frames, starting, walk}
+use Rattle.place_vectors.proofs.Walk.{Operation, Fixed, Serve, Step, Seen, Made, Ends, named, slot, empty, frames, starting, walk}
 
 images : List NamedImage
 images =
@@ -99,17 +99,17 @@ last = record {
 
 seen : List Seen
 seen =
-    Unit (Some (entries.Get (Text 1 0) 0 2)) ∷
-    Unit None ∷
-    Unit (Some entries.Done) ∷
-    Unit (Some (entries.Get (Data 1 0) 0 1)) ∷
-    Unit (Some entries.Done) ∷
-    Unit (Some (entries.Get (Text 3 0) 0 2)) ∷
-    Unit (Some entries.Done) ∷
-    Unit (Some (entries.Get (Data 4 0) 0 1)) ∷
-    Unit (Some entries.Done) ∷
-    Unit (Some (entries.Get (Data 6 0) 0 1)) ∷
-    Unit (Some entries.Done) ∷
+    Made (Some (entries.Get (Text 1 0) 0 2)) ∷
+    Made None ∷
+    Made (Some entries.Done) ∷
+    Made (Some (entries.Get (Data 1 0) 0 1)) ∷
+    Made (Some entries.Done) ∷
+    Made (Some (entries.Get (Text 3 0) 0 2)) ∷
+    Made (Some entries.Done) ∷
+    Made (Some (entries.Get (Data 4 0) 0 1)) ∷
+    Made (Some entries.Done) ∷
+    Made (Some (entries.Get (Data 6 0) 0 1)) ∷
+    Made (Some entries.Done) ∷
     Ends last ∷ []
 
 borrowers_of_many_images : walk images operations (starting images (1 ∷ []) 128) ≡ seen

@@ -11,7 +11,7 @@ use Rattle.flat_state.specs.declared.change.Change.TheVariants.{Resize, Fork, En
 use Rattle.page_model.specs.Pages.{Zeros}
 use Rattle.page_model.specs.Placement.{Placement}
 use Rattle.page_model.specs.Swapper.{Nothing}
-use Rattle.place_vectors.proofs.Walk.{Operation, Fixed, Serve, Choose, Step, Seen, Unit, Chose, Ends, named, runner, slot, empty, frames, starting, walk}
+use Rattle.place_vectors.proofs.Walk.{Operation, Fixed, Serve, Choose, Step, Seen, Made, Chose, Ends, named, runner, slot, empty, frames, starting, walk}
 
 images : List NamedImage
 images =
@@ -101,21 +101,21 @@ last = record {
 
 seen : List Seen
 seen =
-    Unit (Some (entries.Get (Text 2 0) 0 2)) ∷
-    Unit None ∷
+    Made (Some (entries.Get (Text 2 0) 0 2)) ∷
+    Made None ∷
     Chose Nothing ∷
-    Unit (Some (entries.Get (Data 4 0) 0 1)) ∷
-    Unit None ∷
-    Unit (Some (entries.Get (Text 1 0) 0 2)) ∷
-    Unit None ∷
-    Unit (Some entries.Done) ∷
-    Unit (Some entries.Done) ∷
-    Unit (Some (entries.Zero (Stack 4 1))) ∷
-    Unit (Some (entries.Zero (Stack 4 2))) ∷
-    Unit (Some (entries.Zero (Stack 4 3))) ∷
-    Unit (Some (entries.Zero (Stack 4 4))) ∷
-    Unit (Some (entries.Zero (Stack 4 5))) ∷
-    Unit (Some (entries.Zero (Stack 4 6))) ∷
+    Made (Some (entries.Get (Data 4 0) 0 1)) ∷
+    Made None ∷
+    Made (Some (entries.Get (Text 1 0) 0 2)) ∷
+    Made None ∷
+    Made (Some entries.Done) ∷
+    Made (Some entries.Done) ∷
+    Made (Some (entries.Zero (Stack 4 1))) ∷
+    Made (Some (entries.Zero (Stack 4 2))) ∷
+    Made (Some (entries.Zero (Stack 4 3))) ∷
+    Made (Some (entries.Zero (Stack 4 4))) ∷
+    Made (Some (entries.Zero (Stack 4 5))) ∷
+    Made (Some (entries.Zero (Stack 4 6))) ∷
     Ends last ∷ []
 
 deep_stacks : walk images operations (starting images (1 ∷ 1 ∷ 1 ∷ 2 ∷ []) 64) ≡ seen

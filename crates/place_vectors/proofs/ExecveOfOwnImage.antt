@@ -11,7 +11,7 @@ use Rattle.flat_state.specs.declared.change.Change.TheVariants.{Resize, Fork, Ex
 use Rattle.page_model.specs.Pages.{Zeros, OfImage}
 use Rattle.page_model.specs.Placement.{Placement}
 use Rattle.page_model.specs.Swapper.{Nothing}
-use Rattle.place_vectors.proofs.Walk.{Operation, Fixed, Serve, Choose, Step, Seen, Unit, Chose, Ends, named, runner, slot, empty, frames, starting, walk}
+use Rattle.place_vectors.proofs.Walk.{Operation, Fixed, Serve, Choose, Step, Seen, Made, Chose, Ends, named, runner, slot, empty, frames, starting, walk}
 
 images : List NamedImage
 images =
@@ -103,8 +103,8 @@ last = record {
 
 seen : List Seen
 seen =
-    Unit (Some (entries.Get (Text 1 0) 0 2)) ∷
-    Unit None ∷
+    Made (Some (entries.Get (Text 1 0) 0 2)) ∷
+    Made None ∷
     Chose Nothing ∷
     Chose Nothing ∷
     Chose Nothing ∷
@@ -112,19 +112,19 @@ seen =
     Chose Nothing ∷
     Chose Nothing ∷
     Chose Nothing ∷
-    Unit (Some (entries.Zero (Data 1 3))) ∷
-    Unit (Some (entries.Get (Data 1 0) 0 1)) ∷
-    Unit None ∷
+    Made (Some (entries.Zero (Data 1 3))) ∷
+    Made (Some (entries.Get (Data 1 0) 0 1)) ∷
+    Made None ∷
     Chose Nothing ∷
-    Unit None ∷
+    Made None ∷
     Chose Nothing ∷
-    Unit None ∷
-    Unit None ∷
+    Made None ∷
+    Made None ∷
     Chose Nothing ∷
-    Unit (Some (entries.Zero (Data 1 1))) ∷
-    Unit (Some (entries.Zero (Stack 1 1))) ∷
-    Unit (Some (entries.Zero (Data 1 2))) ∷
-    Unit (Some (entries.Zero (Data 3 3))) ∷
+    Made (Some (entries.Zero (Data 1 1))) ∷
+    Made (Some (entries.Zero (Stack 1 1))) ∷
+    Made (Some (entries.Zero (Data 1 2))) ∷
+    Made (Some (entries.Zero (Data 3 3))) ∷
     Ends last ∷ []
 
 execve_of_own_image : walk images operations (starting images (1 ∷ []) 64) ≡ seen

@@ -10,7 +10,7 @@ use Rattle.flat_state.specs.Flat.{NamedImage}
 use Rattle.flat_state.specs.declared.change.Change.TheVariants.{Fork, End}
 use Rattle.page_model.specs.Pages.{Zeros}
 use Rattle.page_model.specs.Placement.{Placement}
-use Rattle.place_vectors.proofs.Walk.{Operation, Fixed, Serve, Step, Seen, Unit, Ends, named, slot, empty, frames, starting, walk}
+use Rattle.place_vectors.proofs.Walk.{Operation, Fixed, Serve, Step, Seen, Made, Ends, named, slot, empty, frames, starting, walk}
 
 images : List NamedImage
 images =
@@ -47,10 +47,10 @@ last = record {
 
 seen : List Seen
 seen =
-    Unit (Some (entries.Get (Text 1 0) 0 1)) ∷
-    Unit (Some entries.Done) ∷
-    Unit (Some (entries.Zero (Data 1 0))) ∷
-    Unit (Some (entries.Zero (Data 2 0))) ∷
+    Made (Some (entries.Get (Text 1 0) 0 1)) ∷
+    Made (Some entries.Done) ∷
+    Made (Some (entries.Zero (Data 1 0))) ∷
+    Made (Some (entries.Zero (Data 2 0))) ∷
     Ends last ∷ []
 
 fork : walk images operations (starting images (1 ∷ []) 64) ≡ seen

@@ -11,7 +11,7 @@ use Rattle.flat_state.specs.declared.change.Change.TheVariants.{Resize, Fork, Le
 use Rattle.page_model.specs.Pages.{Zeros}
 use Rattle.page_model.specs.Placement.{Placement}
 use Rattle.page_model.specs.Swapper.{Nothing}
-use Rattle.place_vectors.proofs.Walk.{Operation, Fixed, Serve, Choose, Step, Seen, Unit, Chose, Ends, named, runner, slot, empty, frames, starting, walk}
+use Rattle.place_vectors.proofs.Walk.{Operation, Fixed, Serve, Choose, Step, Seen, Made, Chose, Ends, named, runner, slot, empty, frames, starting, walk}
 
 images : List NamedImage
 images =
@@ -327,42 +327,42 @@ last = record {
 
 seen : List Seen
 seen =
-    Unit (Some (entries.Get (Text 1 0) 0 2)) ∷
-    Unit None ∷
-    Unit None ∷
+    Made (Some (entries.Get (Text 1 0) 0 2)) ∷
+    Made None ∷
+    Made None ∷
     Chose Nothing ∷
     Chose Nothing ∷
     Chose Nothing ∷
     Chose Nothing ∷
-    Unit (Some (entries.Zero (Data 2 0))) ∷
-    Unit (Some (entries.Zero (Stack 2 17))) ∷
-    Unit (Some (entries.Zero (Data 3 0))) ∷
-    Unit (Some (entries.Zero (Stack 3 17))) ∷
-    Unit (Some (entries.Zero (Data 8 0))) ∷
-    Unit (Some (entries.Zero (Stack 8 17))) ∷
-    Unit (Some (entries.Zero (Data 1 0))) ∷
-    Unit (Some (entries.Zero (Stack 1 17))) ∷
-    Unit (Some (entries.Zero (Data 4 0))) ∷
-    Unit (Some (entries.Zero (Stack 4 17))) ∷
-    Unit (Some (entries.Zero (Data 11 0))) ∷
-    Unit (Some (entries.Zero (Data 13 0))) ∷
-    Unit (Some (entries.Zero (Stack 13 17))) ∷
-    Unit (Some (entries.Zero (Data 15 0))) ∷
-    Unit (Some (entries.Zero (Stack 15 17))) ∷
-    Unit (Some (entries.Zero (Data 17 0))) ∷
-    Unit (Some (entries.Zero (Stack 17 17))) ∷
-    Unit (Some (entries.Zero (Data 19 0))) ∷
-    Unit (Some (entries.Zero (Stack 19 17))) ∷
-    Unit (Some (entries.Zero (Data 21 0))) ∷
-    Unit (Some (entries.Zero (Stack 21 17))) ∷
-    Unit (Some (entries.Zero (Data 23 0))) ∷
-    Unit (Some (entries.Zero (Stack 23 17))) ∷
-    Unit (Some (entries.Zero (Data 25 0))) ∷
-    Unit (Some (entries.Zero (Stack 25 17))) ∷
-    Unit (Some (entries.Zero (Data 27 0))) ∷
-    Unit (Some (entries.Zero (Stack 27 17))) ∷
-    Unit (Some (entries.Zero (Data 29 0))) ∷
-    Unit (Some (entries.Zero (Stack 29 17))) ∷
+    Made (Some (entries.Zero (Data 2 0))) ∷
+    Made (Some (entries.Zero (Stack 2 17))) ∷
+    Made (Some (entries.Zero (Data 3 0))) ∷
+    Made (Some (entries.Zero (Stack 3 17))) ∷
+    Made (Some (entries.Zero (Data 8 0))) ∷
+    Made (Some (entries.Zero (Stack 8 17))) ∷
+    Made (Some (entries.Zero (Data 1 0))) ∷
+    Made (Some (entries.Zero (Stack 1 17))) ∷
+    Made (Some (entries.Zero (Data 4 0))) ∷
+    Made (Some (entries.Zero (Stack 4 17))) ∷
+    Made (Some (entries.Zero (Data 11 0))) ∷
+    Made (Some (entries.Zero (Data 13 0))) ∷
+    Made (Some (entries.Zero (Stack 13 17))) ∷
+    Made (Some (entries.Zero (Data 15 0))) ∷
+    Made (Some (entries.Zero (Stack 15 17))) ∷
+    Made (Some (entries.Zero (Data 17 0))) ∷
+    Made (Some (entries.Zero (Stack 17 17))) ∷
+    Made (Some (entries.Zero (Data 19 0))) ∷
+    Made (Some (entries.Zero (Stack 19 17))) ∷
+    Made (Some (entries.Zero (Data 21 0))) ∷
+    Made (Some (entries.Zero (Stack 21 17))) ∷
+    Made (Some (entries.Zero (Data 23 0))) ∷
+    Made (Some (entries.Zero (Stack 23 17))) ∷
+    Made (Some (entries.Zero (Data 25 0))) ∷
+    Made (Some (entries.Zero (Stack 25 17))) ∷
+    Made (Some (entries.Zero (Data 27 0))) ∷
+    Made (Some (entries.Zero (Stack 27 17))) ∷
+    Made (Some (entries.Zero (Data 29 0))) ∷
+    Made (Some (entries.Zero (Stack 29 17))) ∷
     Ends last ∷ []
 
 forks_of_four : walk images operations (starting images (1 ∷ 1 ∷ 1 ∷ 1 ∷ []) 64) ≡ seen

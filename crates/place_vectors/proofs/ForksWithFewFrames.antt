@@ -11,7 +11,7 @@ use Rattle.flat_state.specs.declared.change.Change.TheVariants.{Fork, Lend, End}
 use Rattle.page_model.specs.Pages.{Zeros}
 use Rattle.page_model.specs.Placement.{Placement}
 use Rattle.page_model.specs.Swapper.{Nothing}
-use Rattle.place_vectors.proofs.Walk.{Operation, Fixed, Serve, Choose, Step, Seen, Unit, Chose, Ends, named, runner, slot, empty, starting, walk}
+use Rattle.place_vectors.proofs.Walk.{Operation, Fixed, Serve, Choose, Step, Seen, Made, Chose, Ends, named, runner, slot, empty, starting, walk}
 
 images : List NamedImage
 images =
@@ -250,100 +250,100 @@ last = record {
 
 seen : List Seen
 seen =
-    Unit (Some (entries.Get (Text 1 0) 0 2)) ∷
-    Unit None ∷
+    Made (Some (entries.Get (Text 1 0) 0 2)) ∷
+    Made None ∷
     Chose Nothing ∷
     Chose Nothing ∷
     Chose Nothing ∷
-    Unit (Some (entries.Zero (Data 2 2))) ∷
-    Unit (Some (entries.Zero (Data 2 3))) ∷
-    Unit (Some (entries.Zero (Data 2 4))) ∷
-    Unit (Some (entries.Zero (Data 2 5))) ∷
-    Unit (Some (entries.Zero (Data 2 6))) ∷
-    Unit (Some (entries.Zero (Data 2 7))) ∷
-    Unit (Some (entries.Zero (Data 2 8))) ∷
-    Unit (Some (entries.Zero (Data 2 9))) ∷
-    Unit (Some (entries.Zero (Data 2 10))) ∷
-    Unit (Some (entries.Zero (Data 2 11))) ∷
-    Unit (Some (entries.Zero (Data 2 12))) ∷
-    Unit (Some (entries.Zero (Data 2 13))) ∷
-    Unit (Some (entries.Zero (Data 2 14))) ∷
-    Unit (Some (entries.Zero (Data 2 15))) ∷
-    Unit (Some (entries.Zero (Data 2 16))) ∷
-    Unit (Some (entries.Zero (Data 2 17))) ∷
-    Unit (Some (entries.Zero (Data 2 18))) ∷
-    Unit (Some (entries.Zero (Data 2 19))) ∷
-    Unit (Some (entries.Zero (Data 2 20))) ∷
-    Unit (Some (entries.Zero (Data 2 21))) ∷
-    Unit (Some (entries.Zero (Data 2 22))) ∷
-    Unit (Some (entries.Zero (Data 2 0))) ∷
-    Unit (Some (entries.Zero (Data 2 1))) ∷
-    Unit (Some (entries.Zero (Data 1 2))) ∷
-    Unit (Some (entries.Zero (Data 1 3))) ∷
-    Unit (Some (entries.Zero (Data 1 4))) ∷
-    Unit (Some (entries.Zero (Data 1 5))) ∷
-    Unit (Some (entries.Zero (Data 1 6))) ∷
-    Unit (Some (entries.Zero (Data 1 7))) ∷
-    Unit (Some (entries.Zero (Data 1 8))) ∷
-    Unit (Some (entries.Zero (Data 1 9))) ∷
-    Unit (Some (entries.Zero (Data 1 10))) ∷
-    Unit (Some (entries.Zero (Data 1 11))) ∷
-    Unit (Some (entries.Zero (Data 1 12))) ∷
-    Unit (Some (entries.Zero (Data 1 13))) ∷
-    Unit (Some (entries.Zero (Data 1 14))) ∷
-    Unit (Some (entries.Zero (Data 1 15))) ∷
-    Unit (Some (entries.Zero (Data 1 16))) ∷
-    Unit (Some (entries.Zero (Data 1 17))) ∷
-    Unit (Some (entries.Zero (Data 1 18))) ∷
-    Unit (Some (entries.Zero (Data 1 19))) ∷
-    Unit (Some (entries.Zero (Data 1 20))) ∷
-    Unit (Some (entries.Zero (Data 1 21))) ∷
-    Unit (Some (entries.Zero (Data 1 22))) ∷
-    Unit (Some (entries.Zero (Data 1 0))) ∷
-    Unit (Some (entries.Zero (Data 1 1))) ∷
-    Unit (Some (entries.Zero (Data 1 23))) ∷
-    Unit (Some (entries.Zero (Data 1 24))) ∷
-    Unit (Some (entries.Zero (Data 2 23))) ∷
-    Unit (Some (entries.Zero (Data 2 24))) ∷
-    Unit (Some (entries.Get (Data 2 0) 0 2)) ∷
-    Unit (Some entries.Done) ∷
-    Unit (Some (entries.Reclaim (Data 2 1))) ∷
-    Unit (Some (entries.Get (Data 2 14) 14 1)) ∷
-    Unit (Some entries.Done) ∷
-    Unit (Some (entries.Get (Data 2 15) 15 1)) ∷
-    Unit (Some entries.Done) ∷
-    Unit (Some (entries.Get (Data 2 16) 16 1)) ∷
-    Unit (Some entries.Done) ∷
-    Unit (Some (entries.Get (Data 2 17) 17 1)) ∷
-    Unit (Some entries.Done) ∷
-    Unit (Some (entries.Get (Data 2 18) 18 1)) ∷
-    Unit (Some entries.Done) ∷
-    Unit (Some (entries.Get (Data 2 19) 19 1)) ∷
-    Unit (Some entries.Done) ∷
-    Unit (Some (entries.Hands 1)) ∷
-    Unit (Some (entries.Hands 1)) ∷
-    Unit (Some (entries.Hands 1)) ∷
-    Unit (Some (entries.Hands 1)) ∷
-    Unit (Some (entries.Hands 1)) ∷
-    Unit (Some entries.Done) ∷
-    Unit (Some (entries.Get (Data 2 20) 20 1)) ∷
-    Unit (Some entries.Done) ∷
-    Unit (Some (entries.Hands 1)) ∷
-    Unit (Some entries.Done) ∷
-    Unit (Some (entries.Get (Data 2 21) 21 1)) ∷
-    Unit (Some entries.Done) ∷
-    Unit (Some (entries.Hands 1)) ∷
-    Unit (Some (entries.Hands 1)) ∷
-    Unit (Some entries.Done) ∷
-    Unit (Some (entries.Get (Data 2 22) 22 3)) ∷
-    Unit (Some entries.Done) ∷
-    Unit (Some (entries.Reclaim (Data 2 23))) ∷
-    Unit (Some (entries.Reclaim (Data 2 24))) ∷
-    Unit (Some (entries.Reclaim (Stack 2 0))) ∷
-    Unit (Some (entries.Reclaim (Text 1 0))) ∷
-    Unit (Some (entries.Zero (Data 3 25))) ∷
-    Unit (Some (entries.Zero (Data 3 26))) ∷
-    Unit (Some (entries.Zero (Data 3 27))) ∷
+    Made (Some (entries.Zero (Data 2 2))) ∷
+    Made (Some (entries.Zero (Data 2 3))) ∷
+    Made (Some (entries.Zero (Data 2 4))) ∷
+    Made (Some (entries.Zero (Data 2 5))) ∷
+    Made (Some (entries.Zero (Data 2 6))) ∷
+    Made (Some (entries.Zero (Data 2 7))) ∷
+    Made (Some (entries.Zero (Data 2 8))) ∷
+    Made (Some (entries.Zero (Data 2 9))) ∷
+    Made (Some (entries.Zero (Data 2 10))) ∷
+    Made (Some (entries.Zero (Data 2 11))) ∷
+    Made (Some (entries.Zero (Data 2 12))) ∷
+    Made (Some (entries.Zero (Data 2 13))) ∷
+    Made (Some (entries.Zero (Data 2 14))) ∷
+    Made (Some (entries.Zero (Data 2 15))) ∷
+    Made (Some (entries.Zero (Data 2 16))) ∷
+    Made (Some (entries.Zero (Data 2 17))) ∷
+    Made (Some (entries.Zero (Data 2 18))) ∷
+    Made (Some (entries.Zero (Data 2 19))) ∷
+    Made (Some (entries.Zero (Data 2 20))) ∷
+    Made (Some (entries.Zero (Data 2 21))) ∷
+    Made (Some (entries.Zero (Data 2 22))) ∷
+    Made (Some (entries.Zero (Data 2 0))) ∷
+    Made (Some (entries.Zero (Data 2 1))) ∷
+    Made (Some (entries.Zero (Data 1 2))) ∷
+    Made (Some (entries.Zero (Data 1 3))) ∷
+    Made (Some (entries.Zero (Data 1 4))) ∷
+    Made (Some (entries.Zero (Data 1 5))) ∷
+    Made (Some (entries.Zero (Data 1 6))) ∷
+    Made (Some (entries.Zero (Data 1 7))) ∷
+    Made (Some (entries.Zero (Data 1 8))) ∷
+    Made (Some (entries.Zero (Data 1 9))) ∷
+    Made (Some (entries.Zero (Data 1 10))) ∷
+    Made (Some (entries.Zero (Data 1 11))) ∷
+    Made (Some (entries.Zero (Data 1 12))) ∷
+    Made (Some (entries.Zero (Data 1 13))) ∷
+    Made (Some (entries.Zero (Data 1 14))) ∷
+    Made (Some (entries.Zero (Data 1 15))) ∷
+    Made (Some (entries.Zero (Data 1 16))) ∷
+    Made (Some (entries.Zero (Data 1 17))) ∷
+    Made (Some (entries.Zero (Data 1 18))) ∷
+    Made (Some (entries.Zero (Data 1 19))) ∷
+    Made (Some (entries.Zero (Data 1 20))) ∷
+    Made (Some (entries.Zero (Data 1 21))) ∷
+    Made (Some (entries.Zero (Data 1 22))) ∷
+    Made (Some (entries.Zero (Data 1 0))) ∷
+    Made (Some (entries.Zero (Data 1 1))) ∷
+    Made (Some (entries.Zero (Data 1 23))) ∷
+    Made (Some (entries.Zero (Data 1 24))) ∷
+    Made (Some (entries.Zero (Data 2 23))) ∷
+    Made (Some (entries.Zero (Data 2 24))) ∷
+    Made (Some (entries.Get (Data 2 0) 0 2)) ∷
+    Made (Some entries.Done) ∷
+    Made (Some (entries.Reclaim (Data 2 1))) ∷
+    Made (Some (entries.Get (Data 2 14) 14 1)) ∷
+    Made (Some entries.Done) ∷
+    Made (Some (entries.Get (Data 2 15) 15 1)) ∷
+    Made (Some entries.Done) ∷
+    Made (Some (entries.Get (Data 2 16) 16 1)) ∷
+    Made (Some entries.Done) ∷
+    Made (Some (entries.Get (Data 2 17) 17 1)) ∷
+    Made (Some entries.Done) ∷
+    Made (Some (entries.Get (Data 2 18) 18 1)) ∷
+    Made (Some entries.Done) ∷
+    Made (Some (entries.Get (Data 2 19) 19 1)) ∷
+    Made (Some entries.Done) ∷
+    Made (Some (entries.Hands 1)) ∷
+    Made (Some (entries.Hands 1)) ∷
+    Made (Some (entries.Hands 1)) ∷
+    Made (Some (entries.Hands 1)) ∷
+    Made (Some (entries.Hands 1)) ∷
+    Made (Some entries.Done) ∷
+    Made (Some (entries.Get (Data 2 20) 20 1)) ∷
+    Made (Some entries.Done) ∷
+    Made (Some (entries.Hands 1)) ∷
+    Made (Some entries.Done) ∷
+    Made (Some (entries.Get (Data 2 21) 21 1)) ∷
+    Made (Some entries.Done) ∷
+    Made (Some (entries.Hands 1)) ∷
+    Made (Some (entries.Hands 1)) ∷
+    Made (Some entries.Done) ∷
+    Made (Some (entries.Get (Data 2 22) 22 3)) ∷
+    Made (Some entries.Done) ∷
+    Made (Some (entries.Reclaim (Data 2 23))) ∷
+    Made (Some (entries.Reclaim (Data 2 24))) ∷
+    Made (Some (entries.Reclaim (Stack 2 0))) ∷
+    Made (Some (entries.Reclaim (Text 1 0))) ∷
+    Made (Some (entries.Zero (Data 3 25))) ∷
+    Made (Some (entries.Zero (Data 3 26))) ∷
+    Made (Some (entries.Zero (Data 3 27))) ∷
     Ends last ∷ []
 
 forks_with_few_frames : walk images operations (starting images (1 ∷ 1 ∷ []) 65) ≡ seen

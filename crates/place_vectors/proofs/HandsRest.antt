@@ -7,7 +7,7 @@ use Rattle.vm_facts.specs.declared.entry.Entry.TheVariants as entries
 use Rattle.aout_image.specs.declared.Kind.TheVariants.{Paged}
 use Rattle.swap_dmap.specs.Chunks.{chunk, chunk_start, lowest, chunk_reached, counted_from, spot, text_spot}
 use Rattle.flat_state.specs.Flat.{NamedImage}
-use Rattle.place_vectors.proofs.Walk.{Operation, Fixed, Serve, Wants, Seen, Unit, Moves, named, starting, walk, chosen}
+use Rattle.place_vectors.proofs.Walk.{Operation, Fixed, Serve, Wants, Seen, Made, Moves, named, starting, walk, chosen}
 
 images : List NamedImage
 images = named Paged 1024 0 49152 0 ∷ []
@@ -76,60 +76,60 @@ operations =
 
 seen : List Seen
 seen =
-    Unit (Some (entries.Get (Text 1 0) 0 1)) ∷
-    Unit None ∷
-    Unit (Some (entries.Zero (Data 1 0))) ∷
-    Unit (Some (entries.Zero (Data 1 1))) ∷
-    Unit (Some (entries.Zero (Data 1 2))) ∷
-    Unit (Some (entries.Zero (Data 1 3))) ∷
-    Unit (Some (entries.Zero (Data 1 4))) ∷
-    Unit (Some (entries.Zero (Data 1 5))) ∷
-    Unit (Some (entries.Zero (Data 1 6))) ∷
-    Unit (Some (entries.Zero (Data 1 7))) ∷
-    Unit (Some (entries.Zero (Data 1 8))) ∷
-    Unit (Some (entries.Zero (Data 1 9))) ∷
-    Unit (Some (entries.Zero (Data 1 10))) ∷
-    Unit (Some (entries.Zero (Data 1 11))) ∷
-    Unit (Some (entries.Zero (Data 1 12))) ∷
-    Unit (Some (entries.Zero (Data 1 13))) ∷
-    Unit (Some (entries.Zero (Data 1 14))) ∷
-    Unit (Some (entries.Zero (Data 1 15))) ∷
-    Unit (Some (entries.Zero (Data 1 16))) ∷
-    Unit (Some (entries.Zero (Data 1 17))) ∷
-    Unit (Some (entries.Zero (Data 1 18))) ∷
-    Unit (Some (entries.Zero (Data 1 19))) ∷
-    Unit (Some (entries.Zero (Data 1 20))) ∷
-    Unit (Some (entries.Zero (Data 1 21))) ∷
-    Unit (Some (entries.Zero (Data 1 22))) ∷
-    Unit (Some (entries.Zero (Data 1 23))) ∷
-    Unit (Some (entries.Zero (Data 1 24))) ∷
-    Unit (Some (entries.Zero (Data 1 25))) ∷
-    Unit (Some (entries.Zero (Data 1 26))) ∷
-    Unit (Some (entries.Zero (Data 1 27))) ∷
-    Unit (Some (entries.Zero (Data 1 28))) ∷
-    Unit (Some (entries.Zero (Data 1 29))) ∷
-    Unit (Some (entries.Zero (Data 1 30))) ∷
-    Unit (Some (entries.Zero (Data 1 31))) ∷
-    Unit (Some (entries.Zero (Data 1 32))) ∷
-    Unit (Some (entries.Zero (Data 1 33))) ∷
-    Unit (Some (entries.Zero (Data 1 34))) ∷
-    Unit (Some (entries.Zero (Data 1 35))) ∷
-    Unit (Some (entries.Zero (Data 1 36))) ∷
-    Unit (Some (entries.Zero (Data 1 37))) ∷
-    Unit (Some (entries.Zero (Data 1 38))) ∷
-    Unit (Some (entries.Zero (Data 1 39))) ∷
-    Unit (Some (entries.Zero (Data 1 40))) ∷
-    Unit (Some (entries.Zero (Data 1 41))) ∷
-    Unit (Some (entries.Zero (Data 1 42))) ∷
-    Unit (Some (entries.Zero (Data 1 43))) ∷
-    Unit (Some (entries.Zero (Data 1 44))) ∷
-    Unit (Some (entries.Zero (Data 1 45))) ∷
-    Unit (Some (entries.Zero (Data 1 46))) ∷
-    Unit (Some (entries.Zero (Data 1 47))) ∷
+    Made (Some (entries.Get (Text 1 0) 0 1)) ∷
+    Made None ∷
+    Made (Some (entries.Zero (Data 1 0))) ∷
+    Made (Some (entries.Zero (Data 1 1))) ∷
+    Made (Some (entries.Zero (Data 1 2))) ∷
+    Made (Some (entries.Zero (Data 1 3))) ∷
+    Made (Some (entries.Zero (Data 1 4))) ∷
+    Made (Some (entries.Zero (Data 1 5))) ∷
+    Made (Some (entries.Zero (Data 1 6))) ∷
+    Made (Some (entries.Zero (Data 1 7))) ∷
+    Made (Some (entries.Zero (Data 1 8))) ∷
+    Made (Some (entries.Zero (Data 1 9))) ∷
+    Made (Some (entries.Zero (Data 1 10))) ∷
+    Made (Some (entries.Zero (Data 1 11))) ∷
+    Made (Some (entries.Zero (Data 1 12))) ∷
+    Made (Some (entries.Zero (Data 1 13))) ∷
+    Made (Some (entries.Zero (Data 1 14))) ∷
+    Made (Some (entries.Zero (Data 1 15))) ∷
+    Made (Some (entries.Zero (Data 1 16))) ∷
+    Made (Some (entries.Zero (Data 1 17))) ∷
+    Made (Some (entries.Zero (Data 1 18))) ∷
+    Made (Some (entries.Zero (Data 1 19))) ∷
+    Made (Some (entries.Zero (Data 1 20))) ∷
+    Made (Some (entries.Zero (Data 1 21))) ∷
+    Made (Some (entries.Zero (Data 1 22))) ∷
+    Made (Some (entries.Zero (Data 1 23))) ∷
+    Made (Some (entries.Zero (Data 1 24))) ∷
+    Made (Some (entries.Zero (Data 1 25))) ∷
+    Made (Some (entries.Zero (Data 1 26))) ∷
+    Made (Some (entries.Zero (Data 1 27))) ∷
+    Made (Some (entries.Zero (Data 1 28))) ∷
+    Made (Some (entries.Zero (Data 1 29))) ∷
+    Made (Some (entries.Zero (Data 1 30))) ∷
+    Made (Some (entries.Zero (Data 1 31))) ∷
+    Made (Some (entries.Zero (Data 1 32))) ∷
+    Made (Some (entries.Zero (Data 1 33))) ∷
+    Made (Some (entries.Zero (Data 1 34))) ∷
+    Made (Some (entries.Zero (Data 1 35))) ∷
+    Made (Some (entries.Zero (Data 1 36))) ∷
+    Made (Some (entries.Zero (Data 1 37))) ∷
+    Made (Some (entries.Zero (Data 1 38))) ∷
+    Made (Some (entries.Zero (Data 1 39))) ∷
+    Made (Some (entries.Zero (Data 1 40))) ∷
+    Made (Some (entries.Zero (Data 1 41))) ∷
+    Made (Some (entries.Zero (Data 1 42))) ∷
+    Made (Some (entries.Zero (Data 1 43))) ∷
+    Made (Some (entries.Zero (Data 1 44))) ∷
+    Made (Some (entries.Zero (Data 1 45))) ∷
+    Made (Some (entries.Zero (Data 1 46))) ∷
+    Made (Some (entries.Zero (Data 1 47))) ∷
     Moves true ∷
     Moves true ∷
     Moves false ∷
-    Unit (Some (entries.Reclaim (Data 1 14))) ∷ []
+    Made (Some (entries.Reclaim (Data 1 14))) ∷ []
 
 hands_rest : chosen (walk images operations (starting images (1 ∷ []) 64)) ≡ seen
 unfolding images operations seen spot chunk_reached lowest chunk_start chunk counted_from text_spot

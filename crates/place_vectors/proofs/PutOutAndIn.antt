@@ -10,7 +10,7 @@ use Rattle.flat_state.specs.Flat.{NamedImage}
 use Rattle.page_model.specs.Pages.{Zeros}
 use Rattle.page_model.specs.Placement.{Placement}
 use Rattle.page_model.specs.Swapper.{Out}
-use Rattle.place_vectors.proofs.Walk.{Operation, Fixed, Serve, PutsOut, Choose, Seen, Unit, Chose, Ends, named, runner, slot, empty, frames, starting, walk}
+use Rattle.place_vectors.proofs.Walk.{Operation, Fixed, Serve, PutsOut, Choose, Seen, Made, Chose, Ends, named, runner, slot, empty, frames, starting, walk}
 
 images : List NamedImage
 images =
@@ -160,77 +160,77 @@ last = record {
 
 seen : List Seen
 seen =
-    Unit (Some (entries.Get (Text 1 0) 0 1)) ∷
-    Unit None ∷
-    Unit (Some (entries.Zero (Data 1 0))) ∷
-    Unit (Some (entries.Zero (Data 1 1))) ∷
-    Unit (Some (entries.Zero (Data 1 2))) ∷
-    Unit (Some (entries.Zero (Data 1 3))) ∷
-    Unit (Some (entries.Zero (Data 1 4))) ∷
-    Unit (Some (entries.Zero (Data 1 5))) ∷
-    Unit (Some (entries.Zero (Data 1 6))) ∷
-    Unit (Some (entries.Zero (Data 1 7))) ∷
-    Unit (Some (entries.Zero (Data 1 8))) ∷
-    Unit (Some (entries.Zero (Data 1 9))) ∷
-    Unit (Some (entries.Zero (Data 1 10))) ∷
-    Unit (Some (entries.Zero (Data 1 11))) ∷
-    Unit (Some (entries.Zero (Data 1 12))) ∷
-    Unit (Some (entries.Zero (Data 1 13))) ∷
-    Unit (Some (entries.Zero (Data 1 14))) ∷
-    Unit (Some (entries.Zero (Data 1 15))) ∷
-    Unit (Some (entries.Zero (Data 1 16))) ∷
-    Unit (Some (entries.Zero (Data 1 17))) ∷
-    Unit (Some (entries.Zero (Data 1 18))) ∷
-    Unit (Some (entries.Zero (Data 1 19))) ∷
-    Unit (Some (entries.Zero (Data 1 20))) ∷
-    Unit (Some (entries.Zero (Data 1 21))) ∷
-    Unit (Some (entries.Zero (Data 1 22))) ∷
-    Unit (Some (entries.Zero (Data 1 23))) ∷
-    Unit (Some (entries.Zero (Data 1 24))) ∷
-    Unit (Some (entries.Zero (Data 1 25))) ∷
-    Unit (Some (entries.Zero (Data 1 26))) ∷
-    Unit (Some (entries.Zero (Data 1 27))) ∷
-    Unit (Some (entries.Zero (Data 1 28))) ∷
-    Unit (Some (entries.Zero (Data 1 29))) ∷
-    Unit (Some (entries.Zero (Data 1 30))) ∷
-    Unit (Some (entries.Zero (Data 1 31))) ∷
-    Unit (Some (entries.Zero (Data 1 32))) ∷
-    Unit (Some (entries.Zero (Data 1 33))) ∷
-    Unit (Some (entries.Zero (Data 1 34))) ∷
-    Unit (Some (entries.Zero (Data 1 35))) ∷
-    Unit (Some (entries.Zero (Data 1 36))) ∷
-    Unit (Some (entries.Zero (Data 1 37))) ∷
-    Unit (Some (entries.Zero (Data 1 38))) ∷
-    Unit (Some (entries.Zero (Data 1 39))) ∷
-    Unit (Some (entries.Zero (Data 1 40))) ∷
-    Unit (Some (entries.Zero (Data 1 41))) ∷
-    Unit (Some (entries.Zero (Data 1 42))) ∷
-    Unit (Some (entries.Zero (Data 1 43))) ∷
-    Unit (Some (entries.Zero (Data 1 44))) ∷
-    Unit (Some (entries.Zero (Data 1 45))) ∷
-    Unit (Some (entries.Zero (Data 1 46))) ∷
-    Unit (Some (entries.Zero (Data 1 47))) ∷
-    Unit (Some (entries.Zero (Data 1 48))) ∷
-    Unit (Some (entries.Zero (Data 1 49))) ∷
-    Unit (Some (entries.Zero (Data 1 50))) ∷
-    Unit (Some (entries.Zero (Data 1 51))) ∷
-    Unit (Some (entries.Zero (Data 1 52))) ∷
-    Unit (Some (entries.Zero (Data 1 53))) ∷
-    Unit (Some (entries.Zero (Data 1 54))) ∷
-    Unit (Some (entries.Zero (Data 1 55))) ∷
+    Made (Some (entries.Get (Text 1 0) 0 1)) ∷
+    Made None ∷
+    Made (Some (entries.Zero (Data 1 0))) ∷
+    Made (Some (entries.Zero (Data 1 1))) ∷
+    Made (Some (entries.Zero (Data 1 2))) ∷
+    Made (Some (entries.Zero (Data 1 3))) ∷
+    Made (Some (entries.Zero (Data 1 4))) ∷
+    Made (Some (entries.Zero (Data 1 5))) ∷
+    Made (Some (entries.Zero (Data 1 6))) ∷
+    Made (Some (entries.Zero (Data 1 7))) ∷
+    Made (Some (entries.Zero (Data 1 8))) ∷
+    Made (Some (entries.Zero (Data 1 9))) ∷
+    Made (Some (entries.Zero (Data 1 10))) ∷
+    Made (Some (entries.Zero (Data 1 11))) ∷
+    Made (Some (entries.Zero (Data 1 12))) ∷
+    Made (Some (entries.Zero (Data 1 13))) ∷
+    Made (Some (entries.Zero (Data 1 14))) ∷
+    Made (Some (entries.Zero (Data 1 15))) ∷
+    Made (Some (entries.Zero (Data 1 16))) ∷
+    Made (Some (entries.Zero (Data 1 17))) ∷
+    Made (Some (entries.Zero (Data 1 18))) ∷
+    Made (Some (entries.Zero (Data 1 19))) ∷
+    Made (Some (entries.Zero (Data 1 20))) ∷
+    Made (Some (entries.Zero (Data 1 21))) ∷
+    Made (Some (entries.Zero (Data 1 22))) ∷
+    Made (Some (entries.Zero (Data 1 23))) ∷
+    Made (Some (entries.Zero (Data 1 24))) ∷
+    Made (Some (entries.Zero (Data 1 25))) ∷
+    Made (Some (entries.Zero (Data 1 26))) ∷
+    Made (Some (entries.Zero (Data 1 27))) ∷
+    Made (Some (entries.Zero (Data 1 28))) ∷
+    Made (Some (entries.Zero (Data 1 29))) ∷
+    Made (Some (entries.Zero (Data 1 30))) ∷
+    Made (Some (entries.Zero (Data 1 31))) ∷
+    Made (Some (entries.Zero (Data 1 32))) ∷
+    Made (Some (entries.Zero (Data 1 33))) ∷
+    Made (Some (entries.Zero (Data 1 34))) ∷
+    Made (Some (entries.Zero (Data 1 35))) ∷
+    Made (Some (entries.Zero (Data 1 36))) ∷
+    Made (Some (entries.Zero (Data 1 37))) ∷
+    Made (Some (entries.Zero (Data 1 38))) ∷
+    Made (Some (entries.Zero (Data 1 39))) ∷
+    Made (Some (entries.Zero (Data 1 40))) ∷
+    Made (Some (entries.Zero (Data 1 41))) ∷
+    Made (Some (entries.Zero (Data 1 42))) ∷
+    Made (Some (entries.Zero (Data 1 43))) ∷
+    Made (Some (entries.Zero (Data 1 44))) ∷
+    Made (Some (entries.Zero (Data 1 45))) ∷
+    Made (Some (entries.Zero (Data 1 46))) ∷
+    Made (Some (entries.Zero (Data 1 47))) ∷
+    Made (Some (entries.Zero (Data 1 48))) ∷
+    Made (Some (entries.Zero (Data 1 49))) ∷
+    Made (Some (entries.Zero (Data 1 50))) ∷
+    Made (Some (entries.Zero (Data 1 51))) ∷
+    Made (Some (entries.Zero (Data 1 52))) ∷
+    Made (Some (entries.Zero (Data 1 53))) ∷
+    Made (Some (entries.Zero (Data 1 54))) ∷
+    Made (Some (entries.Zero (Data 1 55))) ∷
     Chose (Out 1) ∷
-    Unit (Some (entries.Put (Data 1 0) 16)) ∷
-    Unit (Some entries.Done) ∷
-    Unit (Some (entries.Put (Data 1 16) 16)) ∷
-    Unit (Some entries.Done) ∷
-    Unit (Some (entries.Put (Data 1 32) 16)) ∷
-    Unit (Some entries.Done) ∷
-    Unit (Some (entries.Put (Data 1 48) 8)) ∷
-    Unit (Some entries.Done) ∷
-    Unit (Some (entries.Put (Stack 1 0) 1)) ∷
-    Unit (Some entries.Done) ∷
-    Unit (Some (entries.SwapOut 1)) ∷
-    Unit (Some (entries.Zero (Data 1 56))) ∷
+    Made (Some (entries.Put (Data 1 0) 16)) ∷
+    Made (Some entries.Done) ∷
+    Made (Some (entries.Put (Data 1 16) 16)) ∷
+    Made (Some entries.Done) ∷
+    Made (Some (entries.Put (Data 1 32) 16)) ∷
+    Made (Some entries.Done) ∷
+    Made (Some (entries.Put (Data 1 48) 8)) ∷
+    Made (Some entries.Done) ∷
+    Made (Some (entries.Put (Stack 1 0) 1)) ∷
+    Made (Some entries.Done) ∷
+    Made (Some (entries.SwapOut 1)) ∷
+    Made (Some (entries.Zero (Data 1 56))) ∷
     Ends last ∷ []
 
 put_out_and_in : walk images operations (starting images (1 ∷ []) 64) ≡ seen

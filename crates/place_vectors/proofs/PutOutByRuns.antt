@@ -9,7 +9,7 @@ use Rattle.swap_dmap.specs.Chunks.{chunk, chunk_start, lowest, chunk_reached, co
 use Rattle.page_model.specs.Pages.{Slot, Zeros, SpacePages}
 use Rattle.page_model.specs.Placement.{Placement, Residence, Reads, FromFile}
 use Rattle.page_model.specs.Swapper.{put_out_unit}
-use Rattle.place_vectors.proofs.Walk.{PutsOut, Unit, Ends, slot, empty, frames, walk}
+use Rattle.place_vectors.proofs.Walk.{PutsOut, Made, Ends, slot, empty, frames, walk}
 
 space : ℕ → List Slot → List Slot → SpacePages
 space sid pages stack = record { sid = sid; image = 1; data_pages = pages; stack_pages = stack }
@@ -38,9 +38,9 @@ put_out_by_runs :
     (held
     (slot (Valid 1) false Zeros ∷ slot (Invalid 2) true Zeros ∷ slot (Valid 3) true Zeros ∷ slot (Valid 4) false Zeros ∷ slot (Invalid 5) true Zeros ∷ [])
     (slot (Valid 6) true Zeros ∷ []) (5 ∷ 7 ∷ 8 ∷ []) (resident false 0 ∷ []))
-    ≡ Unit (Some (entries.Put (Data 1 16) 1)) ∷ Unit (Some (entries.Put (Data 1 17) 2)) ∷ Unit (Some entries.Done) ∷
-    Unit (Some (entries.Put (Data 1 19) 1)) ∷ Unit (Some (entries.Put (Stack 1 0) 1)) ∷ Unit (Some entries.Done) ∷
-    Unit (Some (entries.SwapOut 1)) ∷
+    ≡ Made (Some (entries.Put (Data 1 16) 1)) ∷ Made (Some (entries.Put (Data 1 17) 2)) ∷ Made (Some entries.Done) ∷
+    Made (Some (entries.Put (Data 1 19) 1)) ∷ Made (Some (entries.Put (Stack 1 0) 1)) ∷ Made (Some entries.Done) ∷
+    Made (Some (entries.SwapOut 1)) ∷
     Ends
     (held
     (slot (Invalid 1) false Zeros ∷ slot (Invalid 2) false Zeros ∷ slot (Invalid 3) false Zeros ∷ slot (Invalid 4) false Zeros ∷ slot (Invalid 5) true Zeros ∷ [])

@@ -10,7 +10,7 @@ use Rattle.swap_dmap.specs.Chunks.{chunk, chunk_start, lowest, chunk_reached, co
 use Rattle.flat_state.specs.declared.change.Change.TheVariants.{Keep}
 use Rattle.page_model.specs.Pages.{Slot, Zeros, OfImage}
 use Rattle.page_model.specs.Placement.{Placement}
-use Rattle.place_vectors.proofs.Walk.{Operation, Serve, Step, Unit, Ends, slot, empty, frames, walk}
+use Rattle.place_vectors.proofs.Walk.{Operation, Serve, Step, Made, Ends, slot, empty, frames, walk}
 
 -- a space of an image, in eight frames
 placed : List Slot → List Slot → List Slot → List (Option Page) → List ℕ → Placement
@@ -38,10 +38,10 @@ reads_and_fills :
     (placed
     (slot Unfilled false OfImage ∷ slot OnSwap false Zeros ∷ slot OnSwap false Zeros ∷ slot Unfilled false Zeros ∷ [])
     (slot OnSwap false Zeros ∷ []) (slot Unfilled false Zeros ∷ slot Unfilled false Zeros ∷ []) (empty 8) (frames 1 8))
-    ≡ Unit (Some (entries.Get (Data 1 0) 0 1)) ∷ Unit (Some entries.Done) ∷ Unit (Some (entries.Get (Data 1 1) 1 2)) ∷
-    Unit (Some entries.Done) ∷ Unit (Some (entries.Get (Stack 1 0) 0 1)) ∷ Unit (Some entries.Done) ∷
-    Unit (Some (entries.Get (Text 1 0) 0 2)) ∷ Unit (Some entries.Done) ∷ Unit (Some (entries.Zero (Data 1 3))) ∷
-    Unit (Some (entries.Reclaim (Data 1 2))) ∷ Unit None ∷
+    ≡ Made (Some (entries.Get (Data 1 0) 0 1)) ∷ Made (Some entries.Done) ∷ Made (Some (entries.Get (Data 1 1) 1 2)) ∷
+    Made (Some entries.Done) ∷ Made (Some (entries.Get (Stack 1 0) 0 1)) ∷ Made (Some entries.Done) ∷
+    Made (Some (entries.Get (Text 1 0) 0 2)) ∷ Made (Some entries.Done) ∷ Made (Some (entries.Zero (Data 1 3))) ∷
+    Made (Some (entries.Reclaim (Data 1 2))) ∷ Made None ∷
     Ends
     (placed
     (slot (Valid 1) true Zeros ∷ slot (Valid 2) true Zeros ∷ slot (Valid 3) false Zeros ∷ slot (Valid 7) true Zeros ∷ [])
@@ -54,7 +54,7 @@ reads_and_fills = refl
 -- what is read from swap and not written stays clean
 read_and_not_written :
     walk [] (serve (Data 1 0) ∷ serve (Data 1 0) ∷ []) (placed (slot OnSwap false Zeros ∷ []) [] [] (empty 8) (frames 1 8))
-    ≡ Unit (Some (entries.Get (Data 1 0) 0 1)) ∷ Unit (Some entries.Done) ∷
+    ≡ Made (Some (entries.Get (Data 1 0) 0 1)) ∷ Made (Some entries.Done) ∷
     Ends (placed (slot (Valid 1) false Zeros ∷ []) [] [] (Some (Data 1 0) ∷ empty 7) (frames 2 7)) ∷ []
 unfolding placed serve spot chunk_reached lowest chunk_start chunk counted_from text_spot
 read_and_not_written = refl
@@ -66,7 +66,7 @@ frames_taken :
     (slot (Invalid 3) false Zeros ∷ slot Unfilled false Zeros ∷ slot Unfilled false Zeros ∷ slot Unfilled false Zeros ∷ [])
     [] (slot (Invalid 1) true Zeros ∷ slot (Invalid 2) false Zeros ∷ [])
     (Some (Text 1 0) ∷ Some (Text 1 1) ∷ Some (Data 1 0) ∷ empty 5) (frames 1 8))
-    ≡ Unit (Some (entries.Zero (Data 1 1))) ∷ Unit (Some (entries.Zero (Data 1 2))) ∷ Unit (Some (entries.Zero (Data 1 3))) ∷
+    ≡ Made (Some (entries.Zero (Data 1 1))) ∷ Made (Some (entries.Zero (Data 1 2))) ∷ Made (Some (entries.Zero (Data 1 3))) ∷
     Ends
     (placed
     (slot OnSwap false Zeros ∷ slot (Valid 1) true Zeros ∷ slot (Valid 2) true Zeros ∷ slot (Valid 3) true Zeros ∷ [])

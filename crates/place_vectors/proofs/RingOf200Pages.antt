@@ -8,7 +8,7 @@ use Rattle.aout_image.specs.declared.Kind.TheVariants.{Paged}
 use Rattle.swap_dmap.specs.Chunks.{chunk, chunk_start, lowest, chunk_reached, counted_from, spot, text_spot}
 use Rattle.flat_state.specs.Flat.{NamedImage}
 use Rattle.flat_state.specs.declared.change.Change.TheVariants.{Keep}
-use Rattle.place_vectors.proofs.Walk.{Operation, Fixed, Serve, Step, Seen, Unit, named, starting, walk, chosen}
+use Rattle.place_vectors.proofs.Walk.{Operation, Fixed, Serve, Step, Seen, Made, named, starting, walk, chosen}
 
 images : List NamedImage
 images = named Paged 1024 0 204800 0 ∷ []
@@ -518,467 +518,467 @@ operations =
 
 seen : List Seen
 seen =
-    Unit (Some (entries.Get (Text 1 0) 0 1)) ∷
-    Unit (Some entries.Done) ∷
-    Unit (Some (entries.Zero (Data 1 0))) ∷
-    Unit (Some (entries.Zero (Data 1 1))) ∷
-    Unit (Some (entries.Zero (Data 1 2))) ∷
-    Unit (Some (entries.Zero (Data 1 3))) ∷
-    Unit (Some (entries.Zero (Data 1 4))) ∷
-    Unit (Some (entries.Zero (Data 1 5))) ∷
-    Unit (Some (entries.Zero (Data 1 6))) ∷
-    Unit (Some (entries.Zero (Data 1 7))) ∷
-    Unit (Some (entries.Zero (Data 1 8))) ∷
-    Unit (Some (entries.Zero (Data 1 9))) ∷
-    Unit (Some (entries.Zero (Data 1 10))) ∷
-    Unit (Some (entries.Zero (Data 1 11))) ∷
-    Unit (Some (entries.Zero (Data 1 12))) ∷
-    Unit (Some (entries.Zero (Data 1 13))) ∷
-    Unit (Some (entries.Zero (Data 1 14))) ∷
-    Unit (Some (entries.Zero (Data 1 15))) ∷
-    Unit (Some (entries.Zero (Data 1 16))) ∷
-    Unit (Some (entries.Zero (Data 1 17))) ∷
-    Unit (Some (entries.Zero (Data 1 18))) ∷
-    Unit (Some (entries.Zero (Data 1 19))) ∷
-    Unit (Some (entries.Zero (Data 1 20))) ∷
-    Unit (Some (entries.Zero (Data 1 21))) ∷
-    Unit (Some (entries.Zero (Data 1 22))) ∷
-    Unit (Some (entries.Zero (Data 1 23))) ∷
-    Unit (Some (entries.Zero (Data 1 24))) ∷
-    Unit (Some (entries.Zero (Data 1 25))) ∷
-    Unit (Some (entries.Zero (Data 1 26))) ∷
-    Unit (Some (entries.Zero (Data 1 27))) ∷
-    Unit (Some (entries.Zero (Data 1 28))) ∷
-    Unit (Some (entries.Zero (Data 1 29))) ∷
-    Unit (Some (entries.Zero (Data 1 30))) ∷
-    Unit (Some (entries.Zero (Data 1 31))) ∷
-    Unit (Some (entries.Zero (Data 1 32))) ∷
-    Unit (Some (entries.Zero (Data 1 33))) ∷
-    Unit (Some (entries.Zero (Data 1 34))) ∷
-    Unit (Some (entries.Zero (Data 1 35))) ∷
-    Unit (Some (entries.Zero (Data 1 36))) ∷
-    Unit (Some (entries.Zero (Data 1 37))) ∷
-    Unit (Some (entries.Zero (Data 1 38))) ∷
-    Unit (Some (entries.Zero (Data 1 39))) ∷
-    Unit (Some (entries.Zero (Data 1 40))) ∷
-    Unit (Some (entries.Zero (Data 1 41))) ∷
-    Unit (Some (entries.Zero (Data 1 42))) ∷
-    Unit (Some (entries.Zero (Data 1 43))) ∷
-    Unit (Some (entries.Zero (Data 1 44))) ∷
-    Unit (Some (entries.Zero (Data 1 45))) ∷
-    Unit (Some (entries.Zero (Data 1 46))) ∷
-    Unit (Some (entries.Zero (Data 1 47))) ∷
-    Unit (Some (entries.Zero (Data 1 48))) ∷
-    Unit (Some (entries.Zero (Data 1 49))) ∷
-    Unit (Some (entries.Zero (Data 1 50))) ∷
-    Unit (Some (entries.Zero (Data 1 51))) ∷
-    Unit (Some (entries.Zero (Data 1 52))) ∷
-    Unit (Some (entries.Zero (Data 1 53))) ∷
-    Unit (Some (entries.Zero (Data 1 54))) ∷
-    Unit (Some (entries.Zero (Data 1 55))) ∷
-    Unit (Some (entries.Zero (Data 1 56))) ∷
-    Unit (Some (entries.Zero (Data 1 57))) ∷
-    Unit (Some (entries.Zero (Data 1 58))) ∷
-    Unit (Some (entries.Zero (Data 1 59))) ∷
-    Unit (Some (entries.Zero (Data 1 60))) ∷
-    Unit (Some (entries.Zero (Data 1 61))) ∷
-    Unit (Some (entries.Hands 1)) ∷
-    Unit (Some (entries.Hands 1)) ∷
-    Unit (Some (entries.Hands 1)) ∷
-    Unit (Some (entries.Hands 1)) ∷
-    Unit (Some (entries.Hands 1)) ∷
-    Unit (Some (entries.Hands 1)) ∷
-    Unit (Some (entries.Hands 1)) ∷
-    Unit (Some (entries.Hands 1)) ∷
-    Unit (Some (entries.Hands 1)) ∷
-    Unit (Some (entries.Hands 1)) ∷
-    Unit (Some (entries.Hands 1)) ∷
-    Unit (Some (entries.Hands 1)) ∷
-    Unit (Some (entries.Hands 1)) ∷
-    Unit (Some (entries.Hands 1)) ∷
-    Unit (Some (entries.Hands 1)) ∷
-    Unit (Some (entries.Hands 1)) ∷
-    Unit (Some (entries.Hands 1)) ∷
-    Unit (Some entries.Done) ∷
-    Unit (Some (entries.Zero (Data 1 62))) ∷
-    Unit (Some (entries.Zero (Data 1 63))) ∷
-    Unit (Some (entries.Hands 1)) ∷
-    Unit (Some (entries.Hands 1)) ∷
-    Unit (Some entries.Done) ∷
-    Unit (Some (entries.Zero (Data 1 64))) ∷
-    Unit (Some (entries.Zero (Data 1 65))) ∷
-    Unit (Some (entries.Zero (Data 1 66))) ∷
-    Unit (Some (entries.Zero (Data 1 67))) ∷
-    Unit (Some (entries.Zero (Data 1 68))) ∷
-    Unit (Some (entries.Zero (Data 1 69))) ∷
-    Unit (Some (entries.Zero (Data 1 70))) ∷
-    Unit (Some (entries.Zero (Data 1 71))) ∷
-    Unit (Some (entries.Zero (Data 1 72))) ∷
-    Unit (Some (entries.Zero (Data 1 73))) ∷
-    Unit (Some (entries.Zero (Data 1 74))) ∷
-    Unit (Some (entries.Zero (Data 1 75))) ∷
-    Unit (Some (entries.Zero (Data 1 76))) ∷
-    Unit (Some (entries.Zero (Data 1 77))) ∷
-    Unit (Some (entries.Zero (Data 1 78))) ∷
-    Unit (Some (entries.Zero (Data 1 79))) ∷
-    Unit (Some (entries.Hands 1)) ∷
-    Unit (Some (entries.Hands 1)) ∷
-    Unit (Some (entries.Hands 1)) ∷
-    Unit (Some (entries.Hands 1)) ∷
-    Unit (Some (entries.Hands 1)) ∷
-    Unit (Some (entries.Hands 1)) ∷
-    Unit (Some (entries.Hands 1)) ∷
-    Unit (Some (entries.Hands 1)) ∷
-    Unit (Some (entries.Hands 1)) ∷
-    Unit (Some (entries.Hands 1)) ∷
-    Unit (Some (entries.Hands 1)) ∷
-    Unit (Some (entries.Hands 1)) ∷
-    Unit (Some (entries.Hands 1)) ∷
-    Unit (Some (entries.Hands 1)) ∷
-    Unit (Some (entries.Hands 1)) ∷
-    Unit (Some (entries.Hands 1)) ∷
-    Unit (Some entries.Done) ∷
-    Unit (Some (entries.Zero (Data 1 80))) ∷
-    Unit (Some (entries.Zero (Data 1 81))) ∷
-    Unit (Some (entries.Zero (Data 1 82))) ∷
-    Unit (Some (entries.Zero (Data 1 83))) ∷
-    Unit (Some (entries.Zero (Data 1 84))) ∷
-    Unit (Some (entries.Zero (Data 1 85))) ∷
-    Unit (Some (entries.Zero (Data 1 86))) ∷
-    Unit (Some (entries.Zero (Data 1 87))) ∷
-    Unit (Some (entries.Zero (Data 1 88))) ∷
-    Unit (Some (entries.Zero (Data 1 89))) ∷
-    Unit (Some (entries.Zero (Data 1 90))) ∷
-    Unit (Some (entries.Zero (Data 1 91))) ∷
-    Unit (Some (entries.Zero (Data 1 92))) ∷
-    Unit (Some (entries.Zero (Data 1 93))) ∷
-    Unit (Some (entries.Zero (Data 1 94))) ∷
-    Unit (Some (entries.Zero (Data 1 95))) ∷
-    Unit (Some (entries.Hands 1)) ∷
-    Unit (Some (entries.Hands 1)) ∷
-    Unit (Some (entries.Hands 1)) ∷
-    Unit (Some (entries.Hands 1)) ∷
-    Unit (Some (entries.Hands 1)) ∷
-    Unit (Some (entries.Hands 1)) ∷
-    Unit (Some (entries.Hands 1)) ∷
-    Unit (Some (entries.Hands 1)) ∷
-    Unit (Some (entries.Hands 1)) ∷
-    Unit (Some (entries.Hands 1)) ∷
-    Unit (Some (entries.Hands 1)) ∷
-    Unit (Some (entries.Hands 1)) ∷
-    Unit (Some (entries.Hands 1)) ∷
-    Unit (Some (entries.Hands 1)) ∷
-    Unit (Some (entries.Hands 1)) ∷
-    Unit (Some (entries.Hands 1)) ∷
-    Unit (Some entries.Done) ∷
-    Unit (Some (entries.Zero (Data 1 96))) ∷
-    Unit (Some (entries.Zero (Data 1 97))) ∷
-    Unit (Some (entries.Zero (Data 1 98))) ∷
-    Unit (Some (entries.Zero (Data 1 99))) ∷
-    Unit (Some (entries.Zero (Data 1 100))) ∷
-    Unit (Some (entries.Zero (Data 1 101))) ∷
-    Unit (Some (entries.Zero (Data 1 102))) ∷
-    Unit (Some (entries.Zero (Data 1 103))) ∷
-    Unit (Some (entries.Zero (Data 1 104))) ∷
-    Unit (Some (entries.Zero (Data 1 105))) ∷
-    Unit (Some (entries.Zero (Data 1 106))) ∷
-    Unit (Some (entries.Zero (Data 1 107))) ∷
-    Unit (Some (entries.Zero (Data 1 108))) ∷
-    Unit (Some (entries.Zero (Data 1 109))) ∷
-    Unit (Some (entries.Hands 1)) ∷
-    Unit (Some (entries.Hands 1)) ∷
-    Unit (Some (entries.Hands 1)) ∷
-    Unit (Some (entries.Hands 1)) ∷
-    Unit (Some (entries.Hands 1)) ∷
-    Unit (Some (entries.Hands 1)) ∷
-    Unit (Some (entries.Hands 1)) ∷
-    Unit (Some (entries.Hands 1)) ∷
-    Unit (Some (entries.Hands 1)) ∷
-    Unit (Some (entries.Hands 1)) ∷
-    Unit (Some (entries.Hands 1)) ∷
-    Unit (Some (entries.Hands 1)) ∷
-    Unit (Some (entries.Hands 1)) ∷
-    Unit (Some (entries.Hands 1)) ∷
-    Unit (Some entries.Done) ∷
-    Unit (Some (entries.Zero (Data 1 110))) ∷
-    Unit (Some (entries.Hands 1)) ∷
-    Unit (Some (entries.Hands 1)) ∷
-    Unit (Some entries.Done) ∷
-    Unit (Some (entries.Zero (Data 1 111))) ∷
-    Unit (Some (entries.Zero (Data 1 112))) ∷
-    Unit (Some (entries.Zero (Data 1 113))) ∷
-    Unit (Some (entries.Zero (Data 1 114))) ∷
-    Unit (Some (entries.Zero (Data 1 115))) ∷
-    Unit (Some (entries.Zero (Data 1 116))) ∷
-    Unit (Some (entries.Zero (Data 1 117))) ∷
-    Unit (Some (entries.Zero (Data 1 118))) ∷
-    Unit (Some (entries.Zero (Data 1 119))) ∷
-    Unit (Some (entries.Zero (Data 1 120))) ∷
-    Unit (Some (entries.Zero (Data 1 121))) ∷
-    Unit (Some (entries.Zero (Data 1 122))) ∷
-    Unit (Some (entries.Zero (Data 1 123))) ∷
-    Unit (Some (entries.Zero (Data 1 124))) ∷
-    Unit (Some (entries.Hands 1)) ∷
-    Unit (Some (entries.Hands 1)) ∷
-    Unit (Some (entries.Hands 1)) ∷
-    Unit (Some (entries.Hands 1)) ∷
-    Unit (Some (entries.Hands 1)) ∷
-    Unit (Some (entries.Hands 1)) ∷
-    Unit (Some (entries.Hands 1)) ∷
-    Unit (Some (entries.Hands 1)) ∷
-    Unit (Some (entries.Hands 1)) ∷
-    Unit (Some (entries.Hands 1)) ∷
-    Unit (Some (entries.Hands 1)) ∷
-    Unit (Some (entries.Hands 1)) ∷
-    Unit (Some (entries.Hands 1)) ∷
-    Unit (Some (entries.Hands 1)) ∷
-    Unit (Some entries.Done) ∷
-    Unit (Some (entries.Zero (Data 1 125))) ∷
-    Unit (Some (entries.Zero (Data 1 126))) ∷
-    Unit (Some (entries.Zero (Data 1 127))) ∷
-    Unit (Some (entries.Zero (Data 1 128))) ∷
-    Unit (Some (entries.Zero (Data 1 129))) ∷
-    Unit (Some (entries.Zero (Data 1 130))) ∷
-    Unit (Some (entries.Zero (Data 1 131))) ∷
-    Unit (Some (entries.Zero (Data 1 132))) ∷
-    Unit (Some (entries.Zero (Data 1 133))) ∷
-    Unit (Some (entries.Zero (Data 1 134))) ∷
-    Unit (Some (entries.Zero (Data 1 135))) ∷
-    Unit (Some (entries.Zero (Data 1 136))) ∷
-    Unit (Some (entries.Zero (Data 1 137))) ∷
-    Unit (Some (entries.Zero (Data 1 138))) ∷
-    Unit (Some (entries.Zero (Data 1 139))) ∷
-    Unit (Some (entries.Zero (Data 1 140))) ∷
-    Unit (Some (entries.Hands 1)) ∷
-    Unit (Some (entries.Hands 1)) ∷
-    Unit (Some (entries.Hands 1)) ∷
-    Unit (Some (entries.Hands 1)) ∷
-    Unit (Some (entries.Hands 1)) ∷
-    Unit (Some (entries.Hands 1)) ∷
-    Unit (Some (entries.Hands 1)) ∷
-    Unit (Some (entries.Hands 1)) ∷
-    Unit (Some (entries.Hands 1)) ∷
-    Unit (Some (entries.Hands 1)) ∷
-    Unit (Some (entries.Hands 1)) ∷
-    Unit (Some (entries.Hands 1)) ∷
-    Unit (Some (entries.Hands 1)) ∷
-    Unit (Some (entries.Hands 1)) ∷
-    Unit (Some (entries.Hands 1)) ∷
-    Unit (Some (entries.Hands 1)) ∷
-    Unit (Some entries.Done) ∷
-    Unit (Some (entries.Zero (Data 1 141))) ∷
-    Unit (Some (entries.Zero (Data 1 142))) ∷
-    Unit (Some (entries.Zero (Data 1 143))) ∷
-    Unit (Some (entries.Zero (Data 1 144))) ∷
-    Unit (Some (entries.Zero (Data 1 145))) ∷
-    Unit (Some (entries.Zero (Data 1 146))) ∷
-    Unit (Some (entries.Zero (Data 1 147))) ∷
-    Unit (Some (entries.Zero (Data 1 148))) ∷
-    Unit (Some (entries.Zero (Data 1 149))) ∷
-    Unit (Some (entries.Zero (Data 1 150))) ∷
-    Unit (Some (entries.Zero (Data 1 151))) ∷
-    Unit (Some (entries.Zero (Data 1 152))) ∷
-    Unit (Some (entries.Zero (Data 1 153))) ∷
-    Unit (Some (entries.Zero (Data 1 154))) ∷
-    Unit (Some (entries.Zero (Data 1 155))) ∷
-    Unit (Some (entries.Zero (Data 1 156))) ∷
-    Unit (Some (entries.Hands 1)) ∷
-    Unit (Some (entries.Hands 1)) ∷
-    Unit (Some (entries.Hands 1)) ∷
-    Unit (Some (entries.Hands 1)) ∷
-    Unit (Some (entries.Hands 1)) ∷
-    Unit (Some (entries.Hands 1)) ∷
-    Unit (Some (entries.Hands 1)) ∷
-    Unit (Some (entries.Hands 1)) ∷
-    Unit (Some (entries.Hands 1)) ∷
-    Unit (Some (entries.Hands 1)) ∷
-    Unit (Some (entries.Hands 1)) ∷
-    Unit (Some (entries.Hands 1)) ∷
-    Unit (Some (entries.Hands 1)) ∷
-    Unit (Some (entries.Hands 1)) ∷
-    Unit (Some (entries.Hands 1)) ∷
-    Unit (Some (entries.Hands 1)) ∷
-    Unit (Some entries.Done) ∷
-    Unit (Some (entries.Zero (Data 1 157))) ∷
-    Unit (Some (entries.Zero (Data 1 158))) ∷
-    Unit (Some (entries.Zero (Data 1 159))) ∷
-    Unit (Some (entries.Zero (Data 1 160))) ∷
-    Unit (Some (entries.Zero (Data 1 161))) ∷
-    Unit (Some (entries.Zero (Data 1 162))) ∷
-    Unit (Some (entries.Zero (Data 1 163))) ∷
-    Unit (Some (entries.Zero (Data 1 164))) ∷
-    Unit (Some (entries.Zero (Data 1 165))) ∷
-    Unit (Some (entries.Zero (Data 1 166))) ∷
-    Unit (Some (entries.Zero (Data 1 167))) ∷
-    Unit (Some (entries.Zero (Data 1 168))) ∷
-    Unit (Some (entries.Zero (Data 1 169))) ∷
-    Unit (Some (entries.Zero (Data 1 170))) ∷
-    Unit (Some (entries.Zero (Data 1 171))) ∷
-    Unit (Some (entries.Zero (Data 1 172))) ∷
-    Unit (Some (entries.Hands 1)) ∷
-    Unit (Some (entries.Hands 1)) ∷
-    Unit (Some (entries.Hands 1)) ∷
-    Unit (Some (entries.Hands 1)) ∷
-    Unit (Some (entries.Hands 1)) ∷
-    Unit (Some (entries.Hands 1)) ∷
-    Unit (Some (entries.Hands 1)) ∷
-    Unit (Some (entries.Hands 1)) ∷
-    Unit (Some (entries.Hands 1)) ∷
-    Unit (Some (entries.Hands 1)) ∷
-    Unit (Some (entries.Hands 1)) ∷
-    Unit (Some (entries.Hands 1)) ∷
-    Unit (Some (entries.Hands 1)) ∷
-    Unit (Some (entries.Hands 1)) ∷
-    Unit (Some (entries.Hands 1)) ∷
-    Unit (Some (entries.Hands 1)) ∷
-    Unit (Some entries.Done) ∷
-    Unit (Some (entries.Zero (Data 1 173))) ∷
-    Unit (Some (entries.Zero (Data 1 174))) ∷
-    Unit (Some (entries.Hands 1)) ∷
-    Unit (Some (entries.Hands 1)) ∷
-    Unit (Some (entries.Hands 1)) ∷
-    Unit (Some entries.Done) ∷
-    Unit (Some (entries.Zero (Data 1 175))) ∷
-    Unit (Some (entries.Zero (Data 1 176))) ∷
-    Unit (Some (entries.Zero (Data 1 177))) ∷
-    Unit (Some (entries.Zero (Data 1 178))) ∷
-    Unit (Some (entries.Zero (Data 1 179))) ∷
-    Unit (Some (entries.Zero (Data 1 180))) ∷
-    Unit (Some (entries.Zero (Data 1 181))) ∷
-    Unit (Some (entries.Zero (Data 1 182))) ∷
-    Unit (Some (entries.Zero (Data 1 183))) ∷
-    Unit (Some (entries.Zero (Data 1 184))) ∷
-    Unit (Some (entries.Zero (Data 1 185))) ∷
-    Unit (Some (entries.Zero (Data 1 186))) ∷
-    Unit (Some (entries.Zero (Data 1 187))) ∷
-    Unit (Some (entries.Zero (Data 1 188))) ∷
-    Unit (Some (entries.Zero (Data 1 189))) ∷
-    Unit (Some (entries.Zero (Data 1 190))) ∷
-    Unit (Some (entries.Hands 1)) ∷
-    Unit (Some (entries.Hands 1)) ∷
-    Unit (Some (entries.Hands 1)) ∷
-    Unit (Some (entries.Hands 1)) ∷
-    Unit (Some (entries.Hands 1)) ∷
-    Unit (Some (entries.Hands 1)) ∷
-    Unit (Some (entries.Hands 1)) ∷
-    Unit (Some (entries.Hands 1)) ∷
-    Unit (Some (entries.Hands 1)) ∷
-    Unit (Some (entries.Hands 1)) ∷
-    Unit (Some (entries.Hands 1)) ∷
-    Unit (Some (entries.Hands 1)) ∷
-    Unit (Some (entries.Hands 1)) ∷
-    Unit (Some (entries.Hands 1)) ∷
-    Unit (Some (entries.Hands 1)) ∷
-    Unit (Some (entries.Hands 1)) ∷
-    Unit (Some entries.Done) ∷
-    Unit (Some (entries.Zero (Data 1 191))) ∷
-    Unit (Some (entries.Zero (Data 1 192))) ∷
-    Unit (Some (entries.Zero (Data 1 193))) ∷
-    Unit (Some (entries.Zero (Data 1 194))) ∷
-    Unit (Some (entries.Zero (Data 1 195))) ∷
-    Unit (Some (entries.Zero (Data 1 196))) ∷
-    Unit (Some (entries.Zero (Data 1 197))) ∷
-    Unit (Some (entries.Zero (Data 1 198))) ∷
-    Unit (Some (entries.Zero (Data 1 199))) ∷
-    Unit (Some (entries.Get (Data 1 0) 0 1)) ∷
-    Unit (Some entries.Done) ∷
-    Unit (Some (entries.Get (Data 1 1) 1 1)) ∷
-    Unit (Some entries.Done) ∷
-    Unit (Some (entries.Get (Data 1 2) 2 1)) ∷
-    Unit (Some entries.Done) ∷
-    Unit (Some (entries.Get (Data 1 3) 3 1)) ∷
-    Unit (Some entries.Done) ∷
-    Unit (Some (entries.Get (Data 1 4) 4 1)) ∷
-    Unit (Some entries.Done) ∷
-    Unit (Some (entries.Get (Data 1 5) 5 1)) ∷
-    Unit (Some entries.Done) ∷
-    Unit (Some (entries.Get (Data 1 6) 6 1)) ∷
-    Unit (Some entries.Done) ∷
-    Unit (Some (entries.Hands 1)) ∷
-    Unit (Some (entries.Hands 1)) ∷
-    Unit (Some (entries.Hands 1)) ∷
-    Unit (Some (entries.Hands 1)) ∷
-    Unit (Some (entries.Hands 1)) ∷
-    Unit (Some (entries.Hands 1)) ∷
-    Unit (Some (entries.Hands 1)) ∷
-    Unit (Some (entries.Hands 1)) ∷
-    Unit (Some (entries.Hands 1)) ∷
-    Unit (Some (entries.Hands 1)) ∷
-    Unit (Some (entries.Hands 1)) ∷
-    Unit (Some (entries.Hands 1)) ∷
-    Unit (Some (entries.Hands 1)) ∷
-    Unit (Some (entries.Hands 1)) ∷
-    Unit (Some (entries.Hands 1)) ∷
-    Unit (Some (entries.Hands 1)) ∷
-    Unit (Some entries.Done) ∷
-    Unit (Some (entries.Get (Data 1 7) 7 4)) ∷
-    Unit (Some entries.Done) ∷
-    Unit (Some (entries.Reclaim (Data 1 8))) ∷
-    Unit (Some (entries.Reclaim (Data 1 9))) ∷
-    Unit (Some (entries.Reclaim (Data 1 10))) ∷
-    Unit (Some (entries.Get (Data 1 11) 11 4)) ∷
-    Unit (Some entries.Done) ∷
-    Unit (Some (entries.Reclaim (Data 1 12))) ∷
-    Unit (Some (entries.Reclaim (Data 1 13))) ∷
-    Unit (Some (entries.Reclaim (Data 1 14))) ∷
-    Unit (Some (entries.Get (Data 1 15) 15 1)) ∷
-    Unit (Some entries.Done) ∷
-    Unit (Some (entries.Get (Data 1 16) 16 1)) ∷
-    Unit (Some entries.Done) ∷
-    Unit (Some (entries.Get (Data 1 17) 17 1)) ∷
-    Unit (Some entries.Done) ∷
-    Unit (Some (entries.Get (Data 1 18) 18 1)) ∷
-    Unit (Some entries.Done) ∷
-    Unit (Some (entries.Get (Data 1 19) 19 1)) ∷
-    Unit (Some entries.Done) ∷
-    Unit (Some (entries.Get (Data 1 20) 20 1)) ∷
-    Unit (Some entries.Done) ∷
-    Unit (Some (entries.Get (Data 1 21) 21 1)) ∷
-    Unit (Some entries.Done) ∷
-    Unit (Some (entries.Get (Data 1 22) 22 1)) ∷
-    Unit (Some entries.Done) ∷
-    Unit (Some (entries.Hands 1)) ∷
-    Unit (Some (entries.Hands 1)) ∷
-    Unit (Some (entries.Hands 1)) ∷
-    Unit (Some (entries.Hands 1)) ∷
-    Unit (Some (entries.Hands 1)) ∷
-    Unit (Some (entries.Hands 1)) ∷
-    Unit (Some (entries.Hands 1)) ∷
-    Unit (Some (entries.Hands 1)) ∷
-    Unit (Some (entries.Hands 1)) ∷
-    Unit (Some (entries.Hands 1)) ∷
-    Unit (Some (entries.Hands 1)) ∷
-    Unit (Some (entries.Hands 1)) ∷
-    Unit (Some (entries.Hands 1)) ∷
-    Unit (Some (entries.Hands 1)) ∷
-    Unit (Some (entries.Hands 1)) ∷
-    Unit (Some (entries.Hands 1)) ∷
-    Unit (Some entries.Done) ∷
-    Unit (Some (entries.Get (Data 1 23) 23 4)) ∷
-    Unit (Some entries.Done) ∷
-    Unit (Some (entries.Reclaim (Data 1 24))) ∷
-    Unit (Some (entries.Reclaim (Data 1 25))) ∷
-    Unit (Some (entries.Reclaim (Data 1 26))) ∷
-    Unit (Some (entries.Get (Data 1 27) 27 4)) ∷
-    Unit (Some entries.Done) ∷
-    Unit (Some (entries.Reclaim (Data 1 28))) ∷
-    Unit (Some (entries.Reclaim (Data 1 29))) ∷
-    Unit (Some (entries.Reclaim (Data 1 30))) ∷
-    Unit (Some (entries.Get (Data 1 31) 31 1)) ∷
-    Unit (Some entries.Done) ∷
-    Unit (Some (entries.Get (Data 1 32) 32 1)) ∷
-    Unit (Some entries.Done) ∷
-    Unit (Some (entries.Get (Data 1 33) 33 1)) ∷
-    Unit (Some entries.Done) ∷
-    Unit (Some (entries.Get (Data 1 34) 34 1)) ∷
-    Unit (Some entries.Done) ∷
-    Unit (Some (entries.Get (Data 1 35) 35 1)) ∷
-    Unit (Some entries.Done) ∷
-    Unit (Some (entries.Get (Data 1 36) 36 1)) ∷
-    Unit (Some entries.Done) ∷
-    Unit (Some (entries.Get (Data 1 37) 37 1)) ∷
-    Unit (Some entries.Done) ∷
-    Unit (Some (entries.Get (Data 1 38) 38 1)) ∷ []
+    Made (Some (entries.Get (Text 1 0) 0 1)) ∷
+    Made (Some entries.Done) ∷
+    Made (Some (entries.Zero (Data 1 0))) ∷
+    Made (Some (entries.Zero (Data 1 1))) ∷
+    Made (Some (entries.Zero (Data 1 2))) ∷
+    Made (Some (entries.Zero (Data 1 3))) ∷
+    Made (Some (entries.Zero (Data 1 4))) ∷
+    Made (Some (entries.Zero (Data 1 5))) ∷
+    Made (Some (entries.Zero (Data 1 6))) ∷
+    Made (Some (entries.Zero (Data 1 7))) ∷
+    Made (Some (entries.Zero (Data 1 8))) ∷
+    Made (Some (entries.Zero (Data 1 9))) ∷
+    Made (Some (entries.Zero (Data 1 10))) ∷
+    Made (Some (entries.Zero (Data 1 11))) ∷
+    Made (Some (entries.Zero (Data 1 12))) ∷
+    Made (Some (entries.Zero (Data 1 13))) ∷
+    Made (Some (entries.Zero (Data 1 14))) ∷
+    Made (Some (entries.Zero (Data 1 15))) ∷
+    Made (Some (entries.Zero (Data 1 16))) ∷
+    Made (Some (entries.Zero (Data 1 17))) ∷
+    Made (Some (entries.Zero (Data 1 18))) ∷
+    Made (Some (entries.Zero (Data 1 19))) ∷
+    Made (Some (entries.Zero (Data 1 20))) ∷
+    Made (Some (entries.Zero (Data 1 21))) ∷
+    Made (Some (entries.Zero (Data 1 22))) ∷
+    Made (Some (entries.Zero (Data 1 23))) ∷
+    Made (Some (entries.Zero (Data 1 24))) ∷
+    Made (Some (entries.Zero (Data 1 25))) ∷
+    Made (Some (entries.Zero (Data 1 26))) ∷
+    Made (Some (entries.Zero (Data 1 27))) ∷
+    Made (Some (entries.Zero (Data 1 28))) ∷
+    Made (Some (entries.Zero (Data 1 29))) ∷
+    Made (Some (entries.Zero (Data 1 30))) ∷
+    Made (Some (entries.Zero (Data 1 31))) ∷
+    Made (Some (entries.Zero (Data 1 32))) ∷
+    Made (Some (entries.Zero (Data 1 33))) ∷
+    Made (Some (entries.Zero (Data 1 34))) ∷
+    Made (Some (entries.Zero (Data 1 35))) ∷
+    Made (Some (entries.Zero (Data 1 36))) ∷
+    Made (Some (entries.Zero (Data 1 37))) ∷
+    Made (Some (entries.Zero (Data 1 38))) ∷
+    Made (Some (entries.Zero (Data 1 39))) ∷
+    Made (Some (entries.Zero (Data 1 40))) ∷
+    Made (Some (entries.Zero (Data 1 41))) ∷
+    Made (Some (entries.Zero (Data 1 42))) ∷
+    Made (Some (entries.Zero (Data 1 43))) ∷
+    Made (Some (entries.Zero (Data 1 44))) ∷
+    Made (Some (entries.Zero (Data 1 45))) ∷
+    Made (Some (entries.Zero (Data 1 46))) ∷
+    Made (Some (entries.Zero (Data 1 47))) ∷
+    Made (Some (entries.Zero (Data 1 48))) ∷
+    Made (Some (entries.Zero (Data 1 49))) ∷
+    Made (Some (entries.Zero (Data 1 50))) ∷
+    Made (Some (entries.Zero (Data 1 51))) ∷
+    Made (Some (entries.Zero (Data 1 52))) ∷
+    Made (Some (entries.Zero (Data 1 53))) ∷
+    Made (Some (entries.Zero (Data 1 54))) ∷
+    Made (Some (entries.Zero (Data 1 55))) ∷
+    Made (Some (entries.Zero (Data 1 56))) ∷
+    Made (Some (entries.Zero (Data 1 57))) ∷
+    Made (Some (entries.Zero (Data 1 58))) ∷
+    Made (Some (entries.Zero (Data 1 59))) ∷
+    Made (Some (entries.Zero (Data 1 60))) ∷
+    Made (Some (entries.Zero (Data 1 61))) ∷
+    Made (Some (entries.Hands 1)) ∷
+    Made (Some (entries.Hands 1)) ∷
+    Made (Some (entries.Hands 1)) ∷
+    Made (Some (entries.Hands 1)) ∷
+    Made (Some (entries.Hands 1)) ∷
+    Made (Some (entries.Hands 1)) ∷
+    Made (Some (entries.Hands 1)) ∷
+    Made (Some (entries.Hands 1)) ∷
+    Made (Some (entries.Hands 1)) ∷
+    Made (Some (entries.Hands 1)) ∷
+    Made (Some (entries.Hands 1)) ∷
+    Made (Some (entries.Hands 1)) ∷
+    Made (Some (entries.Hands 1)) ∷
+    Made (Some (entries.Hands 1)) ∷
+    Made (Some (entries.Hands 1)) ∷
+    Made (Some (entries.Hands 1)) ∷
+    Made (Some (entries.Hands 1)) ∷
+    Made (Some entries.Done) ∷
+    Made (Some (entries.Zero (Data 1 62))) ∷
+    Made (Some (entries.Zero (Data 1 63))) ∷
+    Made (Some (entries.Hands 1)) ∷
+    Made (Some (entries.Hands 1)) ∷
+    Made (Some entries.Done) ∷
+    Made (Some (entries.Zero (Data 1 64))) ∷
+    Made (Some (entries.Zero (Data 1 65))) ∷
+    Made (Some (entries.Zero (Data 1 66))) ∷
+    Made (Some (entries.Zero (Data 1 67))) ∷
+    Made (Some (entries.Zero (Data 1 68))) ∷
+    Made (Some (entries.Zero (Data 1 69))) ∷
+    Made (Some (entries.Zero (Data 1 70))) ∷
+    Made (Some (entries.Zero (Data 1 71))) ∷
+    Made (Some (entries.Zero (Data 1 72))) ∷
+    Made (Some (entries.Zero (Data 1 73))) ∷
+    Made (Some (entries.Zero (Data 1 74))) ∷
+    Made (Some (entries.Zero (Data 1 75))) ∷
+    Made (Some (entries.Zero (Data 1 76))) ∷
+    Made (Some (entries.Zero (Data 1 77))) ∷
+    Made (Some (entries.Zero (Data 1 78))) ∷
+    Made (Some (entries.Zero (Data 1 79))) ∷
+    Made (Some (entries.Hands 1)) ∷
+    Made (Some (entries.Hands 1)) ∷
+    Made (Some (entries.Hands 1)) ∷
+    Made (Some (entries.Hands 1)) ∷
+    Made (Some (entries.Hands 1)) ∷
+    Made (Some (entries.Hands 1)) ∷
+    Made (Some (entries.Hands 1)) ∷
+    Made (Some (entries.Hands 1)) ∷
+    Made (Some (entries.Hands 1)) ∷
+    Made (Some (entries.Hands 1)) ∷
+    Made (Some (entries.Hands 1)) ∷
+    Made (Some (entries.Hands 1)) ∷
+    Made (Some (entries.Hands 1)) ∷
+    Made (Some (entries.Hands 1)) ∷
+    Made (Some (entries.Hands 1)) ∷
+    Made (Some (entries.Hands 1)) ∷
+    Made (Some entries.Done) ∷
+    Made (Some (entries.Zero (Data 1 80))) ∷
+    Made (Some (entries.Zero (Data 1 81))) ∷
+    Made (Some (entries.Zero (Data 1 82))) ∷
+    Made (Some (entries.Zero (Data 1 83))) ∷
+    Made (Some (entries.Zero (Data 1 84))) ∷
+    Made (Some (entries.Zero (Data 1 85))) ∷
+    Made (Some (entries.Zero (Data 1 86))) ∷
+    Made (Some (entries.Zero (Data 1 87))) ∷
+    Made (Some (entries.Zero (Data 1 88))) ∷
+    Made (Some (entries.Zero (Data 1 89))) ∷
+    Made (Some (entries.Zero (Data 1 90))) ∷
+    Made (Some (entries.Zero (Data 1 91))) ∷
+    Made (Some (entries.Zero (Data 1 92))) ∷
+    Made (Some (entries.Zero (Data 1 93))) ∷
+    Made (Some (entries.Zero (Data 1 94))) ∷
+    Made (Some (entries.Zero (Data 1 95))) ∷
+    Made (Some (entries.Hands 1)) ∷
+    Made (Some (entries.Hands 1)) ∷
+    Made (Some (entries.Hands 1)) ∷
+    Made (Some (entries.Hands 1)) ∷
+    Made (Some (entries.Hands 1)) ∷
+    Made (Some (entries.Hands 1)) ∷
+    Made (Some (entries.Hands 1)) ∷
+    Made (Some (entries.Hands 1)) ∷
+    Made (Some (entries.Hands 1)) ∷
+    Made (Some (entries.Hands 1)) ∷
+    Made (Some (entries.Hands 1)) ∷
+    Made (Some (entries.Hands 1)) ∷
+    Made (Some (entries.Hands 1)) ∷
+    Made (Some (entries.Hands 1)) ∷
+    Made (Some (entries.Hands 1)) ∷
+    Made (Some (entries.Hands 1)) ∷
+    Made (Some entries.Done) ∷
+    Made (Some (entries.Zero (Data 1 96))) ∷
+    Made (Some (entries.Zero (Data 1 97))) ∷
+    Made (Some (entries.Zero (Data 1 98))) ∷
+    Made (Some (entries.Zero (Data 1 99))) ∷
+    Made (Some (entries.Zero (Data 1 100))) ∷
+    Made (Some (entries.Zero (Data 1 101))) ∷
+    Made (Some (entries.Zero (Data 1 102))) ∷
+    Made (Some (entries.Zero (Data 1 103))) ∷
+    Made (Some (entries.Zero (Data 1 104))) ∷
+    Made (Some (entries.Zero (Data 1 105))) ∷
+    Made (Some (entries.Zero (Data 1 106))) ∷
+    Made (Some (entries.Zero (Data 1 107))) ∷
+    Made (Some (entries.Zero (Data 1 108))) ∷
+    Made (Some (entries.Zero (Data 1 109))) ∷
+    Made (Some (entries.Hands 1)) ∷
+    Made (Some (entries.Hands 1)) ∷
+    Made (Some (entries.Hands 1)) ∷
+    Made (Some (entries.Hands 1)) ∷
+    Made (Some (entries.Hands 1)) ∷
+    Made (Some (entries.Hands 1)) ∷
+    Made (Some (entries.Hands 1)) ∷
+    Made (Some (entries.Hands 1)) ∷
+    Made (Some (entries.Hands 1)) ∷
+    Made (Some (entries.Hands 1)) ∷
+    Made (Some (entries.Hands 1)) ∷
+    Made (Some (entries.Hands 1)) ∷
+    Made (Some (entries.Hands 1)) ∷
+    Made (Some (entries.Hands 1)) ∷
+    Made (Some entries.Done) ∷
+    Made (Some (entries.Zero (Data 1 110))) ∷
+    Made (Some (entries.Hands 1)) ∷
+    Made (Some (entries.Hands 1)) ∷
+    Made (Some entries.Done) ∷
+    Made (Some (entries.Zero (Data 1 111))) ∷
+    Made (Some (entries.Zero (Data 1 112))) ∷
+    Made (Some (entries.Zero (Data 1 113))) ∷
+    Made (Some (entries.Zero (Data 1 114))) ∷
+    Made (Some (entries.Zero (Data 1 115))) ∷
+    Made (Some (entries.Zero (Data 1 116))) ∷
+    Made (Some (entries.Zero (Data 1 117))) ∷
+    Made (Some (entries.Zero (Data 1 118))) ∷
+    Made (Some (entries.Zero (Data 1 119))) ∷
+    Made (Some (entries.Zero (Data 1 120))) ∷
+    Made (Some (entries.Zero (Data 1 121))) ∷
+    Made (Some (entries.Zero (Data 1 122))) ∷
+    Made (Some (entries.Zero (Data 1 123))) ∷
+    Made (Some (entries.Zero (Data 1 124))) ∷
+    Made (Some (entries.Hands 1)) ∷
+    Made (Some (entries.Hands 1)) ∷
+    Made (Some (entries.Hands 1)) ∷
+    Made (Some (entries.Hands 1)) ∷
+    Made (Some (entries.Hands 1)) ∷
+    Made (Some (entries.Hands 1)) ∷
+    Made (Some (entries.Hands 1)) ∷
+    Made (Some (entries.Hands 1)) ∷
+    Made (Some (entries.Hands 1)) ∷
+    Made (Some (entries.Hands 1)) ∷
+    Made (Some (entries.Hands 1)) ∷
+    Made (Some (entries.Hands 1)) ∷
+    Made (Some (entries.Hands 1)) ∷
+    Made (Some (entries.Hands 1)) ∷
+    Made (Some entries.Done) ∷
+    Made (Some (entries.Zero (Data 1 125))) ∷
+    Made (Some (entries.Zero (Data 1 126))) ∷
+    Made (Some (entries.Zero (Data 1 127))) ∷
+    Made (Some (entries.Zero (Data 1 128))) ∷
+    Made (Some (entries.Zero (Data 1 129))) ∷
+    Made (Some (entries.Zero (Data 1 130))) ∷
+    Made (Some (entries.Zero (Data 1 131))) ∷
+    Made (Some (entries.Zero (Data 1 132))) ∷
+    Made (Some (entries.Zero (Data 1 133))) ∷
+    Made (Some (entries.Zero (Data 1 134))) ∷
+    Made (Some (entries.Zero (Data 1 135))) ∷
+    Made (Some (entries.Zero (Data 1 136))) ∷
+    Made (Some (entries.Zero (Data 1 137))) ∷
+    Made (Some (entries.Zero (Data 1 138))) ∷
+    Made (Some (entries.Zero (Data 1 139))) ∷
+    Made (Some (entries.Zero (Data 1 140))) ∷
+    Made (Some (entries.Hands 1)) ∷
+    Made (Some (entries.Hands 1)) ∷
+    Made (Some (entries.Hands 1)) ∷
+    Made (Some (entries.Hands 1)) ∷
+    Made (Some (entries.Hands 1)) ∷
+    Made (Some (entries.Hands 1)) ∷
+    Made (Some (entries.Hands 1)) ∷
+    Made (Some (entries.Hands 1)) ∷
+    Made (Some (entries.Hands 1)) ∷
+    Made (Some (entries.Hands 1)) ∷
+    Made (Some (entries.Hands 1)) ∷
+    Made (Some (entries.Hands 1)) ∷
+    Made (Some (entries.Hands 1)) ∷
+    Made (Some (entries.Hands 1)) ∷
+    Made (Some (entries.Hands 1)) ∷
+    Made (Some (entries.Hands 1)) ∷
+    Made (Some entries.Done) ∷
+    Made (Some (entries.Zero (Data 1 141))) ∷
+    Made (Some (entries.Zero (Data 1 142))) ∷
+    Made (Some (entries.Zero (Data 1 143))) ∷
+    Made (Some (entries.Zero (Data 1 144))) ∷
+    Made (Some (entries.Zero (Data 1 145))) ∷
+    Made (Some (entries.Zero (Data 1 146))) ∷
+    Made (Some (entries.Zero (Data 1 147))) ∷
+    Made (Some (entries.Zero (Data 1 148))) ∷
+    Made (Some (entries.Zero (Data 1 149))) ∷
+    Made (Some (entries.Zero (Data 1 150))) ∷
+    Made (Some (entries.Zero (Data 1 151))) ∷
+    Made (Some (entries.Zero (Data 1 152))) ∷
+    Made (Some (entries.Zero (Data 1 153))) ∷
+    Made (Some (entries.Zero (Data 1 154))) ∷
+    Made (Some (entries.Zero (Data 1 155))) ∷
+    Made (Some (entries.Zero (Data 1 156))) ∷
+    Made (Some (entries.Hands 1)) ∷
+    Made (Some (entries.Hands 1)) ∷
+    Made (Some (entries.Hands 1)) ∷
+    Made (Some (entries.Hands 1)) ∷
+    Made (Some (entries.Hands 1)) ∷
+    Made (Some (entries.Hands 1)) ∷
+    Made (Some (entries.Hands 1)) ∷
+    Made (Some (entries.Hands 1)) ∷
+    Made (Some (entries.Hands 1)) ∷
+    Made (Some (entries.Hands 1)) ∷
+    Made (Some (entries.Hands 1)) ∷
+    Made (Some (entries.Hands 1)) ∷
+    Made (Some (entries.Hands 1)) ∷
+    Made (Some (entries.Hands 1)) ∷
+    Made (Some (entries.Hands 1)) ∷
+    Made (Some (entries.Hands 1)) ∷
+    Made (Some entries.Done) ∷
+    Made (Some (entries.Zero (Data 1 157))) ∷
+    Made (Some (entries.Zero (Data 1 158))) ∷
+    Made (Some (entries.Zero (Data 1 159))) ∷
+    Made (Some (entries.Zero (Data 1 160))) ∷
+    Made (Some (entries.Zero (Data 1 161))) ∷
+    Made (Some (entries.Zero (Data 1 162))) ∷
+    Made (Some (entries.Zero (Data 1 163))) ∷
+    Made (Some (entries.Zero (Data 1 164))) ∷
+    Made (Some (entries.Zero (Data 1 165))) ∷
+    Made (Some (entries.Zero (Data 1 166))) ∷
+    Made (Some (entries.Zero (Data 1 167))) ∷
+    Made (Some (entries.Zero (Data 1 168))) ∷
+    Made (Some (entries.Zero (Data 1 169))) ∷
+    Made (Some (entries.Zero (Data 1 170))) ∷
+    Made (Some (entries.Zero (Data 1 171))) ∷
+    Made (Some (entries.Zero (Data 1 172))) ∷
+    Made (Some (entries.Hands 1)) ∷
+    Made (Some (entries.Hands 1)) ∷
+    Made (Some (entries.Hands 1)) ∷
+    Made (Some (entries.Hands 1)) ∷
+    Made (Some (entries.Hands 1)) ∷
+    Made (Some (entries.Hands 1)) ∷
+    Made (Some (entries.Hands 1)) ∷
+    Made (Some (entries.Hands 1)) ∷
+    Made (Some (entries.Hands 1)) ∷
+    Made (Some (entries.Hands 1)) ∷
+    Made (Some (entries.Hands 1)) ∷
+    Made (Some (entries.Hands 1)) ∷
+    Made (Some (entries.Hands 1)) ∷
+    Made (Some (entries.Hands 1)) ∷
+    Made (Some (entries.Hands 1)) ∷
+    Made (Some (entries.Hands 1)) ∷
+    Made (Some entries.Done) ∷
+    Made (Some (entries.Zero (Data 1 173))) ∷
+    Made (Some (entries.Zero (Data 1 174))) ∷
+    Made (Some (entries.Hands 1)) ∷
+    Made (Some (entries.Hands 1)) ∷
+    Made (Some (entries.Hands 1)) ∷
+    Made (Some entries.Done) ∷
+    Made (Some (entries.Zero (Data 1 175))) ∷
+    Made (Some (entries.Zero (Data 1 176))) ∷
+    Made (Some (entries.Zero (Data 1 177))) ∷
+    Made (Some (entries.Zero (Data 1 178))) ∷
+    Made (Some (entries.Zero (Data 1 179))) ∷
+    Made (Some (entries.Zero (Data 1 180))) ∷
+    Made (Some (entries.Zero (Data 1 181))) ∷
+    Made (Some (entries.Zero (Data 1 182))) ∷
+    Made (Some (entries.Zero (Data 1 183))) ∷
+    Made (Some (entries.Zero (Data 1 184))) ∷
+    Made (Some (entries.Zero (Data 1 185))) ∷
+    Made (Some (entries.Zero (Data 1 186))) ∷
+    Made (Some (entries.Zero (Data 1 187))) ∷
+    Made (Some (entries.Zero (Data 1 188))) ∷
+    Made (Some (entries.Zero (Data 1 189))) ∷
+    Made (Some (entries.Zero (Data 1 190))) ∷
+    Made (Some (entries.Hands 1)) ∷
+    Made (Some (entries.Hands 1)) ∷
+    Made (Some (entries.Hands 1)) ∷
+    Made (Some (entries.Hands 1)) ∷
+    Made (Some (entries.Hands 1)) ∷
+    Made (Some (entries.Hands 1)) ∷
+    Made (Some (entries.Hands 1)) ∷
+    Made (Some (entries.Hands 1)) ∷
+    Made (Some (entries.Hands 1)) ∷
+    Made (Some (entries.Hands 1)) ∷
+    Made (Some (entries.Hands 1)) ∷
+    Made (Some (entries.Hands 1)) ∷
+    Made (Some (entries.Hands 1)) ∷
+    Made (Some (entries.Hands 1)) ∷
+    Made (Some (entries.Hands 1)) ∷
+    Made (Some (entries.Hands 1)) ∷
+    Made (Some entries.Done) ∷
+    Made (Some (entries.Zero (Data 1 191))) ∷
+    Made (Some (entries.Zero (Data 1 192))) ∷
+    Made (Some (entries.Zero (Data 1 193))) ∷
+    Made (Some (entries.Zero (Data 1 194))) ∷
+    Made (Some (entries.Zero (Data 1 195))) ∷
+    Made (Some (entries.Zero (Data 1 196))) ∷
+    Made (Some (entries.Zero (Data 1 197))) ∷
+    Made (Some (entries.Zero (Data 1 198))) ∷
+    Made (Some (entries.Zero (Data 1 199))) ∷
+    Made (Some (entries.Get (Data 1 0) 0 1)) ∷
+    Made (Some entries.Done) ∷
+    Made (Some (entries.Get (Data 1 1) 1 1)) ∷
+    Made (Some entries.Done) ∷
+    Made (Some (entries.Get (Data 1 2) 2 1)) ∷
+    Made (Some entries.Done) ∷
+    Made (Some (entries.Get (Data 1 3) 3 1)) ∷
+    Made (Some entries.Done) ∷
+    Made (Some (entries.Get (Data 1 4) 4 1)) ∷
+    Made (Some entries.Done) ∷
+    Made (Some (entries.Get (Data 1 5) 5 1)) ∷
+    Made (Some entries.Done) ∷
+    Made (Some (entries.Get (Data 1 6) 6 1)) ∷
+    Made (Some entries.Done) ∷
+    Made (Some (entries.Hands 1)) ∷
+    Made (Some (entries.Hands 1)) ∷
+    Made (Some (entries.Hands 1)) ∷
+    Made (Some (entries.Hands 1)) ∷
+    Made (Some (entries.Hands 1)) ∷
+    Made (Some (entries.Hands 1)) ∷
+    Made (Some (entries.Hands 1)) ∷
+    Made (Some (entries.Hands 1)) ∷
+    Made (Some (entries.Hands 1)) ∷
+    Made (Some (entries.Hands 1)) ∷
+    Made (Some (entries.Hands 1)) ∷
+    Made (Some (entries.Hands 1)) ∷
+    Made (Some (entries.Hands 1)) ∷
+    Made (Some (entries.Hands 1)) ∷
+    Made (Some (entries.Hands 1)) ∷
+    Made (Some (entries.Hands 1)) ∷
+    Made (Some entries.Done) ∷
+    Made (Some (entries.Get (Data 1 7) 7 4)) ∷
+    Made (Some entries.Done) ∷
+    Made (Some (entries.Reclaim (Data 1 8))) ∷
+    Made (Some (entries.Reclaim (Data 1 9))) ∷
+    Made (Some (entries.Reclaim (Data 1 10))) ∷
+    Made (Some (entries.Get (Data 1 11) 11 4)) ∷
+    Made (Some entries.Done) ∷
+    Made (Some (entries.Reclaim (Data 1 12))) ∷
+    Made (Some (entries.Reclaim (Data 1 13))) ∷
+    Made (Some (entries.Reclaim (Data 1 14))) ∷
+    Made (Some (entries.Get (Data 1 15) 15 1)) ∷
+    Made (Some entries.Done) ∷
+    Made (Some (entries.Get (Data 1 16) 16 1)) ∷
+    Made (Some entries.Done) ∷
+    Made (Some (entries.Get (Data 1 17) 17 1)) ∷
+    Made (Some entries.Done) ∷
+    Made (Some (entries.Get (Data 1 18) 18 1)) ∷
+    Made (Some entries.Done) ∷
+    Made (Some (entries.Get (Data 1 19) 19 1)) ∷
+    Made (Some entries.Done) ∷
+    Made (Some (entries.Get (Data 1 20) 20 1)) ∷
+    Made (Some entries.Done) ∷
+    Made (Some (entries.Get (Data 1 21) 21 1)) ∷
+    Made (Some entries.Done) ∷
+    Made (Some (entries.Get (Data 1 22) 22 1)) ∷
+    Made (Some entries.Done) ∷
+    Made (Some (entries.Hands 1)) ∷
+    Made (Some (entries.Hands 1)) ∷
+    Made (Some (entries.Hands 1)) ∷
+    Made (Some (entries.Hands 1)) ∷
+    Made (Some (entries.Hands 1)) ∷
+    Made (Some (entries.Hands 1)) ∷
+    Made (Some (entries.Hands 1)) ∷
+    Made (Some (entries.Hands 1)) ∷
+    Made (Some (entries.Hands 1)) ∷
+    Made (Some (entries.Hands 1)) ∷
+    Made (Some (entries.Hands 1)) ∷
+    Made (Some (entries.Hands 1)) ∷
+    Made (Some (entries.Hands 1)) ∷
+    Made (Some (entries.Hands 1)) ∷
+    Made (Some (entries.Hands 1)) ∷
+    Made (Some (entries.Hands 1)) ∷
+    Made (Some entries.Done) ∷
+    Made (Some (entries.Get (Data 1 23) 23 4)) ∷
+    Made (Some entries.Done) ∷
+    Made (Some (entries.Reclaim (Data 1 24))) ∷
+    Made (Some (entries.Reclaim (Data 1 25))) ∷
+    Made (Some (entries.Reclaim (Data 1 26))) ∷
+    Made (Some (entries.Get (Data 1 27) 27 4)) ∷
+    Made (Some entries.Done) ∷
+    Made (Some (entries.Reclaim (Data 1 28))) ∷
+    Made (Some (entries.Reclaim (Data 1 29))) ∷
+    Made (Some (entries.Reclaim (Data 1 30))) ∷
+    Made (Some (entries.Get (Data 1 31) 31 1)) ∷
+    Made (Some entries.Done) ∷
+    Made (Some (entries.Get (Data 1 32) 32 1)) ∷
+    Made (Some entries.Done) ∷
+    Made (Some (entries.Get (Data 1 33) 33 1)) ∷
+    Made (Some entries.Done) ∷
+    Made (Some (entries.Get (Data 1 34) 34 1)) ∷
+    Made (Some entries.Done) ∷
+    Made (Some (entries.Get (Data 1 35) 35 1)) ∷
+    Made (Some entries.Done) ∷
+    Made (Some (entries.Get (Data 1 36) 36 1)) ∷
+    Made (Some entries.Done) ∷
+    Made (Some (entries.Get (Data 1 37) 37 1)) ∷
+    Made (Some entries.Done) ∷
+    Made (Some (entries.Get (Data 1 38) 38 1)) ∷ []
 
 ring_of_200_pages : chosen (walk images operations (starting images (1 ∷ []) 64)) ≡ seen
 unfolding images operations seen spot chunk_reached lowest chunk_start chunk counted_from text_spot

@@ -9,7 +9,7 @@ use Rattle.flat_state.specs.Flat.{NamedImage}
 use Rattle.flat_state.specs.declared.change.Change.TheVariants.{Resize, End}
 use Rattle.page_model.specs.Pages.{Zeros}
 use Rattle.page_model.specs.Placement.{Placement}
-use Rattle.place_vectors.proofs.Walk.{Operation, Fixed, Serve, Step, Seen, Unit, Ends, named, slot, empty, frames, starting, walk}
+use Rattle.place_vectors.proofs.Walk.{Operation, Fixed, Serve, Step, Seen, Made, Ends, named, slot, empty, frames, starting, walk}
 
 images : List NamedImage
 images =
@@ -43,9 +43,9 @@ last = record {
 
 seen : List Seen
 seen =
-    Unit (Some (entries.Get (Text 1 0) 0 1)) ∷
-    Unit (Some entries.Done) ∷
-    Unit (Some (entries.Zero (Stack 1 1))) ∷
+    Made (Some (entries.Get (Text 1 0) 0 1)) ∷
+    Made (Some entries.Done) ∷
+    Made (Some (entries.Zero (Stack 1 1))) ∷
     Ends last ∷ []
 
 stack_grows : walk images operations (starting images (1 ∷ []) 64) ≡ seen

@@ -10,7 +10,7 @@ use Rattle.flat_state.specs.Flat.{NamedImage}
 use Rattle.flat_state.specs.declared.change.Change.TheVariants.{Keep, Resize, Fork, End}
 use Rattle.page_model.specs.Pages.{Zeros}
 use Rattle.page_model.specs.Placement.{Placement}
-use Rattle.place_vectors.proofs.Walk.{Operation, Fixed, Serve, Step, Seen, Unit, Ends, named, slot, starting, walk}
+use Rattle.place_vectors.proofs.Walk.{Operation, Fixed, Serve, Step, Seen, Made, Ends, named, slot, starting, walk}
 
 images : List NamedImage
 images =
@@ -1106,520 +1106,520 @@ last = record {
 
 seen : List Seen
 seen =
-    Unit (Some (entries.Get (Text 1 0) 0 2)) ∷
-    Unit None ∷
-    Unit None ∷
-    Unit None ∷
-    Unit None ∷
-    Unit None ∷
-    Unit None ∷
-    Unit None ∷
-    Unit None ∷
-    Unit None ∷
-    Unit None ∷
-    Unit None ∷
-    Unit (Some (entries.Zero (Data 1 1))) ∷
-    Unit (Some (entries.Zero (Data 1 3))) ∷
-    Unit (Some (entries.Zero (Stack 1 1))) ∷
-    Unit (Some (entries.Zero (Stack 1 2))) ∷
-    Unit (Some (entries.Zero (Stack 1 3))) ∷
-    Unit (Some (entries.Zero (Stack 1 4))) ∷
-    Unit (Some (entries.Zero (Stack 1 5))) ∷
-    Unit (Some (entries.Zero (Stack 1 6))) ∷
-    Unit (Some (entries.Zero (Stack 1 7))) ∷
-    Unit (Some (entries.Zero (Stack 1 8))) ∷
-    Unit (Some (entries.Zero (Stack 1 9))) ∷
-    Unit (Some (entries.Zero (Stack 1 10))) ∷
-    Unit (Some (entries.Zero (Stack 1 11))) ∷
-    Unit (Some (entries.Zero (Stack 1 12))) ∷
-    Unit (Some (entries.Zero (Stack 1 13))) ∷
-    Unit (Some (entries.Zero (Stack 1 14))) ∷
-    Unit (Some (entries.Zero (Stack 1 15))) ∷
-    Unit (Some (entries.Zero (Stack 1 16))) ∷
-    Unit (Some (entries.Zero (Stack 1 17))) ∷
-    Unit (Some (entries.Zero (Stack 1 18))) ∷
-    Unit (Some (entries.Zero (Stack 1 19))) ∷
-    Unit (Some (entries.Zero (Stack 1 20))) ∷
-    Unit (Some (entries.Zero (Stack 1 21))) ∷
-    Unit (Some (entries.Zero (Stack 1 22))) ∷
-    Unit (Some (entries.Zero (Stack 1 23))) ∷
-    Unit (Some (entries.Zero (Stack 1 24))) ∷
-    Unit (Some (entries.Zero (Stack 1 25))) ∷
-    Unit (Some (entries.Zero (Stack 1 26))) ∷
-    Unit (Some (entries.Zero (Stack 1 27))) ∷
-    Unit (Some (entries.Zero (Stack 1 28))) ∷
-    Unit (Some (entries.Zero (Stack 1 29))) ∷
-    Unit (Some (entries.Zero (Stack 1 30))) ∷
-    Unit (Some (entries.Zero (Stack 1 31))) ∷
-    Unit (Some (entries.Reclaim (Stack 1 26))) ∷
-    Unit (Some (entries.Get (Stack 1 10) 10 1)) ∷
-    Unit (Some entries.Done) ∷
-    Unit (Some (entries.Hands 1)) ∷
-    Unit (Some (entries.Hands 1)) ∷
-    Unit (Some (entries.Hands 1)) ∷
-    Unit (Some (entries.Hands 1)) ∷
-    Unit (Some (entries.Hands 1)) ∷
-    Unit (Some entries.Done) ∷
-    Unit (Some (entries.Get (Stack 1 11) 11 1)) ∷
-    Unit (Some entries.Done) ∷
-    Unit (Some (entries.Hands 1)) ∷
-    Unit (Some entries.Done) ∷
-    Unit (Some (entries.Get (Stack 1 12) 12 4)) ∷
-    Unit (Some entries.Done) ∷
-    Unit (Some (entries.Reclaim (Stack 1 13))) ∷
-    Unit (Some (entries.Reclaim (Stack 1 14))) ∷
-    Unit (Some (entries.Reclaim (Stack 1 15))) ∷
-    Unit (Some (entries.Get (Stack 1 16) 16 1)) ∷
-    Unit (Some entries.Done) ∷
-    Unit (Some (entries.Get (Stack 1 17) 17 1)) ∷
-    Unit (Some entries.Done) ∷
-    Unit (Some (entries.Get (Stack 1 18) 18 1)) ∷
-    Unit (Some entries.Done) ∷
-    Unit (Some (entries.Get (Stack 1 19) 19 1)) ∷
-    Unit (Some entries.Done) ∷
-    Unit (Some (entries.Hands 1)) ∷
-    Unit (Some (entries.Hands 1)) ∷
-    Unit (Some (entries.Hands 1)) ∷
-    Unit (Some (entries.Hands 1)) ∷
-    Unit (Some (entries.Hands 1)) ∷
-    Unit (Some (entries.Hands 1)) ∷
-    Unit (Some (entries.Hands 1)) ∷
-    Unit (Some (entries.Hands 1)) ∷
-    Unit (Some (entries.Hands 1)) ∷
-    Unit (Some (entries.Hands 1)) ∷
-    Unit (Some (entries.Hands 1)) ∷
-    Unit (Some (entries.Hands 1)) ∷
-    Unit (Some (entries.Hands 1)) ∷
-    Unit (Some (entries.Hands 1)) ∷
-    Unit (Some (entries.Hands 1)) ∷
-    Unit (Some (entries.Hands 1)) ∷
-    Unit (Some entries.Done) ∷
-    Unit (Some (entries.Get (Stack 1 20) 20 1)) ∷
-    Unit (Some entries.Done) ∷
-    Unit (Some (entries.Get (Stack 1 21) 21 1)) ∷
-    Unit (Some entries.Done) ∷
-    Unit (Some (entries.Get (Stack 1 22) 22 1)) ∷
-    Unit (Some entries.Done) ∷
-    Unit (Some (entries.Get (Stack 1 23) 23 1)) ∷
-    Unit (Some entries.Done) ∷
-    Unit (Some (entries.Get (Stack 1 24) 24 1)) ∷
-    Unit (Some entries.Done) ∷
-    Unit (Some (entries.Get (Stack 1 27) 27 1)) ∷
-    Unit (Some entries.Done) ∷
-    Unit (Some (entries.Get (Stack 1 28) 28 1)) ∷
-    Unit (Some entries.Done) ∷
-    Unit (Some (entries.Get (Stack 1 29) 29 1)) ∷
-    Unit (Some entries.Done) ∷
-    Unit (Some (entries.Get (Stack 1 30) 30 1)) ∷
-    Unit (Some entries.Done) ∷
-    Unit (Some (entries.Reclaim (Text 1 0))) ∷
-    Unit (Some (entries.Hands 1)) ∷
-    Unit (Some (entries.Hands 1)) ∷
-    Unit (Some (entries.Hands 1)) ∷
-    Unit (Some entries.Done) ∷
-    Unit (Some (entries.Get (Data 4 1) 1 1)) ∷
-    Unit (Some entries.Done) ∷
-    Unit (Some (entries.Hands 1)) ∷
-    Unit (Some (entries.Hands 1)) ∷
-    Unit (Some (entries.Hands 1)) ∷
-    Unit (Some (entries.Hands 1)) ∷
-    Unit (Some (entries.Hands 1)) ∷
-    Unit (Some (entries.Hands 1)) ∷
-    Unit (Some (entries.Hands 1)) ∷
-    Unit (Some (entries.Hands 1)) ∷
-    Unit (Some (entries.Hands 1)) ∷
-    Unit (Some (entries.Hands 1)) ∷
-    Unit (Some entries.Done) ∷
-    Unit (Some (entries.Get (Data 4 3) 3 1)) ∷
-    Unit (Some entries.Done) ∷
-    Unit (Some (entries.Get (Stack 4 0) 0 1)) ∷
-    Unit (Some entries.Done) ∷
-    Unit (Some (entries.Get (Stack 4 1) 1 1)) ∷
-    Unit (Some entries.Done) ∷
-    Unit (Some (entries.Get (Stack 4 2) 2 1)) ∷
-    Unit (Some entries.Done) ∷
-    Unit (Some (entries.Get (Stack 4 3) 3 3)) ∷
-    Unit (Some entries.Done) ∷
-    Unit (Some (entries.Reclaim (Stack 4 4))) ∷
-    Unit (Some (entries.Reclaim (Stack 4 5))) ∷
-    Unit (Some (entries.Get (Stack 4 6) 6 1)) ∷
-    Unit (Some entries.Done) ∷
-    Unit (Some (entries.Get (Stack 4 7) 7 1)) ∷
-    Unit (Some entries.Done) ∷
-    Unit (Some (entries.Get (Stack 4 8) 8 1)) ∷
-    Unit (Some entries.Done) ∷
-    Unit (Some (entries.Get (Stack 4 9) 9 1)) ∷
-    Unit (Some entries.Done) ∷
-    Unit (Some (entries.Hands 1)) ∷
-    Unit (Some (entries.Hands 1)) ∷
-    Unit (Some entries.Done) ∷
-    Unit (Some (entries.Get (Stack 4 10) 10 1)) ∷
-    Unit (Some entries.Done) ∷
-    Unit (Some (entries.Hands 1)) ∷
-    Unit (Some (entries.Hands 1)) ∷
-    Unit (Some (entries.Get (Stack 4 11) 11 1)) ∷
-    Unit (Some entries.Done) ∷
-    Unit (Some (entries.Hands 1)) ∷
-    Unit (Some (entries.Get (Stack 4 12) 12 1)) ∷
-    Unit (Some entries.Done) ∷
-    Unit (Some (entries.Hands 1)) ∷
-    Unit (Some entries.Done) ∷
-    Unit (Some (entries.Get (Stack 4 13) 13 1)) ∷
-    Unit (Some entries.Done) ∷
-    Unit (Some (entries.Get (Stack 4 14) 14 1)) ∷
-    Unit (Some entries.Done) ∷
-    Unit (Some (entries.Hands 1)) ∷
-    Unit (Some (entries.Hands 1)) ∷
-    Unit (Some (entries.Hands 1)) ∷
-    Unit (Some (entries.Hands 1)) ∷
-    Unit (Some (entries.Get (Stack 4 15) 15 1)) ∷
-    Unit (Some entries.Done) ∷
-    Unit (Some (entries.Get (Stack 4 16) 16 1)) ∷
-    Unit (Some entries.Done) ∷
-    Unit (Some (entries.Get (Stack 4 17) 17 1)) ∷
-    Unit (Some entries.Done) ∷
-    Unit (Some (entries.Get (Stack 4 18) 18 1)) ∷
-    Unit (Some entries.Done) ∷
-    Unit (Some (entries.Get (Stack 4 19) 19 1)) ∷
-    Unit (Some entries.Done) ∷
-    Unit (Some (entries.Hands 1)) ∷
-    Unit (Some (entries.Get (Stack 4 20) 20 1)) ∷
-    Unit (Some entries.Done) ∷
-    Unit (Some (entries.Hands 1)) ∷
-    Unit (Some (entries.Hands 1)) ∷
-    Unit (Some (entries.Get (Stack 4 21) 21 1)) ∷
-    Unit (Some entries.Done) ∷
-    Unit (Some (entries.Hands 1)) ∷
-    Unit (Some (entries.Hands 1)) ∷
-    Unit (Some (entries.Get (Stack 4 22) 22 1)) ∷
-    Unit (Some entries.Done) ∷
-    Unit (Some (entries.Hands 1)) ∷
-    Unit (Some (entries.Hands 1)) ∷
-    Unit (Some (entries.Get (Stack 4 23) 23 1)) ∷
-    Unit (Some entries.Done) ∷
-    Unit (Some (entries.Get (Stack 4 24) 24 1)) ∷
-    Unit (Some entries.Done) ∷
-    Unit (Some (entries.Get (Stack 4 25) 25 1)) ∷
-    Unit (Some entries.Done) ∷
-    Unit (Some (entries.Get (Stack 4 26) 26 1)) ∷
-    Unit (Some entries.Done) ∷
-    Unit (Some (entries.Hands 1)) ∷
-    Unit (Some (entries.Hands 1)) ∷
-    Unit (Some entries.Done) ∷
-    Unit (Some (entries.Get (Stack 4 27) 27 1)) ∷
-    Unit (Some entries.Done) ∷
-    Unit (Some (entries.Hands 1)) ∷
-    Unit (Some (entries.Get (Stack 4 28) 28 1)) ∷
-    Unit (Some entries.Done) ∷
-    Unit (Some (entries.Hands 1)) ∷
-    Unit (Some (entries.Hands 1)) ∷
-    Unit (Some (entries.Hands 1)) ∷
-    Unit (Some (entries.Get (Stack 4 29) 29 1)) ∷
-    Unit (Some entries.Done) ∷
-    Unit (Some (entries.Hands 1)) ∷
-    Unit (Some (entries.Hands 1)) ∷
-    Unit (Some (entries.Get (Stack 4 30) 30 1)) ∷
-    Unit (Some entries.Done) ∷
-    Unit (Some (entries.Hands 1)) ∷
-    Unit (Some (entries.Get (Stack 4 31) 31 1)) ∷
-    Unit (Some entries.Done) ∷
-    Unit None ∷
-    Unit None ∷
-    Unit None ∷
-    Unit (Some (entries.Get (Text 1 0) 0 1)) ∷
-    Unit None ∷
-    Unit (Some (entries.Zero (Data 3 1))) ∷
-    Unit (Some (entries.Zero (Data 3 3))) ∷
-    Unit (Some (entries.Get (Stack 3 0) 0 1)) ∷
-    Unit None ∷
-    Unit (Some (entries.Zero (Data 2 1))) ∷
-    Unit (Some (entries.Zero (Data 2 3))) ∷
-    Unit (Some (entries.Get (Stack 2 0) 0 1)) ∷
-    Unit None ∷
-    Unit (Some entries.Done) ∷
-    Unit (Some (entries.Zero (Stack 2 1))) ∷
-    Unit (Some (entries.Zero (Stack 2 2))) ∷
-    Unit (Some (entries.Zero (Stack 2 3))) ∷
-    Unit (Some (entries.Zero (Stack 2 4))) ∷
-    Unit (Some (entries.Zero (Stack 2 5))) ∷
-    Unit (Some (entries.Zero (Stack 2 6))) ∷
-    Unit (Some (entries.Zero (Stack 2 7))) ∷
-    Unit (Some (entries.Zero (Stack 2 8))) ∷
-    Unit (Some (entries.Zero (Stack 2 9))) ∷
-    Unit (Some (entries.Zero (Stack 2 10))) ∷
-    Unit (Some (entries.Zero (Stack 2 11))) ∷
-    Unit (Some (entries.Zero (Stack 2 12))) ∷
-    Unit (Some (entries.Zero (Stack 2 13))) ∷
-    Unit (Some (entries.Zero (Stack 2 14))) ∷
-    Unit (Some (entries.Zero (Stack 2 15))) ∷
-    Unit (Some (entries.Zero (Stack 2 16))) ∷
-    Unit (Some (entries.Zero (Stack 2 17))) ∷
-    Unit (Some (entries.Zero (Stack 2 18))) ∷
-    Unit (Some (entries.Zero (Stack 2 19))) ∷
-    Unit (Some (entries.Zero (Stack 2 20))) ∷
-    Unit (Some (entries.Zero (Stack 2 21))) ∷
-    Unit (Some (entries.Zero (Stack 2 22))) ∷
-    Unit (Some (entries.Zero (Stack 2 23))) ∷
-    Unit (Some (entries.Zero (Stack 2 24))) ∷
-    Unit (Some (entries.Zero (Stack 2 25))) ∷
-    Unit (Some (entries.Zero (Stack 2 26))) ∷
-    Unit (Some (entries.Zero (Stack 2 27))) ∷
-    Unit (Some (entries.Zero (Stack 2 28))) ∷
-    Unit (Some (entries.Zero (Stack 2 29))) ∷
-    Unit (Some (entries.Zero (Stack 2 30))) ∷
-    Unit (Some (entries.Zero (Stack 2 31))) ∷
-    Unit (Some (entries.Reclaim (Stack 2 27))) ∷
-    Unit (Some (entries.Reclaim (Stack 2 28))) ∷
-    Unit (Some (entries.Reclaim (Stack 2 29))) ∷
-    Unit (Some (entries.Reclaim (Stack 2 30))) ∷
-    Unit (Some (entries.Reclaim (Stack 2 31))) ∷
-    Unit (Some (entries.Reclaim (Text 1 0))) ∷
-    Unit (Some (entries.Hands 1)) ∷
-    Unit (Some entries.Done) ∷
-    Unit (Some (entries.Get (Stack 2 0) 0 1)) ∷
-    Unit (Some entries.Done) ∷
-    Unit (Some (entries.Hands 1)) ∷
-    Unit (Some (entries.Hands 1)) ∷
-    Unit (Some (entries.Hands 1)) ∷
-    Unit (Some entries.Done) ∷
-    Unit (Some (entries.Get (Data 2 1) 1 1)) ∷
-    Unit (Some entries.Done) ∷
-    Unit (Some (entries.Hands 1)) ∷
-    Unit (Some (entries.Hands 1)) ∷
-    Unit (Some (entries.Hands 1)) ∷
-    Unit (Some entries.Done) ∷
-    Unit (Some (entries.Get (Stack 2 1) 1 2)) ∷
-    Unit (Some entries.Done) ∷
-    Unit (Some (entries.Reclaim (Stack 2 2))) ∷
-    Unit (Some (entries.Get (Stack 2 3) 3 1)) ∷
-    Unit (Some entries.Done) ∷
-    Unit (Some (entries.Get (Stack 2 4) 4 1)) ∷
-    Unit (Some entries.Done) ∷
-    Unit (Some (entries.Get (Stack 2 5) 5 1)) ∷
-    Unit (Some entries.Done) ∷
-    Unit (Some (entries.Hands 1)) ∷
-    Unit (Some (entries.Hands 1)) ∷
-    Unit (Some (entries.Hands 1)) ∷
-    Unit (Some entries.Done) ∷
-    Unit (Some (entries.Get (Stack 2 6) 6 1)) ∷
-    Unit (Some entries.Done) ∷
-    Unit (Some (entries.Reclaim (Stack 2 14))) ∷
-    Unit (Some (entries.Reclaim (Stack 2 15))) ∷
-    Unit (Some (entries.Reclaim (Stack 2 16))) ∷
-    Unit (Some (entries.Get (Stack 2 17) 17 1)) ∷
-    Unit (Some entries.Done) ∷
-    Unit (Some (entries.Get (Stack 2 18) 18 1)) ∷
-    Unit (Some entries.Done) ∷
-    Unit (Some (entries.Get (Stack 2 19) 19 1)) ∷
-    Unit (Some entries.Done) ∷
-    Unit (Some (entries.Hands 1)) ∷
-    Unit (Some entries.Done) ∷
-    Unit (Some (entries.Get (Stack 2 20) 20 1)) ∷
-    Unit (Some entries.Done) ∷
-    Unit (Some (entries.Get (Stack 2 21) 21 1)) ∷
-    Unit (Some entries.Done) ∷
-    Unit (Some (entries.Get (Stack 2 22) 22 1)) ∷
-    Unit (Some entries.Done) ∷
-    Unit (Some (entries.Get (Stack 2 23) 23 1)) ∷
-    Unit (Some entries.Done) ∷
-    Unit (Some (entries.Get (Stack 2 24) 24 3)) ∷
-    Unit (Some entries.Done) ∷
-    Unit (Some (entries.Reclaim (Stack 2 25))) ∷
-    Unit (Some (entries.Reclaim (Stack 2 26))) ∷
-    Unit (Some (entries.Get (Stack 3 0) 0 1)) ∷
-    Unit (Some entries.Done) ∷
-    Unit (Some (entries.Zero (Stack 3 1))) ∷
-    Unit (Some (entries.Zero (Stack 3 2))) ∷
-    Unit (Some (entries.Zero (Stack 3 3))) ∷
-    Unit (Some (entries.Hands 1)) ∷
-    Unit (Some (entries.Hands 1)) ∷
-    Unit (Some (entries.Hands 1)) ∷
-    Unit (Some (entries.Hands 1)) ∷
-    Unit (Some (entries.Hands 1)) ∷
-    Unit (Some (entries.Hands 1)) ∷
-    Unit (Some (entries.Hands 1)) ∷
-    Unit (Some (entries.Hands 1)) ∷
-    Unit (Some (entries.Hands 1)) ∷
-    Unit (Some (entries.Hands 1)) ∷
-    Unit (Some (entries.Hands 1)) ∷
-    Unit (Some (entries.Hands 1)) ∷
-    Unit (Some (entries.Hands 1)) ∷
-    Unit (Some (entries.Hands 1)) ∷
-    Unit (Some (entries.Hands 1)) ∷
-    Unit (Some (entries.Hands 1)) ∷
-    Unit (Some entries.Done) ∷
-    Unit (Some (entries.Zero (Stack 3 4))) ∷
-    Unit (Some (entries.Hands 1)) ∷
-    Unit (Some (entries.Hands 1)) ∷
-    Unit (Some entries.Done) ∷
-    Unit (Some (entries.Zero (Stack 3 5))) ∷
-    Unit (Some (entries.Zero (Stack 3 6))) ∷
-    Unit (Some (entries.Zero (Stack 3 7))) ∷
-    Unit (Some (entries.Zero (Stack 3 8))) ∷
-    Unit (Some (entries.Zero (Stack 3 9))) ∷
-    Unit (Some (entries.Hands 1)) ∷
-    Unit (Some (entries.Zero (Stack 3 10))) ∷
-    Unit (Some (entries.Hands 1)) ∷
-    Unit (Some (entries.Hands 1)) ∷
-    Unit (Some entries.Done) ∷
-    Unit (Some (entries.Zero (Stack 3 11))) ∷
-    Unit (Some (entries.Hands 1)) ∷
-    Unit (Some (entries.Hands 1)) ∷
-    Unit (Some entries.Done) ∷
-    Unit (Some (entries.Zero (Stack 3 12))) ∷
-    Unit (Some (entries.Zero (Stack 3 13))) ∷
-    Unit (Some (entries.Zero (Stack 3 14))) ∷
-    Unit (Some (entries.Zero (Stack 3 15))) ∷
-    Unit (Some (entries.Zero (Stack 3 16))) ∷
-    Unit (Some (entries.Zero (Stack 3 17))) ∷
-    Unit (Some (entries.Zero (Stack 3 18))) ∷
-    Unit (Some (entries.Zero (Stack 3 19))) ∷
-    Unit (Some (entries.Zero (Stack 3 20))) ∷
-    Unit (Some (entries.Zero (Stack 3 21))) ∷
-    Unit (Some (entries.Zero (Stack 3 22))) ∷
-    Unit (Some (entries.Hands 1)) ∷
-    Unit (Some (entries.Hands 1)) ∷
-    Unit (Some (entries.Hands 1)) ∷
-    Unit (Some (entries.Hands 1)) ∷
-    Unit (Some (entries.Zero (Stack 3 23))) ∷
-    Unit (Some (entries.Hands 1)) ∷
-    Unit (Some (entries.Hands 1)) ∷
-    Unit (Some (entries.Zero (Stack 3 24))) ∷
-    Unit (Some (entries.Hands 1)) ∷
-    Unit (Some (entries.Zero (Stack 3 25))) ∷
-    Unit (Some (entries.Hands 1)) ∷
-    Unit (Some (entries.Hands 1)) ∷
-    Unit (Some (entries.Zero (Stack 3 26))) ∷
-    Unit (Some (entries.Hands 1)) ∷
-    Unit (Some (entries.Hands 1)) ∷
-    Unit (Some (entries.Hands 1)) ∷
-    Unit (Some (entries.Hands 1)) ∷
-    Unit (Some (entries.Hands 1)) ∷
-    Unit (Some (entries.Hands 1)) ∷
-    Unit (Some (entries.Hands 1)) ∷
-    Unit (Some (entries.Hands 1)) ∷
-    Unit (Some (entries.Zero (Stack 3 27))) ∷
-    Unit (Some (entries.Hands 1)) ∷
-    Unit (Some entries.Done) ∷
-    Unit (Some (entries.Zero (Stack 3 28))) ∷
-    Unit (Some (entries.Zero (Stack 3 29))) ∷
-    Unit (Some (entries.Zero (Stack 3 30))) ∷
-    Unit (Some (entries.Zero (Stack 3 31))) ∷
-    Unit (Some (entries.Get (Data 3 1) 1 1)) ∷
-    Unit (Some entries.Done) ∷
-    Unit (Some (entries.Hands 1)) ∷
-    Unit (Some (entries.Hands 1)) ∷
-    Unit (Some entries.Done) ∷
-    Unit (Some (entries.Get (Data 3 3) 3 1)) ∷
-    Unit (Some entries.Done) ∷
-    Unit (Some (entries.Reclaim (Text 1 0))) ∷
-    Unit (Some (entries.Get (Stack 3 0) 0 1)) ∷
-    Unit (Some entries.Done) ∷
-    Unit (Some (entries.Get (Stack 3 1) 1 1)) ∷
-    Unit (Some entries.Done) ∷
-    Unit (Some (entries.Get (Stack 3 2) 2 1)) ∷
-    Unit (Some entries.Done) ∷
-    Unit (Some (entries.Get (Stack 3 3) 3 1)) ∷
-    Unit (Some entries.Done) ∷
-    Unit (Some (entries.Hands 1)) ∷
-    Unit (Some (entries.Hands 1)) ∷
-    Unit (Some (entries.Hands 1)) ∷
-    Unit (Some (entries.Hands 1)) ∷
-    Unit (Some (entries.Hands 1)) ∷
-    Unit (Some (entries.Hands 1)) ∷
-    Unit (Some (entries.Hands 1)) ∷
-    Unit (Some (entries.Hands 1)) ∷
-    Unit (Some (entries.Hands 1)) ∷
-    Unit (Some (entries.Hands 1)) ∷
-    Unit (Some (entries.Hands 1)) ∷
-    Unit (Some (entries.Hands 1)) ∷
-    Unit (Some (entries.Hands 1)) ∷
-    Unit (Some (entries.Hands 1)) ∷
-    Unit (Some (entries.Hands 1)) ∷
-    Unit (Some entries.Done) ∷
-    Unit (Some (entries.Get (Stack 3 4) 4 4)) ∷
-    Unit (Some entries.Done) ∷
-    Unit (Some (entries.Reclaim (Stack 3 5))) ∷
-    Unit (Some (entries.Reclaim (Stack 3 6))) ∷
-    Unit (Some (entries.Reclaim (Stack 3 7))) ∷
-    Unit (Some (entries.Get (Stack 3 8) 8 1)) ∷
-    Unit (Some entries.Done) ∷
-    Unit (Some (entries.Get (Stack 3 9) 9 1)) ∷
-    Unit (Some entries.Done) ∷
-    Unit (Some (entries.Get (Stack 3 10) 10 1)) ∷
-    Unit (Some entries.Done) ∷
-    Unit (Some (entries.Get (Stack 3 11) 11 1)) ∷
-    Unit (Some entries.Done) ∷
-    Unit (Some (entries.Hands 1)) ∷
-    Unit (Some (entries.Hands 1)) ∷
-    Unit (Some (entries.Hands 1)) ∷
-    Unit (Some (entries.Hands 1)) ∷
-    Unit (Some (entries.Hands 1)) ∷
-    Unit (Some (entries.Hands 1)) ∷
-    Unit (Some (entries.Hands 1)) ∷
-    Unit (Some (entries.Hands 1)) ∷
-    Unit (Some entries.Done) ∷
-    Unit (Some (entries.Get (Stack 3 12) 12 1)) ∷
-    Unit (Some entries.Done) ∷
-    Unit (Some (entries.Get (Stack 3 13) 13 1)) ∷
-    Unit (Some entries.Done) ∷
-    Unit (Some (entries.Hands 1)) ∷
-    Unit (Some entries.Done) ∷
-    Unit (Some (entries.Get (Stack 3 14) 14 1)) ∷
-    Unit (Some entries.Done) ∷
-    Unit (Some (entries.Get (Stack 3 15) 15 1)) ∷
-    Unit (Some entries.Done) ∷
-    Unit (Some (entries.Get (Stack 3 16) 16 1)) ∷
-    Unit (Some entries.Done) ∷
-    Unit (Some (entries.Get (Stack 3 17) 17 1)) ∷
-    Unit (Some entries.Done) ∷
-    Unit (Some (entries.Hands 1)) ∷
-    Unit (Some (entries.Get (Stack 3 18) 18 1)) ∷
-    Unit (Some entries.Done) ∷
-    Unit (Some (entries.Get (Stack 3 19) 19 1)) ∷
-    Unit (Some entries.Done) ∷
-    Unit (Some (entries.Get (Stack 3 20) 20 1)) ∷
-    Unit (Some entries.Done) ∷
-    Unit (Some (entries.Get (Stack 3 21) 21 1)) ∷
-    Unit (Some entries.Done) ∷
-    Unit (Some (entries.Get (Stack 3 22) 22 1)) ∷
-    Unit (Some entries.Done) ∷
-    Unit (Some (entries.Get (Stack 3 23) 23 1)) ∷
-    Unit (Some entries.Done) ∷
-    Unit (Some (entries.Get (Stack 3 24) 24 4)) ∷
-    Unit (Some entries.Done) ∷
-    Unit (Some (entries.Reclaim (Stack 3 25))) ∷
-    Unit (Some (entries.Reclaim (Stack 3 26))) ∷
-    Unit (Some (entries.Reclaim (Stack 3 27))) ∷
-    Unit (Some (entries.Get (Stack 3 28) 28 1)) ∷
-    Unit (Some entries.Done) ∷
-    Unit (Some (entries.Get (Stack 3 29) 29 1)) ∷
-    Unit (Some entries.Done) ∷
-    Unit (Some (entries.Hands 1)) ∷
-    Unit (Some (entries.Hands 1)) ∷
-    Unit (Some (entries.Hands 1)) ∷
-    Unit (Some (entries.Hands 1)) ∷
-    Unit (Some (entries.Hands 1)) ∷
-    Unit (Some (entries.Hands 1)) ∷
-    Unit (Some (entries.Hands 1)) ∷
-    Unit (Some (entries.Hands 1)) ∷
-    Unit (Some (entries.Hands 1)) ∷
-    Unit (Some (entries.Hands 1)) ∷
-    Unit (Some (entries.Hands 1)) ∷
-    Unit (Some (entries.Hands 1)) ∷
-    Unit (Some (entries.Hands 1)) ∷
-    Unit (Some (entries.Hands 1)) ∷
-    Unit (Some (entries.Hands 1)) ∷
-    Unit (Some (entries.Hands 1)) ∷
-    Unit (Some (entries.Hands 1)) ∷
-    Unit (Some entries.Done) ∷
-    Unit (Some (entries.Get (Stack 3 30) 30 1)) ∷
-    Unit (Some entries.Done) ∷
-    Unit (Some (entries.Get (Stack 3 31) 31 1)) ∷
-    Unit (Some entries.Done) ∷
-    Unit (Some (entries.Hands 1)) ∷
-    Unit (Some (entries.Get (Text 1 0) 0 1)) ∷
-    Unit (Some entries.Done) ∷
+    Made (Some (entries.Get (Text 1 0) 0 2)) ∷
+    Made None ∷
+    Made None ∷
+    Made None ∷
+    Made None ∷
+    Made None ∷
+    Made None ∷
+    Made None ∷
+    Made None ∷
+    Made None ∷
+    Made None ∷
+    Made None ∷
+    Made (Some (entries.Zero (Data 1 1))) ∷
+    Made (Some (entries.Zero (Data 1 3))) ∷
+    Made (Some (entries.Zero (Stack 1 1))) ∷
+    Made (Some (entries.Zero (Stack 1 2))) ∷
+    Made (Some (entries.Zero (Stack 1 3))) ∷
+    Made (Some (entries.Zero (Stack 1 4))) ∷
+    Made (Some (entries.Zero (Stack 1 5))) ∷
+    Made (Some (entries.Zero (Stack 1 6))) ∷
+    Made (Some (entries.Zero (Stack 1 7))) ∷
+    Made (Some (entries.Zero (Stack 1 8))) ∷
+    Made (Some (entries.Zero (Stack 1 9))) ∷
+    Made (Some (entries.Zero (Stack 1 10))) ∷
+    Made (Some (entries.Zero (Stack 1 11))) ∷
+    Made (Some (entries.Zero (Stack 1 12))) ∷
+    Made (Some (entries.Zero (Stack 1 13))) ∷
+    Made (Some (entries.Zero (Stack 1 14))) ∷
+    Made (Some (entries.Zero (Stack 1 15))) ∷
+    Made (Some (entries.Zero (Stack 1 16))) ∷
+    Made (Some (entries.Zero (Stack 1 17))) ∷
+    Made (Some (entries.Zero (Stack 1 18))) ∷
+    Made (Some (entries.Zero (Stack 1 19))) ∷
+    Made (Some (entries.Zero (Stack 1 20))) ∷
+    Made (Some (entries.Zero (Stack 1 21))) ∷
+    Made (Some (entries.Zero (Stack 1 22))) ∷
+    Made (Some (entries.Zero (Stack 1 23))) ∷
+    Made (Some (entries.Zero (Stack 1 24))) ∷
+    Made (Some (entries.Zero (Stack 1 25))) ∷
+    Made (Some (entries.Zero (Stack 1 26))) ∷
+    Made (Some (entries.Zero (Stack 1 27))) ∷
+    Made (Some (entries.Zero (Stack 1 28))) ∷
+    Made (Some (entries.Zero (Stack 1 29))) ∷
+    Made (Some (entries.Zero (Stack 1 30))) ∷
+    Made (Some (entries.Zero (Stack 1 31))) ∷
+    Made (Some (entries.Reclaim (Stack 1 26))) ∷
+    Made (Some (entries.Get (Stack 1 10) 10 1)) ∷
+    Made (Some entries.Done) ∷
+    Made (Some (entries.Hands 1)) ∷
+    Made (Some (entries.Hands 1)) ∷
+    Made (Some (entries.Hands 1)) ∷
+    Made (Some (entries.Hands 1)) ∷
+    Made (Some (entries.Hands 1)) ∷
+    Made (Some entries.Done) ∷
+    Made (Some (entries.Get (Stack 1 11) 11 1)) ∷
+    Made (Some entries.Done) ∷
+    Made (Some (entries.Hands 1)) ∷
+    Made (Some entries.Done) ∷
+    Made (Some (entries.Get (Stack 1 12) 12 4)) ∷
+    Made (Some entries.Done) ∷
+    Made (Some (entries.Reclaim (Stack 1 13))) ∷
+    Made (Some (entries.Reclaim (Stack 1 14))) ∷
+    Made (Some (entries.Reclaim (Stack 1 15))) ∷
+    Made (Some (entries.Get (Stack 1 16) 16 1)) ∷
+    Made (Some entries.Done) ∷
+    Made (Some (entries.Get (Stack 1 17) 17 1)) ∷
+    Made (Some entries.Done) ∷
+    Made (Some (entries.Get (Stack 1 18) 18 1)) ∷
+    Made (Some entries.Done) ∷
+    Made (Some (entries.Get (Stack 1 19) 19 1)) ∷
+    Made (Some entries.Done) ∷
+    Made (Some (entries.Hands 1)) ∷
+    Made (Some (entries.Hands 1)) ∷
+    Made (Some (entries.Hands 1)) ∷
+    Made (Some (entries.Hands 1)) ∷
+    Made (Some (entries.Hands 1)) ∷
+    Made (Some (entries.Hands 1)) ∷
+    Made (Some (entries.Hands 1)) ∷
+    Made (Some (entries.Hands 1)) ∷
+    Made (Some (entries.Hands 1)) ∷
+    Made (Some (entries.Hands 1)) ∷
+    Made (Some (entries.Hands 1)) ∷
+    Made (Some (entries.Hands 1)) ∷
+    Made (Some (entries.Hands 1)) ∷
+    Made (Some (entries.Hands 1)) ∷
+    Made (Some (entries.Hands 1)) ∷
+    Made (Some (entries.Hands 1)) ∷
+    Made (Some entries.Done) ∷
+    Made (Some (entries.Get (Stack 1 20) 20 1)) ∷
+    Made (Some entries.Done) ∷
+    Made (Some (entries.Get (Stack 1 21) 21 1)) ∷
+    Made (Some entries.Done) ∷
+    Made (Some (entries.Get (Stack 1 22) 22 1)) ∷
+    Made (Some entries.Done) ∷
+    Made (Some (entries.Get (Stack 1 23) 23 1)) ∷
+    Made (Some entries.Done) ∷
+    Made (Some (entries.Get (Stack 1 24) 24 1)) ∷
+    Made (Some entries.Done) ∷
+    Made (Some (entries.Get (Stack 1 27) 27 1)) ∷
+    Made (Some entries.Done) ∷
+    Made (Some (entries.Get (Stack 1 28) 28 1)) ∷
+    Made (Some entries.Done) ∷
+    Made (Some (entries.Get (Stack 1 29) 29 1)) ∷
+    Made (Some entries.Done) ∷
+    Made (Some (entries.Get (Stack 1 30) 30 1)) ∷
+    Made (Some entries.Done) ∷
+    Made (Some (entries.Reclaim (Text 1 0))) ∷
+    Made (Some (entries.Hands 1)) ∷
+    Made (Some (entries.Hands 1)) ∷
+    Made (Some (entries.Hands 1)) ∷
+    Made (Some entries.Done) ∷
+    Made (Some (entries.Get (Data 4 1) 1 1)) ∷
+    Made (Some entries.Done) ∷
+    Made (Some (entries.Hands 1)) ∷
+    Made (Some (entries.Hands 1)) ∷
+    Made (Some (entries.Hands 1)) ∷
+    Made (Some (entries.Hands 1)) ∷
+    Made (Some (entries.Hands 1)) ∷
+    Made (Some (entries.Hands 1)) ∷
+    Made (Some (entries.Hands 1)) ∷
+    Made (Some (entries.Hands 1)) ∷
+    Made (Some (entries.Hands 1)) ∷
+    Made (Some (entries.Hands 1)) ∷
+    Made (Some entries.Done) ∷
+    Made (Some (entries.Get (Data 4 3) 3 1)) ∷
+    Made (Some entries.Done) ∷
+    Made (Some (entries.Get (Stack 4 0) 0 1)) ∷
+    Made (Some entries.Done) ∷
+    Made (Some (entries.Get (Stack 4 1) 1 1)) ∷
+    Made (Some entries.Done) ∷
+    Made (Some (entries.Get (Stack 4 2) 2 1)) ∷
+    Made (Some entries.Done) ∷
+    Made (Some (entries.Get (Stack 4 3) 3 3)) ∷
+    Made (Some entries.Done) ∷
+    Made (Some (entries.Reclaim (Stack 4 4))) ∷
+    Made (Some (entries.Reclaim (Stack 4 5))) ∷
+    Made (Some (entries.Get (Stack 4 6) 6 1)) ∷
+    Made (Some entries.Done) ∷
+    Made (Some (entries.Get (Stack 4 7) 7 1)) ∷
+    Made (Some entries.Done) ∷
+    Made (Some (entries.Get (Stack 4 8) 8 1)) ∷
+    Made (Some entries.Done) ∷
+    Made (Some (entries.Get (Stack 4 9) 9 1)) ∷
+    Made (Some entries.Done) ∷
+    Made (Some (entries.Hands 1)) ∷
+    Made (Some (entries.Hands 1)) ∷
+    Made (Some entries.Done) ∷
+    Made (Some (entries.Get (Stack 4 10) 10 1)) ∷
+    Made (Some entries.Done) ∷
+    Made (Some (entries.Hands 1)) ∷
+    Made (Some (entries.Hands 1)) ∷
+    Made (Some (entries.Get (Stack 4 11) 11 1)) ∷
+    Made (Some entries.Done) ∷
+    Made (Some (entries.Hands 1)) ∷
+    Made (Some (entries.Get (Stack 4 12) 12 1)) ∷
+    Made (Some entries.Done) ∷
+    Made (Some (entries.Hands 1)) ∷
+    Made (Some entries.Done) ∷
+    Made (Some (entries.Get (Stack 4 13) 13 1)) ∷
+    Made (Some entries.Done) ∷
+    Made (Some (entries.Get (Stack 4 14) 14 1)) ∷
+    Made (Some entries.Done) ∷
+    Made (Some (entries.Hands 1)) ∷
+    Made (Some (entries.Hands 1)) ∷
+    Made (Some (entries.Hands 1)) ∷
+    Made (Some (entries.Hands 1)) ∷
+    Made (Some (entries.Get (Stack 4 15) 15 1)) ∷
+    Made (Some entries.Done) ∷
+    Made (Some (entries.Get (Stack 4 16) 16 1)) ∷
+    Made (Some entries.Done) ∷
+    Made (Some (entries.Get (Stack 4 17) 17 1)) ∷
+    Made (Some entries.Done) ∷
+    Made (Some (entries.Get (Stack 4 18) 18 1)) ∷
+    Made (Some entries.Done) ∷
+    Made (Some (entries.Get (Stack 4 19) 19 1)) ∷
+    Made (Some entries.Done) ∷
+    Made (Some (entries.Hands 1)) ∷
+    Made (Some (entries.Get (Stack 4 20) 20 1)) ∷
+    Made (Some entries.Done) ∷
+    Made (Some (entries.Hands 1)) ∷
+    Made (Some (entries.Hands 1)) ∷
+    Made (Some (entries.Get (Stack 4 21) 21 1)) ∷
+    Made (Some entries.Done) ∷
+    Made (Some (entries.Hands 1)) ∷
+    Made (Some (entries.Hands 1)) ∷
+    Made (Some (entries.Get (Stack 4 22) 22 1)) ∷
+    Made (Some entries.Done) ∷
+    Made (Some (entries.Hands 1)) ∷
+    Made (Some (entries.Hands 1)) ∷
+    Made (Some (entries.Get (Stack 4 23) 23 1)) ∷
+    Made (Some entries.Done) ∷
+    Made (Some (entries.Get (Stack 4 24) 24 1)) ∷
+    Made (Some entries.Done) ∷
+    Made (Some (entries.Get (Stack 4 25) 25 1)) ∷
+    Made (Some entries.Done) ∷
+    Made (Some (entries.Get (Stack 4 26) 26 1)) ∷
+    Made (Some entries.Done) ∷
+    Made (Some (entries.Hands 1)) ∷
+    Made (Some (entries.Hands 1)) ∷
+    Made (Some entries.Done) ∷
+    Made (Some (entries.Get (Stack 4 27) 27 1)) ∷
+    Made (Some entries.Done) ∷
+    Made (Some (entries.Hands 1)) ∷
+    Made (Some (entries.Get (Stack 4 28) 28 1)) ∷
+    Made (Some entries.Done) ∷
+    Made (Some (entries.Hands 1)) ∷
+    Made (Some (entries.Hands 1)) ∷
+    Made (Some (entries.Hands 1)) ∷
+    Made (Some (entries.Get (Stack 4 29) 29 1)) ∷
+    Made (Some entries.Done) ∷
+    Made (Some (entries.Hands 1)) ∷
+    Made (Some (entries.Hands 1)) ∷
+    Made (Some (entries.Get (Stack 4 30) 30 1)) ∷
+    Made (Some entries.Done) ∷
+    Made (Some (entries.Hands 1)) ∷
+    Made (Some (entries.Get (Stack 4 31) 31 1)) ∷
+    Made (Some entries.Done) ∷
+    Made None ∷
+    Made None ∷
+    Made None ∷
+    Made (Some (entries.Get (Text 1 0) 0 1)) ∷
+    Made None ∷
+    Made (Some (entries.Zero (Data 3 1))) ∷
+    Made (Some (entries.Zero (Data 3 3))) ∷
+    Made (Some (entries.Get (Stack 3 0) 0 1)) ∷
+    Made None ∷
+    Made (Some (entries.Zero (Data 2 1))) ∷
+    Made (Some (entries.Zero (Data 2 3))) ∷
+    Made (Some (entries.Get (Stack 2 0) 0 1)) ∷
+    Made None ∷
+    Made (Some entries.Done) ∷
+    Made (Some (entries.Zero (Stack 2 1))) ∷
+    Made (Some (entries.Zero (Stack 2 2))) ∷
+    Made (Some (entries.Zero (Stack 2 3))) ∷
+    Made (Some (entries.Zero (Stack 2 4))) ∷
+    Made (Some (entries.Zero (Stack 2 5))) ∷
+    Made (Some (entries.Zero (Stack 2 6))) ∷
+    Made (Some (entries.Zero (Stack 2 7))) ∷
+    Made (Some (entries.Zero (Stack 2 8))) ∷
+    Made (Some (entries.Zero (Stack 2 9))) ∷
+    Made (Some (entries.Zero (Stack 2 10))) ∷
+    Made (Some (entries.Zero (Stack 2 11))) ∷
+    Made (Some (entries.Zero (Stack 2 12))) ∷
+    Made (Some (entries.Zero (Stack 2 13))) ∷
+    Made (Some (entries.Zero (Stack 2 14))) ∷
+    Made (Some (entries.Zero (Stack 2 15))) ∷
+    Made (Some (entries.Zero (Stack 2 16))) ∷
+    Made (Some (entries.Zero (Stack 2 17))) ∷
+    Made (Some (entries.Zero (Stack 2 18))) ∷
+    Made (Some (entries.Zero (Stack 2 19))) ∷
+    Made (Some (entries.Zero (Stack 2 20))) ∷
+    Made (Some (entries.Zero (Stack 2 21))) ∷
+    Made (Some (entries.Zero (Stack 2 22))) ∷
+    Made (Some (entries.Zero (Stack 2 23))) ∷
+    Made (Some (entries.Zero (Stack 2 24))) ∷
+    Made (Some (entries.Zero (Stack 2 25))) ∷
+    Made (Some (entries.Zero (Stack 2 26))) ∷
+    Made (Some (entries.Zero (Stack 2 27))) ∷
+    Made (Some (entries.Zero (Stack 2 28))) ∷
+    Made (Some (entries.Zero (Stack 2 29))) ∷
+    Made (Some (entries.Zero (Stack 2 30))) ∷
+    Made (Some (entries.Zero (Stack 2 31))) ∷
+    Made (Some (entries.Reclaim (Stack 2 27))) ∷
+    Made (Some (entries.Reclaim (Stack 2 28))) ∷
+    Made (Some (entries.Reclaim (Stack 2 29))) ∷
+    Made (Some (entries.Reclaim (Stack 2 30))) ∷
+    Made (Some (entries.Reclaim (Stack 2 31))) ∷
+    Made (Some (entries.Reclaim (Text 1 0))) ∷
+    Made (Some (entries.Hands 1)) ∷
+    Made (Some entries.Done) ∷
+    Made (Some (entries.Get (Stack 2 0) 0 1)) ∷
+    Made (Some entries.Done) ∷
+    Made (Some (entries.Hands 1)) ∷
+    Made (Some (entries.Hands 1)) ∷
+    Made (Some (entries.Hands 1)) ∷
+    Made (Some entries.Done) ∷
+    Made (Some (entries.Get (Data 2 1) 1 1)) ∷
+    Made (Some entries.Done) ∷
+    Made (Some (entries.Hands 1)) ∷
+    Made (Some (entries.Hands 1)) ∷
+    Made (Some (entries.Hands 1)) ∷
+    Made (Some entries.Done) ∷
+    Made (Some (entries.Get (Stack 2 1) 1 2)) ∷
+    Made (Some entries.Done) ∷
+    Made (Some (entries.Reclaim (Stack 2 2))) ∷
+    Made (Some (entries.Get (Stack 2 3) 3 1)) ∷
+    Made (Some entries.Done) ∷
+    Made (Some (entries.Get (Stack 2 4) 4 1)) ∷
+    Made (Some entries.Done) ∷
+    Made (Some (entries.Get (Stack 2 5) 5 1)) ∷
+    Made (Some entries.Done) ∷
+    Made (Some (entries.Hands 1)) ∷
+    Made (Some (entries.Hands 1)) ∷
+    Made (Some (entries.Hands 1)) ∷
+    Made (Some entries.Done) ∷
+    Made (Some (entries.Get (Stack 2 6) 6 1)) ∷
+    Made (Some entries.Done) ∷
+    Made (Some (entries.Reclaim (Stack 2 14))) ∷
+    Made (Some (entries.Reclaim (Stack 2 15))) ∷
+    Made (Some (entries.Reclaim (Stack 2 16))) ∷
+    Made (Some (entries.Get (Stack 2 17) 17 1)) ∷
+    Made (Some entries.Done) ∷
+    Made (Some (entries.Get (Stack 2 18) 18 1)) ∷
+    Made (Some entries.Done) ∷
+    Made (Some (entries.Get (Stack 2 19) 19 1)) ∷
+    Made (Some entries.Done) ∷
+    Made (Some (entries.Hands 1)) ∷
+    Made (Some entries.Done) ∷
+    Made (Some (entries.Get (Stack 2 20) 20 1)) ∷
+    Made (Some entries.Done) ∷
+    Made (Some (entries.Get (Stack 2 21) 21 1)) ∷
+    Made (Some entries.Done) ∷
+    Made (Some (entries.Get (Stack 2 22) 22 1)) ∷
+    Made (Some entries.Done) ∷
+    Made (Some (entries.Get (Stack 2 23) 23 1)) ∷
+    Made (Some entries.Done) ∷
+    Made (Some (entries.Get (Stack 2 24) 24 3)) ∷
+    Made (Some entries.Done) ∷
+    Made (Some (entries.Reclaim (Stack 2 25))) ∷
+    Made (Some (entries.Reclaim (Stack 2 26))) ∷
+    Made (Some (entries.Get (Stack 3 0) 0 1)) ∷
+    Made (Some entries.Done) ∷
+    Made (Some (entries.Zero (Stack 3 1))) ∷
+    Made (Some (entries.Zero (Stack 3 2))) ∷
+    Made (Some (entries.Zero (Stack 3 3))) ∷
+    Made (Some (entries.Hands 1)) ∷
+    Made (Some (entries.Hands 1)) ∷
+    Made (Some (entries.Hands 1)) ∷
+    Made (Some (entries.Hands 1)) ∷
+    Made (Some (entries.Hands 1)) ∷
+    Made (Some (entries.Hands 1)) ∷
+    Made (Some (entries.Hands 1)) ∷
+    Made (Some (entries.Hands 1)) ∷
+    Made (Some (entries.Hands 1)) ∷
+    Made (Some (entries.Hands 1)) ∷
+    Made (Some (entries.Hands 1)) ∷
+    Made (Some (entries.Hands 1)) ∷
+    Made (Some (entries.Hands 1)) ∷
+    Made (Some (entries.Hands 1)) ∷
+    Made (Some (entries.Hands 1)) ∷
+    Made (Some (entries.Hands 1)) ∷
+    Made (Some entries.Done) ∷
+    Made (Some (entries.Zero (Stack 3 4))) ∷
+    Made (Some (entries.Hands 1)) ∷
+    Made (Some (entries.Hands 1)) ∷
+    Made (Some entries.Done) ∷
+    Made (Some (entries.Zero (Stack 3 5))) ∷
+    Made (Some (entries.Zero (Stack 3 6))) ∷
+    Made (Some (entries.Zero (Stack 3 7))) ∷
+    Made (Some (entries.Zero (Stack 3 8))) ∷
+    Made (Some (entries.Zero (Stack 3 9))) ∷
+    Made (Some (entries.Hands 1)) ∷
+    Made (Some (entries.Zero (Stack 3 10))) ∷
+    Made (Some (entries.Hands 1)) ∷
+    Made (Some (entries.Hands 1)) ∷
+    Made (Some entries.Done) ∷
+    Made (Some (entries.Zero (Stack 3 11))) ∷
+    Made (Some (entries.Hands 1)) ∷
+    Made (Some (entries.Hands 1)) ∷
+    Made (Some entries.Done) ∷
+    Made (Some (entries.Zero (Stack 3 12))) ∷
+    Made (Some (entries.Zero (Stack 3 13))) ∷
+    Made (Some (entries.Zero (Stack 3 14))) ∷
+    Made (Some (entries.Zero (Stack 3 15))) ∷
+    Made (Some (entries.Zero (Stack 3 16))) ∷
+    Made (Some (entries.Zero (Stack 3 17))) ∷
+    Made (Some (entries.Zero (Stack 3 18))) ∷
+    Made (Some (entries.Zero (Stack 3 19))) ∷
+    Made (Some (entries.Zero (Stack 3 20))) ∷
+    Made (Some (entries.Zero (Stack 3 21))) ∷
+    Made (Some (entries.Zero (Stack 3 22))) ∷
+    Made (Some (entries.Hands 1)) ∷
+    Made (Some (entries.Hands 1)) ∷
+    Made (Some (entries.Hands 1)) ∷
+    Made (Some (entries.Hands 1)) ∷
+    Made (Some (entries.Zero (Stack 3 23))) ∷
+    Made (Some (entries.Hands 1)) ∷
+    Made (Some (entries.Hands 1)) ∷
+    Made (Some (entries.Zero (Stack 3 24))) ∷
+    Made (Some (entries.Hands 1)) ∷
+    Made (Some (entries.Zero (Stack 3 25))) ∷
+    Made (Some (entries.Hands 1)) ∷
+    Made (Some (entries.Hands 1)) ∷
+    Made (Some (entries.Zero (Stack 3 26))) ∷
+    Made (Some (entries.Hands 1)) ∷
+    Made (Some (entries.Hands 1)) ∷
+    Made (Some (entries.Hands 1)) ∷
+    Made (Some (entries.Hands 1)) ∷
+    Made (Some (entries.Hands 1)) ∷
+    Made (Some (entries.Hands 1)) ∷
+    Made (Some (entries.Hands 1)) ∷
+    Made (Some (entries.Hands 1)) ∷
+    Made (Some (entries.Zero (Stack 3 27))) ∷
+    Made (Some (entries.Hands 1)) ∷
+    Made (Some entries.Done) ∷
+    Made (Some (entries.Zero (Stack 3 28))) ∷
+    Made (Some (entries.Zero (Stack 3 29))) ∷
+    Made (Some (entries.Zero (Stack 3 30))) ∷
+    Made (Some (entries.Zero (Stack 3 31))) ∷
+    Made (Some (entries.Get (Data 3 1) 1 1)) ∷
+    Made (Some entries.Done) ∷
+    Made (Some (entries.Hands 1)) ∷
+    Made (Some (entries.Hands 1)) ∷
+    Made (Some entries.Done) ∷
+    Made (Some (entries.Get (Data 3 3) 3 1)) ∷
+    Made (Some entries.Done) ∷
+    Made (Some (entries.Reclaim (Text 1 0))) ∷
+    Made (Some (entries.Get (Stack 3 0) 0 1)) ∷
+    Made (Some entries.Done) ∷
+    Made (Some (entries.Get (Stack 3 1) 1 1)) ∷
+    Made (Some entries.Done) ∷
+    Made (Some (entries.Get (Stack 3 2) 2 1)) ∷
+    Made (Some entries.Done) ∷
+    Made (Some (entries.Get (Stack 3 3) 3 1)) ∷
+    Made (Some entries.Done) ∷
+    Made (Some (entries.Hands 1)) ∷
+    Made (Some (entries.Hands 1)) ∷
+    Made (Some (entries.Hands 1)) ∷
+    Made (Some (entries.Hands 1)) ∷
+    Made (Some (entries.Hands 1)) ∷
+    Made (Some (entries.Hands 1)) ∷
+    Made (Some (entries.Hands 1)) ∷
+    Made (Some (entries.Hands 1)) ∷
+    Made (Some (entries.Hands 1)) ∷
+    Made (Some (entries.Hands 1)) ∷
+    Made (Some (entries.Hands 1)) ∷
+    Made (Some (entries.Hands 1)) ∷
+    Made (Some (entries.Hands 1)) ∷
+    Made (Some (entries.Hands 1)) ∷
+    Made (Some (entries.Hands 1)) ∷
+    Made (Some entries.Done) ∷
+    Made (Some (entries.Get (Stack 3 4) 4 4)) ∷
+    Made (Some entries.Done) ∷
+    Made (Some (entries.Reclaim (Stack 3 5))) ∷
+    Made (Some (entries.Reclaim (Stack 3 6))) ∷
+    Made (Some (entries.Reclaim (Stack 3 7))) ∷
+    Made (Some (entries.Get (Stack 3 8) 8 1)) ∷
+    Made (Some entries.Done) ∷
+    Made (Some (entries.Get (Stack 3 9) 9 1)) ∷
+    Made (Some entries.Done) ∷
+    Made (Some (entries.Get (Stack 3 10) 10 1)) ∷
+    Made (Some entries.Done) ∷
+    Made (Some (entries.Get (Stack 3 11) 11 1)) ∷
+    Made (Some entries.Done) ∷
+    Made (Some (entries.Hands 1)) ∷
+    Made (Some (entries.Hands 1)) ∷
+    Made (Some (entries.Hands 1)) ∷
+    Made (Some (entries.Hands 1)) ∷
+    Made (Some (entries.Hands 1)) ∷
+    Made (Some (entries.Hands 1)) ∷
+    Made (Some (entries.Hands 1)) ∷
+    Made (Some (entries.Hands 1)) ∷
+    Made (Some entries.Done) ∷
+    Made (Some (entries.Get (Stack 3 12) 12 1)) ∷
+    Made (Some entries.Done) ∷
+    Made (Some (entries.Get (Stack 3 13) 13 1)) ∷
+    Made (Some entries.Done) ∷
+    Made (Some (entries.Hands 1)) ∷
+    Made (Some entries.Done) ∷
+    Made (Some (entries.Get (Stack 3 14) 14 1)) ∷
+    Made (Some entries.Done) ∷
+    Made (Some (entries.Get (Stack 3 15) 15 1)) ∷
+    Made (Some entries.Done) ∷
+    Made (Some (entries.Get (Stack 3 16) 16 1)) ∷
+    Made (Some entries.Done) ∷
+    Made (Some (entries.Get (Stack 3 17) 17 1)) ∷
+    Made (Some entries.Done) ∷
+    Made (Some (entries.Hands 1)) ∷
+    Made (Some (entries.Get (Stack 3 18) 18 1)) ∷
+    Made (Some entries.Done) ∷
+    Made (Some (entries.Get (Stack 3 19) 19 1)) ∷
+    Made (Some entries.Done) ∷
+    Made (Some (entries.Get (Stack 3 20) 20 1)) ∷
+    Made (Some entries.Done) ∷
+    Made (Some (entries.Get (Stack 3 21) 21 1)) ∷
+    Made (Some entries.Done) ∷
+    Made (Some (entries.Get (Stack 3 22) 22 1)) ∷
+    Made (Some entries.Done) ∷
+    Made (Some (entries.Get (Stack 3 23) 23 1)) ∷
+    Made (Some entries.Done) ∷
+    Made (Some (entries.Get (Stack 3 24) 24 4)) ∷
+    Made (Some entries.Done) ∷
+    Made (Some (entries.Reclaim (Stack 3 25))) ∷
+    Made (Some (entries.Reclaim (Stack 3 26))) ∷
+    Made (Some (entries.Reclaim (Stack 3 27))) ∷
+    Made (Some (entries.Get (Stack 3 28) 28 1)) ∷
+    Made (Some entries.Done) ∷
+    Made (Some (entries.Get (Stack 3 29) 29 1)) ∷
+    Made (Some entries.Done) ∷
+    Made (Some (entries.Hands 1)) ∷
+    Made (Some (entries.Hands 1)) ∷
+    Made (Some (entries.Hands 1)) ∷
+    Made (Some (entries.Hands 1)) ∷
+    Made (Some (entries.Hands 1)) ∷
+    Made (Some (entries.Hands 1)) ∷
+    Made (Some (entries.Hands 1)) ∷
+    Made (Some (entries.Hands 1)) ∷
+    Made (Some (entries.Hands 1)) ∷
+    Made (Some (entries.Hands 1)) ∷
+    Made (Some (entries.Hands 1)) ∷
+    Made (Some (entries.Hands 1)) ∷
+    Made (Some (entries.Hands 1)) ∷
+    Made (Some (entries.Hands 1)) ∷
+    Made (Some (entries.Hands 1)) ∷
+    Made (Some (entries.Hands 1)) ∷
+    Made (Some (entries.Hands 1)) ∷
+    Made (Some entries.Done) ∷
+    Made (Some (entries.Get (Stack 3 30) 30 1)) ∷
+    Made (Some entries.Done) ∷
+    Made (Some (entries.Get (Stack 3 31) 31 1)) ∷
+    Made (Some entries.Done) ∷
+    Made (Some (entries.Hands 1)) ∷
+    Made (Some (entries.Get (Text 1 0) 0 1)) ∷
+    Made (Some entries.Done) ∷
     Ends last ∷ []
 
 stack_read_by_fours : walk images operations (starting images (1 ∷ 1 ∷ 1 ∷ []) 64) ≡ seen

@@ -10,7 +10,7 @@ use Rattle.flat_state.specs.Flat.{NamedImage}
 use Rattle.flat_state.specs.declared.change.Change.TheVariants.{End}
 use Rattle.page_model.specs.Pages.{Zeros}
 use Rattle.page_model.specs.Placement.{Placement}
-use Rattle.place_vectors.proofs.Walk.{Operation, Fixed, Serve, Step, Seen, Unit, Ends, named, slot, empty, frames, starting, walk}
+use Rattle.place_vectors.proofs.Walk.{Operation, Fixed, Serve, Step, Seen, Made, Ends, named, slot, empty, frames, starting, walk}
 
 images : List NamedImage
 images =
@@ -42,8 +42,8 @@ last = record {
 
 seen : List Seen
 seen =
-    Unit (Some (entries.Get (Text 1 0) 0 2)) ∷
-    Unit (Some entries.Done) ∷
+    Made (Some (entries.Get (Text 1 0) 0 2)) ∷
+    Made (Some entries.Done) ∷
     Ends last ∷ []
 
 two_pages_of_text : walk images operations (starting images (1 ∷ []) 64) ≡ seen

@@ -48,9 +48,9 @@ abbrev pub starts : List NamedImage → List ℕ → List Starting
 starts images [] = []
 starts images (n ∷ ns) = starts_with n (image_numbered images n) ++ starts images ns
 
--- the placement at the start of a run: its images, the numbers of its first processes' images, and its frames
+-- the placement at the start of a run: its images, the numbers of its first processes' images, and how many frames
 abbrev pub starting : List NamedImage → List ℕ → ℕ → Placement
-starting images first frames = start_placement (map (λ (x : NamedImage). x.image.facts) images) (starts images first) frames
+starting images first n = start_placement (map (λ (x : NamedImage). x.image.facts) images) (starts images first) n
 
 -- Operations.
 
@@ -71,9 +71,9 @@ pub data Operation : Type 0 where
   -- the journal, and the pages that it wrote before
   Step : ℕ → ℕ → Bool → ℕ → ℕ → List Page → Change → Operation
 
--- what the definitions choose on the way, and the placement that is left
+-- what the definitions make or choose on the way, and the placement that is left
 pub data Seen : Type 0 where
-  Unit : Option Entry → Seen
+  Made : Option Entry → Seen
   Chose : Choice → Seen
   Moves : Bool → Seen
   Ends : Placement → Seen
@@ -87,9 +87,9 @@ abbrev pub walk : List NamedImage → List Operation → Placement → List Seen
 walk images [] p = Ends p ∷ []
 walk images (Fixed locked at e ∷ rest) p = walk images rest (place_entry locked at p e)
 walk images (Serve locked at q now ∷ rest) p =
-    Unit (serve_unit p q now) ∷ walk images rest (by_unit locked at p (serve_unit p q now))
+    Made (serve_unit p q now) ∷ walk images rest (by_unit locked at p (serve_unit p q now))
 walk images (PutsOut at pid sid ∷ rest) p =
-    Unit (Some (put_out_unit p pid sid)) ∷ walk images rest (place_entry [] at p (put_out_unit p pid sid))
+    Made (Some (put_out_unit p pid sid)) ∷ walk images rest (place_entry [] at p (put_out_unit p pid sid))
 walk images (Choose runners ∷ rest) p = Chose (swap_choice p runners) ∷ walk images rest p
 walk images (Wants ∷ rest) p = Moves (wants_moves p) ∷ walk images rest p
 walk images (Step pid sid borrowed next_sid at written change ∷ rest) p =
@@ -99,6 +99,6 @@ walk images (Step pid sid borrowed next_sid at written change ∷ rest) p =
 abbrev pub chosen : List Seen → List Seen
 chosen [] = []
 chosen (Ends p ∷ xs) = chosen xs
-chosen (Unit e ∷ xs) = Unit e ∷ chosen xs
+chosen (Made e ∷ xs) = Made e ∷ chosen xs
 chosen (Chose c ∷ xs) = Chose c ∷ chosen xs
 chosen (Moves b ∷ xs) = Moves b ∷ chosen xs
