@@ -1,5 +1,4 @@
--- A space lent by vfork, and lent again by the borrower: the ends of both borrowers move no page, and the lender's end
--- gives up the space.
+-- A space lent by vfork, and lent again by the borrower: both borrowers end, then the lender, and its frames are free.
 use Rattle.std.proofs.Common.{◌≡◌, true, false, List, [], ◌∷◌, ◌++◌, Some, None, refl}
 use Rattle.vm_facts.specs.declared.page.Page.TheVariants.{Data, Stack, Text}
 use Rattle.vm_facts.specs.declared.page.PageState.TheVariants.{Invalid}
