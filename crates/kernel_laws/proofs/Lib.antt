@@ -5,4 +5,3 @@ pub mod Sound
 pub mod Pieces
 pub mod Stands
 pub mod Kept
-pub mod Worked

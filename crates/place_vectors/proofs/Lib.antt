@@ -24,3 +24,9 @@ mod RingOf200Pages
 mod OneMoveOfTheHands
 mod PutOutByRuns
 mod ReadsAndFills
+pub mod OneProcessIn64Frames
+pub mod ChoiceAmongFive
+pub mod SpaceLentAndBack
+pub mod PiecesOfSwap
+pub mod MarksAndLocks
+pub mod WholeRuns

@@ -1,4 +1,4 @@
-//! The definitions of paging held against recorded runs, by computation. There is no code here, and no law: most files of
+//! The definitions of paging and of a run held against recorded runs, by computation. There is no code here, and no law: most files of
 //! proofs/ are one run each of an independent implementation of the same rules, as a list of what was done, with the
 //! units and choices that it made on the way and the whole placement that it left; the proof is that `page_model` makes
 //! the same of it.
@@ -15,4 +15,6 @@
 //! - Runs of which the units alone are told: HandsRest, TextOnSwap and RingOf200Pages.
 //! - What no run shows, by the rule in words: Limits, OneMoveOfTheHands, PutOutByRuns, ReadsAndFills, SwapperChoice and
 //!   TextAtItsLastEnd.
+//! - Runs by the written policy, from the start on: WholeRuns.
+//! - Worked states: OneProcessIn64Frames, ChoiceAmongFive, SpaceLentAndBack, PiecesOfSwap and MarksAndLocks.
 #![tactic(auto)]

@@ -36,7 +36,6 @@ pub mod Machines
 pub mod SwapImages
 pub mod Fitting
 pub mod Sizing
-pub mod WorkedRuns
 pub mod Filing
 pub mod Living
 pub mod Residents

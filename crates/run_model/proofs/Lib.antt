@@ -4,4 +4,3 @@ pub mod Acting
 pub mod Followed
 pub mod NextUnits
 pub mod Wanting
-pub mod Worked

@@ -1,36 +1,23 @@
--- Worked placements: what the definitions compute.
-use Rattle.std.proofs.Common.{◌≡◌, ℕ, zero, suc, ◌+◌, Bool, true, false, List, [], ◌∷◌, ◌++◌, map, replicate, reverse, length, Option, Some, None, Ok, Err, refl}
+-- One process in 64 frames: the runs of its reads and writes, the hands, what a write leaves, and how it is put out.
+use Rattle.std.proofs.Common.{◌≡◌, ℕ, zero, suc, ◌+◌, Bool, true, false, List, [], ◌∷◌, ◌++◌, map, replicate, reverse, length, Option, Some, None, refl}
 use Rattle.vm_facts.specs.declared.page.Page.{Page}
 use Rattle.vm_facts.specs.declared.page.Page.TheVariants.{Data, Stack, Text}
 use Rattle.vm_facts.specs.declared.page.PageState.{PageState}
 use Rattle.vm_facts.specs.declared.page.PageState.TheVariants.{Valid, Invalid, OnSwap}
-use Rattle.vm_facts.specs.declared.regs.Regs.{Regs}
 use Rattle.vm_facts.specs.declared.entry.Entry.{Entry}
 use Rattle.vm_facts.specs.declared.entry.Entry.TheVariants as entries
-use Rattle.aout_image.specs.declared.Image.{Image}
-use Rattle.aout_image.specs.declared.Kind.TheVariants.{Paged}
-use Rattle.resource_map.specs.Room.{lowest_room, has_room, all_pass}
-use Rattle.swap_dmap.specs.Chunks.{chunk, chunk_start, lowest, chunks_holding, pieces, chunk_reached, counted_from, spot, last_piece, text_pieces}
-use Rattle.swap_book.specs.declared.Owner.{Owner}
-use Rattle.swap_book.specs.declared.Owner.TheVariants as owners
-use Rattle.swap_book.specs.declared.Held.{Held}
-use Rattle.swap_book.specs.Holdings.{is_in, is_held, fit, kept}
-use Rattle.swap_book.specs.Placing.{place_all}
-use Rattle.flat_state.specs.declared.change.Change.TheVariants.{Resize, Lend, End}
-use Rattle.page_model.specs.Pages.{Slot, Zeros, SpacePages}
+use Rattle.swap_dmap.specs.Chunks.{chunk, chunk_start, lowest, chunk_reached, counted_from, spot}
+use Rattle.page_model.specs.Pages.{Slot, Zeros}
 use Rattle.page_model.specs.Frames.{count_up}
-use Rattle.page_model.specs.Placement.{Placement, Residence, Transfer, slot_of, state_of, start_placement}
+use Rattle.page_model.specs.Placement.{Placement, Transfer, slot_of, state_of}
 use Rattle.page_model.specs.Moves.{reclaim, done, drop_page}
 use Rattle.page_model.specs.Runs.{run_in_by}
 use Rattle.page_model.specs.Hands.{hand_move, hand_moves}
 use Rattle.page_model.specs.Serve.{serve_entry}
-use Rattle.page_model.specs.Place.{resize, give_up, place_entry}
-use Rattle.page_model.specs.Swapper.{Runner, In, Out, Nothing, swap_choice, is_settled, put_out_unit}
-use Rattle.kernel_model.specs.Kernel.{Life, HoldsSpace, LendsSpace, Ended, Proc, Kernel}
-use Rattle.kernel_model.specs.ChangeStep.{holdings_after, change_step, pass_step}
-use Rattle.kernel_model.specs.Asks.{start_asks, change_asks, asked}
+use Rattle.page_model.specs.Place.{give_up, place_entry}
+use Rattle.page_model.specs.Swapper.{is_settled, put_out_unit}
 
-slot : PageState → Bool → Slot
+unfoldable pub slot : PageState → Bool → Slot
 slot s m = record { state = s; mark = m; filling = Zeros }
 
 -- One space with so many data pages on swap, in a machine of 64 frames.
@@ -65,15 +52,15 @@ neighbours_spared = refl
 -- A process in 64 frames: stack page 0 in frame 1, its text page, not saved, in frame 2, and 48 dirty data pages in
 -- the frames from 3 on; 14 frames are free.
 
-data_slots : ℕ → ℕ → List Slot
+unfoldable pub data_slots : ℕ → ℕ → List Slot
 data_slots f zero = []
 data_slots f (suc n) = slot (Valid f) true ∷ data_slots (f + 1) n
 
-held : ℕ → ℕ → List (Option Page)
+unfoldable pub held : ℕ → ℕ → List (Option Page)
 held v zero = []
 held v (suc n) = Some (Data 1 v) ∷ held (v + 1) n
 
-walked : Placement
+unfoldable pub walked : Placement
 walked = record {
   spaces = record { sid = 1; image = 1; data_pages = data_slots 3 48; stack_pages = slot (Valid 1) true ∷ [] } ∷ [];
   texts = record { image = 1; text_pages = slot (Valid 2) false ∷ [] } ∷ [];
@@ -201,126 +188,3 @@ put_units (suc n) at p = put_out_unit p 1 1 ∷ put_units n (at + 1) (place_entr
 eleven_units : put_units 11 4 filled_up ≡ entries.Put (Data 1 0) 16 ∷ entries.Done ∷ entries.Put (Data 1 16) 16 ∷ entries.Done ∷ entries.Put (Data 1 32) 16 ∷ entries.Done ∷ entries.Put (Data 1 48) 8 ∷ entries.Done ∷ entries.Put (Stack 1 0) 1 ∷ entries.Done ∷ entries.SwapOut 1 ∷ []
 unfolding put_units filled_up walked data_slots held slot spot chunk_reached lowest chunk_start chunk counted_from
 eleven_units = refl
-
--- The swapper's choice among four processes with 10, 12, 9 and 11 pages in frames, and a fifth with 2.
-
-space_of : ℕ → ℕ → ℕ → SpacePages
-space_of sid f pages = record { sid = sid; image = 1; data_pages = data_slots f pages; stack_pages = [] }
-
-resident : ℕ → Bool → Residence
-resident pid out = record { pid = pid; out = out; since = 0 }
-
--- with so many free frames of 64, and the third process out or not
-pressed : ℕ → Bool → Placement
-pressed free out = record walked {
-  spaces = space_of 1 1 10 ∷ space_of 2 11 12 ∷ space_of 3 23 9 ∷ space_of 4 32 11 ∷ space_of 5 43 2 ∷ [];
-  holds = replicate 64 None;
-  free = count_up 45 free;
-  residents = resident 1 false ∷ resident 2 false ∷ resident 3 out ∷ resident 4 false ∷ resident 5 false ∷ [];
-}
-
-runner : ℕ → Bool → Runner
-runner pid asleep = record { pid = pid; sid = pid; borrowed = false; asleep = asleep }
-
-five : Bool → List Runner
-five asleep = runner 1 false ∷ runner 2 false ∷ runner 3 false ∷ runner 4 false ∷ runner 5 asleep ∷ []
-
-sleeper_goes_out : swap_choice (pressed 7 false) (five true) ≡ Out 5
-unfolding pressed resident space_of five runner walked data_slots slot
-sleeper_goes_out = refl
-
-first_of_the_four_goes_out : swap_choice (pressed 7 false) (five false) ≡ Out 1
-unfolding pressed resident space_of five runner walked data_slots slot
-first_of_the_four_goes_out = refl
-
-enough_frames_move_nobody : swap_choice (pressed 8 false) (five true) ≡ Nothing
-unfolding pressed resident space_of five runner walked data_slots slot
-enough_frames_move_nobody = refl
-
-one_that_is_out_comes_in : swap_choice (pressed 8 true) (five false) ≡ In 3
-unfolding pressed resident space_of five runner walked data_slots slot
-one_that_is_out_comes_in = refl
-
--- vfork: the space goes to the child and comes back at its end, and no page moves.
-
-quiet : Regs
-quiet = record { r = replicate 16 0; n = false; z = false; v = false; c = false }
-
-u_piece : ℕ → ℕ → Held
-u_piece pid start = record { owner = owners.U pid; start = start; length = 2 }
-
--- the child's u page was found already
-lender : Kernel
-lender = record {
-  place = record walked { residents = resident 1 false ∷ [] };
-  holdings = u_piece 1 0 ∷ u_piece 2 2 ∷ [];
-  processes = record { pid = 1; parent = 0; regs = quiet; life = HoldsSpace 1; asleep = false } ∷ [];
-  next_pid = 2;
-  next_sid = 2;
-  starts = [];
-  frames = [];
-  journal = [];
-  stopped = false;
-}
-
-lent : Kernel → Kernel
-lent k = pass_step (change_step [] k 1 quiet (entries.Call 1 66 false 2 0) (Lend 2)) 1 2
-
-given_back : Kernel → Kernel
-given_back k = change_step [] (pass_step k 2 1) 2 quiet (entries.Ended 2 0) (End 0)
-
-lives_in_order : Kernel → List Life
-lives_in_order k = map (λ (p : Proc). p.life) k.processes
-
-child_has_the_space : lives_in_order (lent lender) ≡ LendsSpace 1 2 ∷ HoldsSpace 1 ∷ []
-unfolding lives_in_order lent lender quiet u_piece resident walked
-child_has_the_space = refl
-
-space_comes_back : lives_in_order (given_back (lent lender)) ≡ HoldsSpace 1 ∷ Ended 0 ∷ []
-unfolding lives_in_order given_back lent lender quiet u_piece resident walked kept
-space_comes_back = refl
-
-spaces_stay : (given_back (lent lender)).place ≡ lender.place
-unfolding given_back lent lender quiet u_piece resident walked kept
-spaces_stay = refl
-
-child_gives_its_u_page_back : (given_back (lent lender)).holdings ≡ u_piece 1 0 ∷ []
-unfolding given_back lent lender quiet u_piece resident walked kept
-child_gives_its_u_page_back = refl
-
--- Pieces of swap: an image of one text page and 16 data pages starts with text in blocks 0 and 1, data in 2 to 33, stack
--- in 34 to 65, and its u page in 66 and 67; a break to 17 data pages takes 68 to 131, and 49 data pages find no place.
-
-breaking : Image
-breaking = record { kind = Paged; text_len = 1024; data_len = 0; bss_len = 16384; entry = 0 }
-
-piece : Owner → ℕ → ℕ → Held
-piece owner start length = record { owner = owner; start = start; length = length }
-
-begun : Placement
-begun = start_placement (breaking ∷ []) (record { image = 1; facts = breaking } ∷ []) 64
-
-first_pieces : List Held
-first_pieces = piece (owners.Text 1) 0 2 ∷ piece (owners.Data 1) 2 32 ∷ piece (owners.Stack 1) 34 32 ∷ piece (owners.U 1) 66 2 ∷ []
-
-start_finds_its_pieces : place_all 256 [] (start_asks begun [] 1 (record { image = 1; facts = breaking } ∷ [])) ≡ Ok first_pieces
-unfolding begun breaking first_pieces piece place_all fit lowest_room Rattle.resource_map.specs.Room.lowest has_room all_pass is_held is_in pieces chunks_holding lowest chunk_start chunk text_pieces last_piece
-start_finds_its_pieces = refl
-
-break_takes_a_chunk : place_all 256 first_pieces (change_asks [] begun 1 2 (Resize 17 1)) ≡ Ok (first_pieces ++ piece (owners.Data 1) 68 64 ∷ [])
-unfolding begun breaking first_pieces piece place_all fit lowest_room Rattle.resource_map.specs.Room.lowest has_room all_pass is_held is_in pieces chunks_holding lowest chunk_start chunk
-break_takes_a_chunk = refl
-
-break_finds_no_place : place_all 256 (first_pieces ++ piece (owners.Data 1) 68 64 ∷ []) (change_asks [] (resize begun 1 17 1) 1 2 (Resize 49 1)) ≡ Err 128
-unfolding begun breaking first_pieces piece place_all fit lowest_room Rattle.resource_map.specs.Room.lowest has_room all_pass is_held is_in pieces chunks_holding lowest chunk_start chunk
-break_finds_no_place = refl
-
--- a smaller break gives the chunk back
-smaller_break_gives_back : holdings_after (first_pieces ++ piece (owners.Data 1) 68 64 ∷ []) (resize begun 1 17 1) begun 1 1 false (Resize 16 1) ≡ first_pieces
-unfolding begun breaking first_pieces piece kept pieces chunks_holding lowest chunk_start chunk
-smaller_break_gives_back = refl
-
--- a child of vfork wants its u page alone
-lent_asks_for_a_u_page : place_all 4 (u_piece 1 0 ∷ []) (asked [] lender 1 (Lend 2)) ≡ Ok (u_piece 1 0 ∷ u_piece 2 2 ∷ [])
-unfolding lender quiet u_piece resident walked place_all fit lowest_room Rattle.resource_map.specs.Room.lowest has_room all_pass is_held is_in
-lent_asks_for_a_u_page = refl

@@ -1,4 +1,4 @@
--- Worked states: what the definitions compute.
+-- Marks that are over, and the pages that are wanted and locked, in states of our own.
 use Rattle.std.proofs.Common.{◌≡◌, true, [], ◌∷◌, Some, None, replicate, refl}
 use Rattle.vm_facts.specs.declared.event.Event.TheVariants as events
 use Rattle.vm_facts.specs.declared.page.Page.TheVariants.{Data}

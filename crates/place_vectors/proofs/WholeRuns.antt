@@ -1,8 +1,8 @@
--- Worked runs: what the definitions compute.
-use Rattle.std.proofs.Common.{◌≡◌, ℕ, zero, suc, false, [], ◌∷◌, ◌++◌, List, Option, Some, None, replicate, refl}
+-- Whole runs from the start, unit by unit, as an independent implementation made them.
+use Rattle.std.proofs.Common.{◌≡◌, ℕ, zero, suc, true, false, [], ◌∷◌, ◌++◌, List, Option, Some, None, replicate, refl}
 use Rattle.vm_facts.specs.declared.page.Page.TheVariants.{Data, Stack, Text}
 use Rattle.vm_facts.specs.declared.entry.Entry.{Entry}
-use Rattle.vm_facts.specs.declared.entry.Entry.TheVariants.{Zero, Copy, Get, Reclaim, Done, Event, Turn, Owners, Ran, Out, Call, Grew, Ended}
+use Rattle.vm_facts.specs.declared.entry.Entry.TheVariants.{Zero, Copy, Get, Reclaim, Done, Event, Turn, Owners, Ran, Out, Call, Grew, Refused, Ended}
 use Rattle.user_vax.specs.Frames.{procedure_call, with_frame, push_all, saved, registers_returned, procedure_return, unwound, linkage, restored, arguments_dropped}
 use Rattle.user_vax.specs.Effects.{pop, pop_into, bytes_at, store_effect, push_onto}
 use Rattle.flat_model.specs.Calls.{string_from, arguments_from, execve_reply, image_named, argument, three_arguments, bytes_from, exit_reply, written_to, write_reply, reply_of}
@@ -54,6 +54,16 @@ auto_image = record {
     facts = record { kind = Paged; text_len = 1024; data_len = 0; bss_len = 2048; entry = 0 };
     text = (0 ∷ 0 ∷ 208 ∷ 143 ∷ 254 ∷ 7 ∷ 0 ∷ 0 ∷ 81 ∷ 208 ∷ 5 ∷ 129 ∷ 208 ∷ 81 ∷ 159 ∷ 4 ∷ 4 ∷ 0 ∷ 0 ∷ 208 ∷ 143 ∷ 0 ∷ 4 ∷ 0 ∷ 0 ∷ 92 ∷ 188 ∷ 1 ∷ []) ++ replicate 996 0;
     «data» = replicate 2048 0;
+  };
+}
+
+bomb_image : NamedImage
+bomb_image = record {
+  name = 98 ∷ 111 ∷ 109 ∷ 98 ∷ [];
+  image = record {
+    facts = record { kind = Paged; text_len = 1024; data_len = 0; bss_len = 0; entry = 0 };
+    text = (0 ∷ 0 ∷ 188 ∷ 2 ∷ 17 ∷ 252 ∷ []) ++ replicate 1018 0;
+    «data» = replicate 0 0;
   };
 }
 
@@ -242,3 +252,18 @@ nested_units = Zero (Stack 1 0) ∷ Turn 1 ∷ Get (Text 1 0) 0 1 ∷ Done ∷ C
 nested_makes : units_from 28 nested (start nested nested_held) ≡ nested_units
 unfolding units_from more nested nested_held nest_image next_unit after state_after act asks held_step flat_step distinct step_accesses touched argument three_arguments bytes_from exit_reply written_to write_reply reply_of replaced returned apply_change apply_writes argument_area start_regs spot_at kept place_all computation bytes_at store_effect fetch evaluations write_tests tested_effect execution execution_by instruction number_at address_of evaluation_at evaluation_through evaluation byte_at number_read signed_at displacement_at base_at indexed_at specifier_at operand_at counted place_at operands_at instruction_at decoded all_rows row_for first_held pieces chunk chunk_start lowest chunks_holding chunk_reached counted_from last_piece text_pieces fit is_in is_held lowest_room lowest_of has_room all_pass push_onto procedure_call with_frame push_all saved registers_returned procedure_return pop unwound linkage pop_into restored arguments_dropped string_from arguments_from execve_reply image_named
 nested_makes = refl
+
+-- forks until no piece of swap is left: the seventh child's stack finds no place
+bomb : Inputs
+bomb = record { images = bomb_image ∷ []; first = 1 ∷ []; lines = []; frames = 64; swap_blocks = 256; limit = 18 }
+
+bomb_held : Holdings
+bomb_held = or_before [] (start_held bomb)
+
+abbrev bomb_units : List Entry
+bomb_units = Zero (Stack 1 0) ∷ Turn 1 ∷ Get (Text 1 0) 0 1 ∷ Done ∷ Call 1 2 false 2 0 ∷ Copy (Stack 2 0) ∷ Ran 1 1 ∷ Call 1 2 false 3 0 ∷ Copy (Stack 3 0) ∷ Ran 1 1 ∷ Call 1 2 false 4 0 ∷ Copy (Stack 4 0) ∷ Ran 1 1 ∷ Call 1 2 false 5 0 ∷ Copy (Stack 5 0) ∷ Ran 1 1 ∷ Call 1 2 false 6 0 ∷ Copy (Stack 6 0) ∷ Ran 1 1 ∷ Call 1 2 false 7 0 ∷ Copy (Stack 7 0) ∷ Ran 1 1 ∷ Refused 1 ∷ Call 1 2 true 12 0 ∷ Ran 1 1 ∷ Refused 1 ∷ Call 1 2 true 12 0 ∷ Ran 1 1 ∷ Refused 1 ∷ Call 1 2 true 12 0 ∷ Ran 1 1 ∷ []
+
+-- from the start the run makes these units, and no more
+bomb_makes : units_from 32 bomb (start bomb bomb_held) ≡ bomb_units
+unfolding units_from more bomb bomb_held bomb_image next_unit after state_after act asks held_step flat_step distinct step_accesses touched argument three_arguments bytes_from exit_reply written_to write_reply reply_of replaced returned apply_change apply_writes argument_area start_regs spot_at kept place_all computation bytes_at store_effect fetch evaluations write_tests tested_effect execution execution_by instruction number_at address_of evaluation_at evaluation_through evaluation byte_at number_read signed_at displacement_at base_at indexed_at specifier_at operand_at counted place_at operands_at instruction_at decoded all_rows row_for first_held pieces chunk chunk_start lowest chunks_holding chunk_reached counted_from last_piece text_pieces fit is_in is_held lowest_room lowest_of has_room all_pass push_onto procedure_call with_frame push_all saved registers_returned procedure_return pop unwound linkage pop_into restored arguments_dropped string_from arguments_from execve_reply image_named
+bomb_makes = refl
