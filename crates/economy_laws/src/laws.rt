@@ -31,40 +31,56 @@ pub fn entries_added()
 /// has come; where a frame is free at its end, no more are in flight than at its start; and it makes no more moves of
 /// the hands than there are frames.
 pub fn forcing_is_short()
-    ensures few { (p r : Placement) (locked : List Page) (journal us : List Entry) → OwnsFrames p → Forces us p locked r → length (appended journal us) + length r.transfers ≤ length journal + length p.transfers + 2 }
-    ensures flights { (p r : Placement) (locked : List Page) (us : List Entry) → OwnsFrames p → Forces us p locked r → 0 < length r.free → length r.transfers ≤ length p.transfers }
-    ensures moves { (p r : Placement) (locked : List Page) (us : List Entry) → OwnsFrames p → HandsStand p → HasRoom p locked → Forces us p locked r → moves_of us ≤ length p.holds }
+    ensures few { (p r : Placement) (locked : List Page) (journal us : List Entry) → OwnsFrames p → Forces us p locked r
+        → length (appended journal us) + length r.transfers ≤ length journal + length p.transfers + 2 }
+    ensures flights { (p r : Placement) (locked : List Page) (us : List Entry) → OwnsFrames p → Forces us p locked r → 0 < length r.free
+        → length r.transfers ≤ length p.transfers }
+    ensures moves { (p r : Placement) (locked : List Page) (us : List Entry) → OwnsFrames p → HandsStand p → HasRoom p locked
+        → Forces us p locked r → moves_of us ≤ length p.holds }
 {}
 
 /// Serving a page adds at most 5 entries more than the number by which the transfers in flight fall, however far it has
 /// come, and one of them at most takes frames for the page; where the page is valid at its end, no more transfers
 /// are in flight than at its start; and it makes no more moves of the hands than there are frames.
 pub fn serving_is_short()
-    ensures few { (p r : Placement) (locked : List Page) (q : Page) (now : Bool) (journal us : List Entry) → OwnsFrames p → IsThere p q → Serves us p locked q now r → length (appended journal us) + length r.transfers ≤ length journal + length p.transfers + 5 }
-    ensures takings { (p r : Placement) (locked : List Page) (q : Page) (now : Bool) (us : List Entry) → OwnsFrames p → IsThere p q → Serves us p locked q now r → takings us ≤ 1 }
-    ensures flights { (p r : Placement) (locked : List Page) (q : Page) (now : Bool) (us : List Entry) → OwnsFrames p → IsThere p q → Serves us p locked q now r → is_valid (state_of r q) ≡ true → length r.transfers ≤ length p.transfers }
-    ensures moves { (p r : Placement) (locked : List Page) (q : Page) (now : Bool) (us : List Entry) → OwnsFrames p → HandsStand p → HasRoom p locked → IsThere p q → Serves us p locked q now r → moves_of us ≤ length p.holds }
+    ensures few { (p r : Placement) (locked : List Page) (q : Page) (now : Bool) (journal us : List Entry) → OwnsFrames p → IsThere p q
+        → Serves us p locked q now r → length (appended journal us) + length r.transfers ≤ length journal + length p.transfers + 5 }
+    ensures takings { (p r : Placement) (locked : List Page) (q : Page) (now : Bool) (us : List Entry) → OwnsFrames p → IsThere p q
+        → Serves us p locked q now r → takings us ≤ 1 }
+    ensures flights { (p r : Placement) (locked : List Page) (q : Page) (now : Bool) (us : List Entry) → OwnsFrames p → IsThere p q
+        → Serves us p locked q now r → is_valid (state_of r q) ≡ true → length r.transfers ≤ length p.transfers }
+    ensures moves { (p r : Placement) (locked : List Page) (q : Page) (now : Bool) (us : List Entry) → OwnsFrames p → HandsStand p
+        → HasRoom p locked → IsThere p q → Serves us p locked q now r → moves_of us ≤ length p.holds }
 {}
 
 /// No page is written to swap twice for nothing: between two writes of a data or stack page the user writes it, or it is
 /// filled by `Zero`, `Copy` or the image; and between two writes of a text page its image's text pieces were given back.
 pub fn writes_are_worth_it()
-    ensures { (A : Inputs) (s t : State) (u w : Entry) (us : List Entry) (q : Page) → ImagesFit A.images → IsRun A s → Follows A s (u ∷ us) t → next_unit A t ≡ Some w → is_among q (stored_pages s.place u) ≡ true → is_among q (stored_pages t.place w) ≡ true → Happens (λ B x e. renews B x e q) A (after A s u) us }
+    ensures { (A : Inputs) (s t : State) (u w : Entry) (us : List Entry) (q : Page) → ImagesFit A.images → IsRun A s
+        → Follows A s (u ∷ us) t → next_unit A t ≡ Some w → is_among q (stored_pages s.place u) ≡ true
+        → is_among q (stored_pages t.place w) ≡ true → Happens (λ B x e. renews B x e q) A (after A s u) us }
 {}
 
 /// A stretch of the closing phase, from a turn or a counted instruction up to the next of either or to the end, has few
 /// entries: at most 512, and 16 for each copy; and at most 33 fills with zeros and reads, and one read for each copy.
 pub fn stretches_are_short()
-    ensures entries { (A : Inputs) (s t : State) (u : Entry) (us journal : List Entry) (pid : ℕ) → ImagesFit A.images → IsRun A s → Follows A s (u ∷ us) t → begins_stretch u ≡ true → IsClosing A (after A s u) pid → NoneBegins us → length (appended journal (u ∷ us)) ≤ length journal + 512 + 16 * copies_of us }
-    ensures tight { (A : Inputs) (s t : State) (u : Entry) (us journal : List Entry) (pid : ℕ) → ImagesFit A.images → IsRun A s → Follows A s (u ∷ us) t → begins_stretch u ≡ true → IsClosing A (after A s u) pid → NoneBegins us → length (appended journal (u ∷ us)) ≤ length journal + 219 + 8 * copies_of us }
-    ensures takings { (A : Inputs) (s t : State) (u : Entry) (us : List Entry) (pid : ℕ) → ImagesFit A.images → IsRun A s → Follows A s (u ∷ us) t → begins_stretch u ≡ true → IsClosing A (after A s u) pid → NoneBegins us → takings us ≤ 33 + copies_of us }
+    ensures entries { (A : Inputs) (s t : State) (u : Entry) (us journal : List Entry) (pid : ℕ) → ImagesFit A.images → IsRun A s
+        → Follows A s (u ∷ us) t → begins_stretch u ≡ true → IsClosing A (after A s u) pid → NoneBegins us
+        → length (appended journal (u ∷ us)) ≤ length journal + 512 + 16 * copies_of us }
+    ensures tight { (A : Inputs) (s t : State) (u : Entry) (us journal : List Entry) (pid : ℕ) → ImagesFit A.images → IsRun A s
+        → Follows A s (u ∷ us) t → begins_stretch u ≡ true → IsClosing A (after A s u) pid → NoneBegins us
+        → length (appended journal (u ∷ us)) ≤ length journal + 219 + 8 * copies_of us }
+    ensures takings { (A : Inputs) (s t : State) (u : Entry) (us : List Entry) (pid : ℕ) → ImagesFit A.images → IsRun A s
+        → Follows A s (u ∷ us) t → begins_stretch u ≡ true → IsClosing A (after A s u) pid → NoneBegins us → takings us ≤ 33 + copies_of us }
 {}
 
 /// In the closing phase no more turns in a row count no instruction than there are processes that can step. There are
 /// at most 64 processes behind each unit, where there are no more at first.
 pub fn idle_turns_are_few()
-    ensures turns { (A : Inputs) (s t : State) (us : List Entry) → ImagesFit A.images → IsRun A s → length A.lines ≤ s.lines → Follows A s us t → NoneCounts us → turns_of us ≤ ready_count s.point.flat.processes }
-    ensures crowd { (A : Inputs) (s t : State) (us : List Entry) → ImagesFit A.images → IsRun A s → length s.point.flat.processes ≤ 64 → Follows A s us t → length t.point.flat.processes ≤ 64 }
+    ensures turns { (A : Inputs) (s t : State) (us : List Entry) → ImagesFit A.images → IsRun A s → length A.lines ≤ s.lines
+        → Follows A s us t → NoneCounts us → turns_of us ≤ ready_count s.point.flat.processes }
+    ensures crowd { (A : Inputs) (s t : State) (us : List Entry) → ImagesFit A.images → IsRun A s → length s.point.flat.processes ≤ 64
+        → Follows A s us t → length t.point.flat.processes ≤ 64 }
     ensures most { (A : Inputs) (s : State) → ready_count s.point.flat.processes ≤ length s.point.flat.processes }
 {}
 
@@ -73,7 +89,10 @@ pub fn idle_turns_are_few()
 /// than some number, and there is no other finished run.
 pub fn runs_finish()
     ensures finished { (A : Inputs) (hs : Holdings) → CanRun A hs → 64 ≤ A.frames → (journal : List Entry) × ((s : State) × IsFinished A journal s) }
-    ensures reached { (A : Inputs) (hs : Holdings) (journal : List Entry) (s : State) → CanRun A hs → 64 ≤ A.frames → Reaches A journal s → Finishes A s }
-    ensures bounded { (A : Inputs) (hs : Holdings) → CanRun A hs → 64 ≤ A.frames → (most : ℕ) × ((us : List Entry) (t : State) → Follows A (start A hs) us t → length us ≤ most) }
-    ensures once { (A : Inputs) (journal other : List Entry) (s t : State) → IsFinished A journal s → IsFinished A other t → (journal ≡ other) × (s ≡ t) }
+    ensures reached { (A : Inputs) (hs : Holdings) (journal : List Entry) (s : State) → CanRun A hs → 64 ≤ A.frames → Reaches A journal s
+        → Finishes A s }
+    ensures bounded { (A : Inputs) (hs : Holdings) → CanRun A hs → 64 ≤ A.frames
+        → (most : ℕ) × ((us : List Entry) (t : State) → Follows A (start A hs) us t → length us ≤ most) }
+    ensures once { (A : Inputs) (journal other : List Entry) (s t : State) → IsFinished A journal s → IsFinished A other t
+        → (journal ≡ other) × (s ≡ t) }
 {}

@@ -46,22 +46,30 @@ ghost use Rattle.flat_laws.specs.Others.{HoldsStill, is_refusal, is_writing};
 /// whether it has bytes out. So two entries of a process that may come next, neither of which says that pieces found no
 /// place, are one.
 pub fn entries_are_determined()
-    ensures next { (A : Inputs) (point other : Point) (pid : ℕ) → other.flat ≡ point.flat → is_refused other.last pid ≡ is_refused point.last pid → is_writing other.last pid ≡ is_writing point.last pid → act A other pid ≡ act A point pid }
-    ensures one { (A : Inputs) (point p q : Point) (pid : ℕ) (e f : Entry) → process_of_entry e ≡ Some pid → process_of_entry f ≡ Some pid → is_refusal e ≡ false → is_refusal f ≡ false → flat_entry A point e ≡ Some p → flat_entry A point f ≡ Some q → e ≡ f }
+    ensures next { (A : Inputs) (point other : Point) (pid : ℕ) → other.flat ≡ point.flat
+        → is_refused other.last pid ≡ is_refused point.last pid → is_writing other.last pid ≡ is_writing point.last pid
+        → act A other pid ≡ act A point pid }
+    ensures one { (A : Inputs) (point p q : Point) (pid : ℕ) (e f : Entry) → process_of_entry e ≡ Some pid → process_of_entry f ≡ Some pid
+        → is_refusal e ≡ false → is_refusal f ≡ false → flat_entry A point e ≡ Some p → flat_entry A point f ≡ Some q → e ≡ f }
 {}
 
 /// Where the touched pages alone are there, the next instruction of a process comes to what it comes to in the whole
 /// space, and so does the reply of its call, behind what the instruction wrote. Each byte that the step writes is of a
 /// touched page.
 pub fn touched_is_enough()
-    ensures instruction { (A : Inputs) (F : FlatState) (pid : ℕ) (p : Process) (s : Space) → process_of F pid ≡ Some p → is_ready p ≡ true → p.holding ≡ Holds s → run (shown s (touched A F pid)) (instruction p.regs) ≡ instruction_in s p.regs }
-    ensures reply { (A : Inputs) (F : FlatState) (pid : ℕ) (p : Process) (s : Space) (effect : Effect) (call : SystemCall) → process_of F pid ≡ Some p → is_ready p ≡ true → p.holding ≡ Holds s → instruction_in s p.regs ≡ Ok effect → IsCallOf effect call → run (shown (puts s effect.writes) (touched A F pid)) (reply_of A.images (apply_writes F p.pid effect.writes) (written_process p s effect.writes) (puts s effect.writes) call effect.regs) ≡ run (answers_of (puts s effect.writes)) (reply_of A.images (apply_writes F p.pid effect.writes) (written_process p s effect.writes) (puts s effect.writes) call effect.regs) }
-    ensures writes { (A : Inputs) (F : FlatState) (pid : ℕ) (p : Process) (s : Space) (refused : Bool) → process_of F pid ≡ Some p → is_ready p ≡ true → p.holding ≡ Holds s → AreOf s (touched A F pid) (flat_step A F pid refused).writes }
+    ensures instruction { (A : Inputs) (F : FlatState) (pid : ℕ) (p : Process) (s : Space) → process_of F pid ≡ Some p → is_ready p ≡ true
+        → p.holding ≡ Holds s → run (shown s (touched A F pid)) (instruction p.regs) ≡ instruction_in s p.regs }
+    ensures reply { (A : Inputs) (F : FlatState) (pid : ℕ) (p : Process) (s : Space) (effect : Effect) (call : SystemCall)
+        → process_of F pid ≡ Some p → is_ready p ≡ true → p.holding ≡ Holds s → instruction_in s p.regs ≡ Ok effect → IsCallOf effect call
+        → run (shown (puts s effect.writes) (touched A F pid)) (reply_of A.images (apply_writes F p.pid effect.writes) (written_process p s effect.writes) (puts s effect.writes) call effect.regs) ≡ run (answers_of (puts s effect.writes)) (reply_of A.images (apply_writes F p.pid effect.writes) (written_process p s effect.writes) (puts s effect.writes) call effect.regs) }
+    ensures writes { (A : Inputs) (F : FlatState) (pid : ℕ) (p : Process) (s : Space) (refused : Bool) → process_of F pid ≡ Some p
+        → is_ready p ≡ true → p.holding ≡ Holds s → AreOf s (touched A F pid) (flat_step A F pid refused).writes }
 {}
 
 /// Behind a step of a process every other process that holds a space holds it still, byte for byte.
 pub fn others_keep_their_spaces()
-    ensures { (A : Inputs) (F : FlatState) (pid other : ℕ) (refused : Bool) (s : Space) → AllDistinct (pids_of F) → other ≢ pid → HoldsStill F other s → HoldsStill (flat_step A F pid refused).after other s }
+    ensures { (A : Inputs) (F : FlatState) (pid other : ℕ) (refused : Bool) (s : Space) → AllDistinct (pids_of F) → other ≢ pid
+        → HoldsStill F other s → HoldsStill (flat_step A F pid refused).after other s }
 {}
 
 /// Each process has a number of its own, below the next one, and so has each space: at the start, behind each step, and
@@ -76,14 +84,20 @@ pub fn numbers_are_kept()
 /// swap space by the placement that it wants by the flat state. So the change by which a process's next step ends wants
 /// just those that the step asks for.
 pub fn asks_agree()
-    ensures change { (images : List NamedImage) (k : Kernel) (flat : FlatState) (pid : ℕ) (p : Process) (s : Space) (change : Change) → ImagesFit images → TextFits images k.place → Numbered k → IsNumbered flat → SameTables k flat → process_of flat pid ≡ Some p → p.holding ≡ Holds s → asked images k pid change ≡ change_wanted images flat s change }
-    ensures step { (A : Inputs) (k : Kernel) (flat : FlatState) (pid : ℕ) → ImagesFit A.images → TextFits A.images k.place → Numbered k → IsNumbered flat → SameTables k flat → can_step flat pid ≡ true → asked A.images k pid (flat_step A flat pid false).change ≡ asks A flat pid }
+    ensures change { (images : List NamedImage) (k : Kernel) (flat : FlatState) (pid : ℕ) (p : Process) (s : Space) (change : Change)
+        → ImagesFit images → TextFits images k.place → Numbered k → IsNumbered flat → SameTables k flat → process_of flat pid ≡ Some p
+        → p.holding ≡ Holds s → asked images k pid change ≡ change_wanted images flat s change }
+    ensures step { (A : Inputs) (k : Kernel) (flat : FlatState) (pid : ℕ) → ImagesFit A.images → TextFits A.images k.place → Numbered k
+        → IsNumbered flat → SameTables k flat → can_step flat pid ≡ true
+        → asked A.images k pid (flat_step A flat pid false).change ≡ asks A flat pid }
 {}
 
 /// A process's next instruction, with its call where it is one, touches 28 pages at most, in each state whose spaces
 /// are of whole pages, and so in each run.
 pub fn touched_are_few()
     ensures few { (A : Inputs) (F : FlatState) (pid : ℕ) → EachWhole F → length (touched A F pid) ≤ 28 }
-    ensures whole { (A : Inputs) (journal : List Entry) (point : Point) → ImagesFit A.images → flat_run A journal ≡ Some point → EachWhole point.flat }
-    ensures run { (A : Inputs) (journal : List Entry) (point : Point) (pid : ℕ) → ImagesFit A.images → flat_run A journal ≡ Some point → length (touched A point.flat pid) ≤ 28 }
+    ensures whole { (A : Inputs) (journal : List Entry) (point : Point) → ImagesFit A.images → flat_run A journal ≡ Some point
+        → EachWhole point.flat }
+    ensures run { (A : Inputs) (journal : List Entry) (point : Point) (pid : ℕ) → ImagesFit A.images → flat_run A journal ≡ Some point
+        → length (touched A point.flat pid) ≤ 28 }
 {}

@@ -36,18 +36,23 @@ ghost use Rattle.page_model.specs.Dues.{DueStand, LeavesDue, NotDue};
 /// What a run begins with is as the other laws ask: no page is filled, dirty or saved; each frame is free; and the hands
 /// stand a quarter of the frames apart.
 pub fn start_stands()
-    ensures blank { (images : List Image) (first : List Starting) (frames : ℕ) (q : Page) → (state_of (start_placement images first frames) q ≡ Unfilled) × (mark_of (start_placement images first frames) q ≡ false) }
+    ensures blank { (images : List Image) (first : List Starting) (frames : ℕ) (q : Page)
+        → (state_of (start_placement images first frames) q ≡ Unfilled) × (mark_of (start_placement images first frames) q ≡ false) }
     ensures frames { (images : List Image) (first : List Starting) (frames : ℕ) → OwnsFrames (start_placement images first frames) }
     ensures hands { (images : List Image) (first : List Starting) (frames : ℕ) → 0 < frames → HandsStand (start_placement images first frames) }
     ensures text { (images : List Image) (first : List Starting) (frames : ℕ) → TextAside (start_placement images first frames) }
-    ensures owner { (size : ℕ) (lives : ℕ → Bool) (images : List Image) (first : List Starting) (frames : ℕ) (hs : Holdings) → OwnsBlocks size lives (start_placement images first frames) hs → OneOwner size lives (start_placement images first frames) hs }
+    ensures owner { (size : ℕ) (lives : ℕ → Bool) (images : List Image) (first : List Starting) (frames : ℕ) (hs : Holdings)
+        → OwnsBlocks size lives (start_placement images first frames) hs → OneOwner size lives (start_placement images first frames) hs }
 {}
 
 /// Each frame keeps one owner: through each paging entry, each entry of a process with its change, and each unit
 /// of serving a page.
 pub fn ownership_kept()
     ensures entry { (locked : List Page) (at : ℕ) (p : Placement) (e : Entry) → OwnsFrames p → CanPlace p e → OwnsFrames (place_entry locked at p e) }
-    ensures change { (images : List NamedImage) (flat : FlatState) (pid at : ℕ) (written : List Page) (change : AnyChange) (p : Placement) → OwnsFrames p → CanChange (touch_all p written) (space_of_process (process_of flat pid)) (is_borrower flat.processes pid) flat.next_sid change → OwnsFrames (place_step images flat pid at written change p) }
+    ensures change { (images : List NamedImage) (flat : FlatState) (pid at : ℕ) (written : List Page) (change : AnyChange) (p : Placement)
+        → OwnsFrames p
+        → CanChange (touch_all p written) (space_of_process (process_of flat pid)) (is_borrower flat.processes pid) flat.next_sid change
+        → OwnsFrames (place_step images flat pid at written change p) }
     ensures serve { (p : Placement) (locked : List Page) (q : Page) → OwnsFrames p → IsThere p q → OwnsFrames (serve_step p locked q) }
     ensures settled { (p : Placement) (sid : ℕ) → OwnsFrames p → is_settled p sid ≡ true → IsSettled p sid }
 {}
@@ -57,32 +62,57 @@ pub fn ownership_kept()
 /// different pages don't meet, so that a write of one page leaves what the image has of all others. Changes of
 /// processes leave text that nobody shares unsaved and, at most, in a free frame.
 pub fn blocks_kept()
-    ensures entry { (size : ℕ) (lives : ℕ → Bool) (hs : Holdings) (locked : List Page) (at : ℕ) (p : Placement) (e : Entry) → OneOwner size lives p hs → CanPlace p e → EntryShared p e → OneOwner size lives (place_entry locked at p e) hs }
-    ensures text { (images : List NamedImage) (p : Placement) (pid sid : ℕ) (borrowed : Bool) (next_sid at : ℕ) (change : AnyChange) → TextAside p → MayForget images p sid borrowed next_sid change → TextAside (place_change images p pid sid borrowed next_sid at change) }
-    ensures places { (size : ℕ) (lives : ℕ → Bool) (p : Placement) (hs : Holdings) (q : Page) → OneOwner size lives p hs → needs_blocks p q ≡ true → IsSome (block_of hs q) }
-    ensures apart { (size : ℕ) (hs : Holdings) (q r : Page) (x y : ℕ) → IsBook size hs → q ≢ r → block_of hs q ≡ Some x → block_of hs r ≡ Some y → (x + 2 ≤ y) ⊎ (y + 2 ≤ x) }
-    ensures stores { (size : ℕ) (hs : Holdings) (image bytes : List ℕ) (q : Page) (x : ℕ) (b : Bytes) → IsBook size hs → 512 * size ≤ length image → length bytes ≡ 1024 → block_of hs q ≡ Some x → Stores (record b { swap = stored hs image }) (record b { swap = stored hs (store_at image (block_of hs q) bytes) }) q bytes }
+    ensures entry { (size : ℕ) (lives : ℕ → Bool) (hs : Holdings) (locked : List Page) (at : ℕ) (p : Placement) (e : Entry)
+        → OneOwner size lives p hs → CanPlace p e → EntryShared p e → OneOwner size lives (place_entry locked at p e) hs }
+    ensures text { (images : List NamedImage) (p : Placement) (pid sid : ℕ) (borrowed : Bool) (next_sid at : ℕ) (change : AnyChange)
+        → TextAside p → MayForget images p sid borrowed next_sid change
+        → TextAside (place_change images p pid sid borrowed next_sid at change) }
+    ensures places { (size : ℕ) (lives : ℕ → Bool) (p : Placement) (hs : Holdings) (q : Page) → OneOwner size lives p hs
+        → needs_blocks p q ≡ true → IsSome (block_of hs q) }
+    ensures apart { (size : ℕ) (hs : Holdings) (q r : Page) (x y : ℕ) → IsBook size hs → q ≢ r → block_of hs q ≡ Some x
+        → block_of hs r ≡ Some y → (x + 2 ≤ y) ⊎ (y + 2 ≤ x) }
+    ensures stores { (size : ℕ) (hs : Holdings) (image bytes : List ℕ) (q : Page) (x : ℕ) (b : Bytes) → IsBook size hs
+        → 512 * size ≤ length image → length bytes ≡ 1024 → block_of hs q ≡ Some x
+        → Stores (record b { swap = stored hs image }) (record b { swap = stored hs (store_at image (block_of hs q) bytes) }) q bytes }
 {}
 
 /// The flat bytes of each page stay where its state says, whatever the swap image and the files: through a fill, a
 /// reclaim, the beginning of a read and of a write, a move of the hands, the end of a transfer, and a user write.
 pub fn memory_kept()
-    ensures fill { (p : Placement) (q : Page) (f : ℕ) (rest : List ℕ) (b : Bytes) (bytes : List ℕ) → OwnsFrames p → CanEnter p q → p.free ≡ f ∷ rest → length b.frames ≡ length p.holds → IsWritable q → bytes ≡ b.memory q → CouplesPages p b → CouplesPages (filled p q) (with_frame b f bytes) }
+    ensures fill { (p : Placement) (q : Page) (f : ℕ) (rest : List ℕ) (b : Bytes) (bytes : List ℕ) → OwnsFrames p → CanEnter p q
+        → p.free ≡ f ∷ rest → length b.frames ≡ length p.holds → IsWritable q → bytes ≡ b.memory q → CouplesPages p b
+        → CouplesPages (filled p q) (with_frame b f bytes) }
     ensures reclaim { (p : Placement) (q : Page) (b : Bytes) → OwnsFrames p → CouplesPages p b → CouplesPages (reclaim p q) b }
-    ensures read { (p : Placement) (q : Page) (b : Bytes) → OwnsFrames p → CanEnter p q → ReadsFrom p (source_for (state_of p q)) q q → CouplesPages p b → CouplesPages (read_step p q) b }
+    ensures read { (p : Placement) (q : Page) (b : Bytes) → OwnsFrames p → CanEnter p q → ReadsFrom p (source_for (state_of p q)) q q
+        → CouplesPages p b → CouplesPages (read_step p q) b }
     ensures hands { (p : Placement) (locked : List Page) (b : Bytes) → OwnsFrames p → CouplesPages p b → CouplesPages (hand_move p locked) b }
-    ensures put { (p : Placement) (q : Page) (qs : List Page) (b : Bytes) → OwnsFrames p → HasSeat p q → EachPage (HasSeat p) qs → AllApart qs → CouplesPages p b → CouplesPages (put_step p q qs) b }
-    ensures done { (p : Placement) (b c : Bytes) → OwnsFrames p → length b.frames ≡ length p.holds → BytesAfter b p.transfers c → CouplesPages p b → CouplesPages (done p) c }
-    ensures write { (p : Placement) (q : Page) (f : ℕ) (b c : Bytes) (bytes : List ℕ) → OwnsFrames p → state_of p q ≡ Valid f → IsWritable q → p.due ≡ [] → length b.frames ≡ length p.holds → WritesBoth b c q f bytes → CouplesPages p b → CouplesPages (touch p q) c }
+    ensures put { (p : Placement) (q : Page) (qs : List Page) (b : Bytes) → OwnsFrames p → HasSeat p q → EachPage (HasSeat p) qs
+        → AllApart qs → CouplesPages p b → CouplesPages (put_step p q qs) b }
+    ensures done { (p : Placement) (b c : Bytes) → OwnsFrames p → length b.frames ≡ length p.holds → BytesAfter b p.transfers c
+        → CouplesPages p b → CouplesPages (done p) c }
+    ensures write { (p : Placement) (q : Page) (f : ℕ) (b c : Bytes) (bytes : List ℕ) → OwnsFrames p → state_of p q ≡ Valid f → IsWritable q
+        → p.due ≡ [] → length b.frames ≡ length p.holds → WritesBoth b c q f bytes → CouplesPages p b → CouplesPages (touch p q) c }
 {}
 
 /// The same through growth and break, a fork, a new image, a space that goes, and text that nobody shares any more:
 /// the pages that stay keep their bytes, and the new ones have those that fill them.
 pub fn spaces_kept()
-    ensures resize { (p : Placement) (sid d s : ℕ) (b c : Bytes) → CouplesPages p b → p.due ≡ [] → ((w : Page) → IsThere (resize p sid d s) w → IsThere p w → SameBytes b c w) → ((w : Page) → IsThere (resize p sid d s) w → length (slots_of p w) ≤ number_of w → zeros ≡ c.memory w) → ((image v : ℕ) → c.file (Text image v) ≡ c.memory (Text image v)) → CouplesPages (resize p sid d s) c }
-    ensures fork { (p : Placement) (parent child : ℕ) (b c : Bytes) → CouplesPages p b → IsNew p child → p.due ≡ [] → ((w : Page) → IsThere p w → SameBytes b c w) → ((v : ℕ) → Copies b c (Data child v) (Data parent v)) → ((v : ℕ) → Copies b c (Stack child v) (Stack parent v)) → ((image v : ℕ) → c.file (Text image v) ≡ c.memory (Text image v)) → CouplesPages (fork_space p parent child) c }
-    ensures enter { (p : Placement) (sid image : ℕ) (facts : Image) (b c : Bytes) → CouplesPages p b → IsNew p sid → p.due ≡ [] → ((w : Page) → IsThere p w → SameBytes b c w) → ((v : ℕ) → v < data_pages_of facts → FillsBy c (Data sid v) (data_filling facts v)) → c.start (Stack sid 0) ≡ c.memory (Stack sid 0) → ((i v : ℕ) → c.file (Text i v) ≡ c.memory (Text i v)) → CouplesPages (enter_space p sid image facts) c }
-    ensures removed { (p : Placement) (sid : ℕ) (b c : Bytes) → CouplesPages p b → p.due ≡ [] → ((w : Page) → IsThere (remove_space (drop_all p (pages_of_space p sid)) sid) w → IsThere p w → SameBytes b c w) → ((image v : ℕ) → c.file (Text image v) ≡ c.memory (Text image v)) → CouplesPages (remove_space (drop_all p (pages_of_space p sid)) sid) c }
+    ensures resize { (p : Placement) (sid d s : ℕ) (b c : Bytes) → CouplesPages p b → p.due ≡ []
+        → ((w : Page) → IsThere (resize p sid d s) w → IsThere p w → SameBytes b c w)
+        → ((w : Page) → IsThere (resize p sid d s) w → length (slots_of p w) ≤ number_of w → zeros ≡ c.memory w)
+        → ((image v : ℕ) → c.file (Text image v) ≡ c.memory (Text image v)) → CouplesPages (resize p sid d s) c }
+    ensures fork { (p : Placement) (parent child : ℕ) (b c : Bytes) → CouplesPages p b → IsNew p child → p.due ≡ []
+        → ((w : Page) → IsThere p w → SameBytes b c w) → ((v : ℕ) → Copies b c (Data child v) (Data parent v))
+        → ((v : ℕ) → Copies b c (Stack child v) (Stack parent v)) → ((image v : ℕ) → c.file (Text image v) ≡ c.memory (Text image v))
+        → CouplesPages (fork_space p parent child) c }
+    ensures enter { (p : Placement) (sid image : ℕ) (facts : Image) (b c : Bytes) → CouplesPages p b → IsNew p sid → p.due ≡ []
+        → ((w : Page) → IsThere p w → SameBytes b c w) → ((v : ℕ) → v < data_pages_of facts → FillsBy c (Data sid v) (data_filling facts v))
+        → c.start (Stack sid 0) ≡ c.memory (Stack sid 0) → ((i v : ℕ) → c.file (Text i v) ≡ c.memory (Text i v))
+        → CouplesPages (enter_space p sid image facts) c }
+    ensures removed { (p : Placement) (sid : ℕ) (b c : Bytes) → CouplesPages p b → p.due ≡ []
+        → ((w : Page) → IsThere (remove_space (drop_all p (pages_of_space p sid)) sid) w → IsThere p w → SameBytes b c w)
+        → ((image v : ℕ) → c.file (Text image v) ≡ c.memory (Text image v))
+        → CouplesPages (remove_space (drop_all p (pages_of_space p sid)) sid) c }
     ensures text { (p : Placement) (image : ℕ) (b : Bytes) → OwnsFrames p → CouplesPages p b → CouplesPages (leave_text p image) b }
 {}
 
@@ -92,15 +122,21 @@ pub fn spaces_kept()
 /// of a process every page beside which the same bytes stand.
 pub fn others_same()
     ensures hands { (p : Placement) (locked : List Page) (b : Bytes) (w : Page) → SamePage p (hand_move p locked) b b w }
-    ensures fill { (p : Placement) (q : Page) (f : ℕ) (rest : List ℕ) (b : Bytes) (bytes : List ℕ) (w : Page) → OwnsFrames p → p.free ≡ f ∷ rest → w ≢ q → SamePage p (filled p q) b (with_frame b f bytes) w }
-    ensures read { (p : Placement) (source : Source) (demanded : Page) (qs : List Page) (b : Bytes) (w : Page) → OwnsFrames p → EachPage (CanEnter p) qs → AllApart qs → EachPage (λ r. w ≢ r) qs → SamePage p (get_run p (Reads source demanded) qs) b b w }
-    ensures done { (p : Placement) (t : Transfer) (ts : List Transfer) (b c : Bytes) (w : Page) → OwnsFrames p → p.transfers ≡ t ∷ ts → BytesAfter b (t ∷ ts) c → NotIn w t.parts → SamePage p (done p) b c w }
+    ensures fill { (p : Placement) (q : Page) (f : ℕ) (rest : List ℕ) (b : Bytes) (bytes : List ℕ) (w : Page) → OwnsFrames p
+        → p.free ≡ f ∷ rest → w ≢ q → SamePage p (filled p q) b (with_frame b f bytes) w }
+    ensures read { (p : Placement) (source : Source) (demanded : Page) (qs : List Page) (b : Bytes) (w : Page) → OwnsFrames p
+        → EachPage (CanEnter p) qs → AllApart qs → EachPage (λ r. w ≢ r) qs → SamePage p (get_run p (Reads source demanded) qs) b b w }
+    ensures done { (p : Placement) (t : Transfer) (ts : List Transfer) (b c : Bytes) (w : Page) → OwnsFrames p → p.transfers ≡ t ∷ ts
+        → BytesAfter b (t ∷ ts) c → NotIn w t.parts → SamePage p (done p) b c w }
     ensures put { (p : Placement) (q : Page) (qs : List Page) (b : Bytes) (w : Page) → SamePage p (put_step p q qs) b b w }
     ensures reclaim { (p : Placement) (q : Page) (b : Bytes) (w : Page) → SamePage p (reclaim p q) b b w }
-    ensures write { (p : Placement) (q : Page) (f : ℕ) (b c : Bytes) (bytes : List ℕ) (w : Page) → OwnsFrames p → state_of p q ≡ Valid f → WritesBoth b c q f bytes → w ≢ q → SamePage p (touch p q) b c w }
+    ensures write { (p : Placement) (q : Page) (f : ℕ) (b c : Bytes) (bytes : List ℕ) (w : Page) → OwnsFrames p → state_of p q ≡ Valid f
+        → WritesBoth b c q f bytes → w ≢ q → SamePage p (touch p q) b c w }
     ensures residence { (p : Placement) (pid : ℕ) (out : Bool) (at : ℕ) (b : Bytes) (w : Page) → SamePage p (moved p pid out at) b b w }
-    ensures u_page { (size pid : ℕ) (hs : Holdings) (image bytes : List ℕ) (w : Page) → IsBook size hs → 512 * size ≤ length image → length bytes ≡ 1024 → stored hs (store_at image (block_in hs (U pid) 0) bytes) w ≡ stored hs image w }
-    ensures change { (images : List NamedImage) (p : Placement) (pid sid new at : ℕ) (lent : Bool) (x : AnyChange) (b c : Bytes) (w : Page) → IsNew p new → SameBytes b c w → SamePage p (place_change images p pid sid lent new at x) b c w }
+    ensures u_page { (size pid : ℕ) (hs : Holdings) (image bytes : List ℕ) (w : Page) → IsBook size hs → 512 * size ≤ length image
+        → length bytes ≡ 1024 → stored hs (store_at image (block_in hs (U pid) 0) bytes) w ≡ stored hs image w }
+    ensures change { (images : List NamedImage) (p : Placement) (pid sid new at : ℕ) (lent : Bool) (x : AnyChange) (b c : Bytes) (w : Page)
+        → IsNew p new → SameBytes b c w → SamePage p (place_change images p pid sid lent new at x) b c w }
 {}
 
 /// Forcing a frame ends: `far` falls with each unit, whatever is locked. With nothing in flight it is at most one
@@ -108,8 +144,10 @@ pub fn others_same()
 /// What was locked and valid stays valid. What forcing asks of the hands and of the frames is so again behind each unit,
 /// so it comes to a free frame, after no more units than `far` says.
 pub fn forcing_ends()
-    ensures falls { (p : Placement) (locked : List Page) → OwnsFrames p → HandsStand p → HasRoom p locked → p.free ≡ [] → far (force p locked) locked < far p locked }
-    ensures near { (p : Placement) (locked : List Page) → OwnsFrames p → HandsStand p → HasRoom p locked → p.transfers ≡ [] → far p locked ≤ length p.holds + 1 }
+    ensures falls { (p : Placement) (locked : List Page) → OwnsFrames p → HandsStand p → HasRoom p locked → p.free ≡ []
+        → far (force p locked) locked < far p locked }
+    ensures near { (p : Placement) (locked : List Page) → OwnsFrames p → HandsStand p → HasRoom p locked → p.transfers ≡ []
+        → far p locked ≤ length p.holds + 1 }
     ensures stands { (p : Placement) (locked : List Page) → HandsStand p → HandsStand (hand_move p locked) }
     ensures hands { (p : Placement) (locked : List Page) → OwnsFrames p → HandsStand p → HandsStand (force p locked) }
     ensures room { (p : Placement) (locked : List Page) → OwnsFrames p → HasRoom p locked → HasRoom (force p locked) locked }
@@ -121,12 +159,15 @@ pub fn forcing_ends()
 /// valid. What serving asks is so again behind each unit, so the page is valid after no more units than `rank` says,
 /// where waiting is allowed.
 pub fn serving_ends()
-    ensures falls { (p : Placement) (locked : List Page) (q : Page) → OwnsFrames p → HandsStand p → HasRoom p locked → IsThere p q → is_valid (state_of p q) ≡ false → rank (serve_step p locked q) locked q < rank p locked q }
+    ensures falls { (p : Placement) (locked : List Page) (q : Page) → OwnsFrames p → HandsStand p → HasRoom p locked → IsThere p q
+        → is_valid (state_of p q) ≡ false → rank (serve_step p locked q) locked q < rank p locked q }
     ensures hands { (p : Placement) (locked : List Page) (q : Page) → OwnsFrames p → HandsStand p → HandsStand (serve_step p locked q) }
     ensures room { (p : Placement) (locked : List Page) (q : Page) → OwnsFrames p → HasRoom p locked → HasRoom (serve_step p locked q) locked }
-    ensures sizes { (p : Placement) (locked : List Page) (q w : Page) → OwnsFrames p → length (slots_of (serve_step p locked q) w) ≡ length (slots_of p w) }
+    ensures sizes { (p : Placement) (locked : List Page) (q w : Page) → OwnsFrames p
+        → length (slots_of (serve_step p locked q) w) ≡ length (slots_of p w) }
     ensures spares { (p : Placement) (locked : List Page) (q : Page) → OwnsFrames p → IsThere p q → Spares p (serve_step p locked q) locked }
-    ensures whole { (p : Placement) (locked : List Page) (q : Page) → OwnsFrames p → HandsStand p → HasRoom p locked → IsThere p q → EndsServing p locked q }
+    ensures whole { (p : Placement) (locked : List Page) (q : Page) → OwnsFrames p → HandsStand p → HasRoom p locked → IsThere p q
+        → EndsServing p locked q }
 {}
 
 /// The unit that serving asks for is its entry, whether waiting is allowed or not, and where there is none the page
@@ -134,18 +175,24 @@ pub fn serving_ends()
 /// first that is due.
 pub fn serving_units()
     ensures now { (p : Placement) (q : Page) → is_valid (state_of p q) ≡ false → serve_unit p q true ≡ Some (serve_entry p q) }
-    ensures unit { (p : Placement) (q : Page) (now : Bool) (e : Entry) → serve_unit p q now ≡ Some e → (is_valid (state_of p q) ≡ false) × (e ≡ serve_entry p q) }
-    ensures step { (locked : List Page) (at : ℕ) (p : Placement) (q : Page) → is_valid (state_of p q) ≡ false → due_after p.due q ≡ p.due → place_entry locked at p (serve_entry p q) ≡ serve_step p locked q }
+    ensures unit { (p : Placement) (q : Page) (now : Bool) (e : Entry) → serve_unit p q now ≡ Some e
+        → (is_valid (state_of p q) ≡ false) × (e ≡ serve_entry p q) }
+    ensures step { (locked : List Page) (at : ℕ) (p : Placement) (q : Page) → is_valid (state_of p q) ≡ false → due_after p.due q ≡ p.due
+        → place_entry locked at p (serve_entry p q) ≡ serve_step p locked q }
 {}
 
 /// How many transfers are in flight: a read and a put begin one at most, and each move of the hands one; forcing and
 /// serving never go beyond 16. Each transfer has a page, where a read and a put have one for it.
 pub fn few_transfers()
-    ensures entry { (locked : List Page) (at : ℕ) (p : Placement) (e : Entry) → length (place_entry locked at p e).transfers ≤ length p.transfers + begins e }
+    ensures entry { (locked : List Page) (at : ℕ) (p : Placement) (e : Entry)
+        → length (place_entry locked at p e).transfers ≤ length p.transfers + begins e }
     ensures force { (p : Placement) (locked : List Page) → length p.transfers ≤ most_in_flight → length (force p locked).transfers ≤ most_in_flight }
-    ensures serve { (p : Placement) (locked : List Page) (q : Page) → length p.transfers ≤ most_in_flight → length (serve_step p locked q).transfers ≤ most_in_flight }
-    ensures parts { (locked : List Page) (at : ℕ) (p : Placement) (e : Entry) → OwnsFrames p → CanPlace p e → CanBegin p e → HaveParts p.transfers → HaveParts (place_entry locked at p e).transfers }
-    ensures served { (p : Placement) (locked : List Page) (q : Page) → OwnsFrames p → HaveParts p.transfers → HaveParts (serve_step p locked q).transfers }
+    ensures serve { (p : Placement) (locked : List Page) (q : Page) → length p.transfers ≤ most_in_flight
+        → length (serve_step p locked q).transfers ≤ most_in_flight }
+    ensures parts { (locked : List Page) (at : ℕ) (p : Placement) (e : Entry) → OwnsFrames p → CanPlace p e → CanBegin p e
+        → HaveParts p.transfers → HaveParts (place_entry locked at p e).transfers }
+    ensures served { (p : Placement) (locked : List Page) (q : Page) → OwnsFrames p → HaveParts p.transfers
+        → HaveParts (serve_step p locked q).transfers }
 {}
 
 /// Whom the swapper chooses: a process comes in only where it is out and awake, nobody else who is so has been out
@@ -159,8 +206,10 @@ pub fn swapper_chooses()
 
 /// A process that goes in or out is so since that place in the journal, and all others are as they were.
 pub fn residence_moves()
-    ensures own { (p : Placement) (pid : ℕ) (out : Bool) (at : ℕ) → IsResident p pid → residence_of (moved p pid out at).residents pid ≡ record { pid = pid; out = out; since = at } }
-    ensures others { (p : Placement) (pid : ℕ) (out : Bool) (at n : ℕ) → n ≢ pid → residence_of (moved p pid out at).residents n ≡ residence_of p.residents n }
+    ensures own { (p : Placement) (pid : ℕ) (out : Bool) (at : ℕ) → IsResident p pid
+        → residence_of (moved p pid out at).residents pid ≡ record { pid = pid; out = out; since = at } }
+    ensures others { (p : Placement) (pid : ℕ) (out : Bool) (at n : ℕ) → n ≢ pid
+        → residence_of (moved p pid out at).residents n ≡ residence_of p.residents n }
 {}
 
 /// What is due stays unfilled, with zeros, and the parent's page that it is copied from stays filled: through each
@@ -168,14 +217,18 @@ pub fn residence_moves()
 /// isn't due, and through a user write. It is so at the start, behind a fork, in a new space, and behind each change that
 /// comes while nothing is due, also where an old space goes as the new one comes.
 pub fn due_kept()
-    ensures entry { (locked : List Page) (at : ℕ) (p : Placement) (e : Entry) → OwnsFrames p → CanPlace p e → LeavesDue p e → DueStand p → DueStand (place_entry locked at p e) }
+    ensures entry { (locked : List Page) (at : ℕ) (p : Placement) (e : Entry) → OwnsFrames p → CanPlace p e → LeavesDue p e → DueStand p
+        → DueStand (place_entry locked at p e) }
     ensures force { (p : Placement) (locked : List Page) → OwnsFrames p → DueStand p → DueStand (force p locked) }
-    ensures serve { (p : Placement) (locked : List Page) (q : Page) → OwnsFrames p → IsThere p q → NotDue p.due q → DueStand p → DueStand (serve_step p locked q) }
+    ensures serve { (p : Placement) (locked : List Page) (q : Page) → OwnsFrames p → IsThere p q → NotDue p.due q → DueStand p
+        → DueStand (serve_step p locked q) }
     ensures start { (images : List Image) (first : List Starting) (frames : ℕ) → DueStand (start_placement images first frames) }
     ensures fork { (p : Placement) (parent child : ℕ) → IsNew p child → DueStand (fork_space p parent child) }
     ensures enter { (p : Placement) (sid image : ℕ) (facts : Image) → IsNew p sid → DueStand (enter_space p sid image facts) }
     ensures write { (p : Placement) (q : Page) → DueStand p → DueStand (touch p q) }
-    ensures changes { (images : List NamedImage) (p : Placement) (pid sid : ℕ) (borrowed : Bool) (next_sid at : ℕ) (change : AnyChange) → p.due ≡ [] → CanChange p sid borrowed next_sid change → ApartFrom sid borrowed next_sid change → DueStand (place_change images p pid sid borrowed next_sid at change) }
+    ensures changes { (images : List NamedImage) (p : Placement) (pid sid : ℕ) (borrowed : Bool) (next_sid at : ℕ) (change : AnyChange)
+        → p.due ≡ [] → CanChange p sid borrowed next_sid change → ApartFrom sid borrowed next_sid change
+        → DueStand (place_change images p pid sid borrowed next_sid at change) }
 {}
 
 /// Putting a process out ends: each unit may be made, keeps frames owned, no more than 16 transfers in flight, each with
@@ -183,12 +236,18 @@ pub fn due_kept()
 /// space is settled then, and no page of it is in a frame off the free list.
 pub fn putting_out_ends()
     ensures can { (p : Placement) (pid sid : ℕ) → CanPlace p (put_out_unit p pid sid) }
-    ensures owner { (locked : List Page) (at : ℕ) (p : Placement) (pid sid : ℕ) → OwnsFrames p → OwnsFrames (place_entry locked at p (put_out_unit p pid sid)) }
-    ensures few { (locked : List Page) (at : ℕ) (p : Placement) (pid sid : ℕ) → length p.transfers ≤ most_in_flight → length (place_entry locked at p (put_out_unit p pid sid)).transfers ≤ most_in_flight }
-    ensures parts { (locked : List Page) (at : ℕ) (p : Placement) (pid sid : ℕ) → OwnsFrames p → HaveParts p.transfers → HaveParts (place_entry locked at p (put_out_unit p pid sid)).transfers }
-    ensures due { (locked : List Page) (at : ℕ) (p : Placement) (pid sid : ℕ) → OwnsFrames p → DueStand p → DueStand (place_entry locked at p (put_out_unit p pid sid)) }
-    ensures falls { (locked : List Page) (at : ℕ) (p : Placement) (pid sid : ℕ) → OwnsFrames p → IsResident p pid → is_out p pid ≡ false → put_rank (place_entry locked at p (put_out_unit p pid sid)) pid sid < put_rank p pid sid }
-    ensures whole { (at : ℕ) (p : Placement) (pid sid : ℕ) → OwnsFrames p → length p.transfers ≤ most_in_flight → IsResident p pid → is_out p pid ≡ false → EndsPuttingOut at p pid sid }
+    ensures owner { (locked : List Page) (at : ℕ) (p : Placement) (pid sid : ℕ) → OwnsFrames p
+        → OwnsFrames (place_entry locked at p (put_out_unit p pid sid)) }
+    ensures few { (locked : List Page) (at : ℕ) (p : Placement) (pid sid : ℕ) → length p.transfers ≤ most_in_flight
+        → length (place_entry locked at p (put_out_unit p pid sid)).transfers ≤ most_in_flight }
+    ensures parts { (locked : List Page) (at : ℕ) (p : Placement) (pid sid : ℕ) → OwnsFrames p → HaveParts p.transfers
+        → HaveParts (place_entry locked at p (put_out_unit p pid sid)).transfers }
+    ensures due { (locked : List Page) (at : ℕ) (p : Placement) (pid sid : ℕ) → OwnsFrames p → DueStand p
+        → DueStand (place_entry locked at p (put_out_unit p pid sid)) }
+    ensures falls { (locked : List Page) (at : ℕ) (p : Placement) (pid sid : ℕ) → OwnsFrames p → IsResident p pid → is_out p pid ≡ false
+        → put_rank (place_entry locked at p (put_out_unit p pid sid)) pid sid < put_rank p pid sid }
+    ensures whole { (at : ℕ) (p : Placement) (pid sid : ℕ) → OwnsFrames p → length p.transfers ≤ most_in_flight → IsResident p pid
+        → is_out p pid ≡ false → EndsPuttingOut at p pid sid }
 {}
 
 /// Which pages are read or written with a page. Of data and stack at most 4 pages come from swap at once, of one chunk,
@@ -197,11 +256,15 @@ pub fn putting_out_ends()
 /// locked; a put 16, upwards, all dirty in frames off the free list, and of a clean page it alone. No further page could
 /// be added.
 pub fn runs_are_widest()
-    ensures data_in { (p : Placement) (q : Page) → IsWritable q → state_of p q ≡ OnSwap → IsWidestRun (IsSwappedBeside p q) (MayRead p 4) (number_of q) (run_in p q) }
-    ensures text_in { (p : Placement) (image v : ℕ) → state_of p (Text image v) ≡ OnSwap → IsLongestRun (IsSwappedBeside p (Text image v)) (MayRead p 2) v (run_in p (Text image v)) }
-    ensures file_in { (p : Placement) (image v : ℕ) → state_of p (Text image v) ≡ Unfilled → IsLongestRun (IsUnfilledBeside p (Text image v)) (MayRead p 2) v (run_in p (Text image v)) }
+    ensures data_in { (p : Placement) (q : Page) → IsWritable q → state_of p q ≡ OnSwap
+        → IsWidestRun (IsSwappedBeside p q) (MayRead p 4) (number_of q) (run_in p q) }
+    ensures text_in { (p : Placement) (image v : ℕ) → state_of p (Text image v) ≡ OnSwap
+        → IsLongestRun (IsSwappedBeside p (Text image v)) (MayRead p 2) v (run_in p (Text image v)) }
+    ensures file_in { (p : Placement) (image v : ℕ) → state_of p (Text image v) ≡ Unfilled
+        → IsLongestRun (IsUnfilledBeside p (Text image v)) (MayRead p 2) v (run_in p (Text image v)) }
     ensures alone_in { (p : Placement) (q : Page) → IsWritable q → state_of p q ≡ Unfilled → run_in p q ≡ run_alone q }
-    ensures out { (p : Placement) (locked : List Page) (q : Page) → IsWidestRun (IsIdleBeside p locked q) (λ n. n ≤ 16) (number_of q) (run_out p locked q) }
+    ensures out { (p : Placement) (locked : List Page) (q : Page)
+        → IsWidestRun (IsIdleBeside p locked q) (λ n. n ≤ 16) (number_of q) (run_out p locked q) }
     ensures put { (p : Placement) (q : Page) → is_dirty p q ≡ true → IsLongestRun (IsSeatedBeside p q) (λ n. n ≤ 16) (number_of q) (run_put p q) }
     ensures alone_put { (p : Placement) (q : Page) → is_dirty p q ≡ false → run_put p q ≡ run_alone q }
 {}
@@ -209,13 +272,16 @@ pub fn runs_are_widest()
 /// A move of the hands frees only clean pages, and begins to write only dirty ones. Each of them isn't locked, and was
 /// invalid in a frame off the free list, or is made so by the same move.
 pub fn moves_take_idle_pages()
-    ensures freed { (p : Placement) (locked : List Page) (f : ℕ) → OwnsFrames p → times f p.free ≡ 0 → 0 < times f (hand_move p locked).free → (w : Page) × (page_of p f ≡ Some w) × MayBeSwept p locked w f × (is_dirty p w ≡ false) }
-    ensures written { (p : Placement) (locked : List Page) (w : Page) (f : ℕ) → OwnsFrames p → state_of (hand_move p locked) w ≡ Going f → (state_of p w ≡ Going f) ⊎ (MayBeSwept p locked w f × (is_dirty p w ≡ true)) }
+    ensures freed { (p : Placement) (locked : List Page) (f : ℕ) → OwnsFrames p → times f p.free ≡ 0 → 0 < times f (hand_move p locked).free
+        → (w : Page) × (page_of p f ≡ Some w) × MayBeSwept p locked w f × (is_dirty p w ≡ false) }
+    ensures written { (p : Placement) (locked : List Page) (w : Page) (f : ℕ) → OwnsFrames p → state_of (hand_move p locked) w ≡ Going f
+        → (state_of p w ≡ Going f) ⊎ (MayBeSwept p locked w f × (is_dirty p w ≡ true)) }
 {}
 
 /// The write that a move of the hands begins is the one that `hand_run` names; and where it names none, the move begins none.
 pub fn moves_write_their_run()
-    ensures begins { (p : Placement) (locked : List Page) (q : Page) (r : Run) → hand_run p locked ≡ Some (q, r) → hand_move p locked ≡ advance (launch_run (expire p locked) (pages_of_run q r)) }
+    ensures begins { (p : Placement) (locked : List Page) (q : Page) (r : Run) → hand_run p locked ≡ Some (q, r)
+        → hand_move p locked ≡ advance (launch_run (expire p locked) (pages_of_run q r)) }
     ensures rests { (p : Placement) (locked : List Page) → hand_run p locked ≡ None → (hand_move p locked).transfers ≡ p.transfers }
 {}
 
@@ -224,8 +290,12 @@ pub fn moves_write_their_run()
 /// be written first, dirty pages and text that isn't saved, stays in its frame and off the free list through each paging
 /// entry, till the end of its write.
 pub fn frames_are_left()
-    ensures entry { (locked : List Page) (at : ℕ) (p : Placement) (e : Entry) (q : Page) (f : ℕ) → OwnsFrames p → CanPlace p e → frame_of (state_of p q) ≡ Some f → StaysOrTaken p e (place_entry locked at p e) q f }
-    ensures change { (images : List NamedImage) (p : Placement) (pid sid next at : ℕ) (lent : Bool) (change : AnyChange) (q : Page) → IsNew p next → StaysOrGivenUp p sid lent change (place_change images p pid sid lent next at change) q }
-    ensures dirty { (images : List NamedImage) (p : Placement) (pid sid new at f : ℕ) (lent : Bool) (x : AnyChange) (q : Page) → IsNew p new → IsDirtyIn p q f → DirtyOrGivenUp sid lent x (place_change images p pid sid lent new at x) q f }
-    ensures written { (locked : List Page) (at : ℕ) (p : Placement) (e : Entry) (q : Page) (f : ℕ) → OwnsFrames p → CanPlace p e → IsUnwritten p q f → StaysOrWritten p e (place_entry locked at p e) q f }
+    ensures entry { (locked : List Page) (at : ℕ) (p : Placement) (e : Entry) (q : Page) (f : ℕ) → OwnsFrames p → CanPlace p e
+        → frame_of (state_of p q) ≡ Some f → StaysOrTaken p e (place_entry locked at p e) q f }
+    ensures change { (images : List NamedImage) (p : Placement) (pid sid next at : ℕ) (lent : Bool) (change : AnyChange) (q : Page)
+        → IsNew p next → StaysOrGivenUp p sid lent change (place_change images p pid sid lent next at change) q }
+    ensures dirty { (images : List NamedImage) (p : Placement) (pid sid new at f : ℕ) (lent : Bool) (x : AnyChange) (q : Page) → IsNew p new
+        → IsDirtyIn p q f → DirtyOrGivenUp sid lent x (place_change images p pid sid lent new at x) q f }
+    ensures written { (locked : List Page) (at : ℕ) (p : Placement) (e : Entry) (q : Page) (f : ℕ) → OwnsFrames p → CanPlace p e
+        → IsUnwritten p q f → StaysOrWritten p e (place_entry locked at p e) q f }
 {}

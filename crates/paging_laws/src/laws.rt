@@ -22,7 +22,8 @@ ghost use Rattle.paging_laws.specs.Cleaned.{IsCleaned, CleanedIn};
 pub fn processes_are_ready()
     ensures ran { (A : Inputs) (s : State) (pid n : ℕ) → next_unit A s ≡ Some (entries.Ran pid n) → IsReady A s pid }
     ensures grew { (A : Inputs) (s : State) (pid pages : ℕ) → next_unit A s ≡ Some (entries.Grew pid pages) → IsReady A s pid }
-    ensures call { (A : Inputs) (s : State) (pid number r0 r1 : ℕ) (carry : Bool) → next_unit A s ≡ Some (entries.Call pid number carry r0 r1) → IsReady A s pid }
+    ensures call { (A : Inputs) (s : State) (pid number r0 r1 : ℕ) (carry : Bool)
+        → next_unit A s ≡ Some (entries.Call pid number carry r0 r1) → IsReady A s pid }
     ensures sleeps { (A : Inputs) (s : State) (pid : ℕ) → next_unit A s ≡ Some (entries.Sleeps pid) → IsReady A s pid }
     ensures ended { (A : Inputs) (s : State) (pid status : ℕ) → next_unit A s ≡ Some (entries.Ended pid status) → IsReady A s pid }
 {}
@@ -32,7 +33,8 @@ pub fn processes_are_ready()
 /// page while a child's page is due; and a copy is of the child's page that is due first, from a valid page.
 pub fn pages_are_called_for()
     ensures zero { (A : Inputs) (s : State) (q : Page) → IsRun A s → next_unit A s ≡ Some (entries.Zero q) → IsWanted A s q ⊎ IsStartDue s.place q }
-    ensures get { (A : Inputs) (s : State) (q : Page) (lo n : ℕ) → next_unit A s ≡ Some (entries.Get q lo n) → IsWanted A s q ⊎ IsParentOfDue s.place q }
+    ensures get { (A : Inputs) (s : State) (q : Page) (lo n : ℕ) → next_unit A s ≡ Some (entries.Get q lo n)
+        → IsWanted A s q ⊎ IsParentOfDue s.place q }
     ensures reclaim { (A : Inputs) (s : State) (q : Page) → next_unit A s ≡ Some (entries.Reclaim q) → IsWanted A s q ⊎ IsParentOfDue s.place q }
     ensures copy { (A : Inputs) (s : State) (q : Page) → next_unit A s ≡ Some (entries.Copy q) → IsCopyDue s.place q }
 {}
@@ -47,14 +49,18 @@ pub fn reads_are_small()
 /// the page was given up. What must be written, a dirty page or text that isn't saved, stays in its frame, off the free
 /// list, behind each unit that isn't a process's, till the end of its write.
 pub fn pages_leave_frames()
-    ensures lost { (A : Inputs) (s : State) (u : Entry) (q : Page) (f : ℕ) → IsRun A s → next_unit A s ≡ Some u → frame_of (state_of s.place q) ≡ Some f → frame_of (state_of (after A s u).place q) ≢ Some f → IsLost A s u q f }
-    ensures written { (A : Inputs) (s : State) (u : Entry) (q : Page) (f : ℕ) → IsRun A s → next_unit A s ≡ Some u → process_of_entry u ≡ None → IsUnwritten s.place q f → StaysOrWritten s.place u (after A s u).place q f }
+    ensures lost { (A : Inputs) (s : State) (u : Entry) (q : Page) (f : ℕ) → IsRun A s → next_unit A s ≡ Some u
+        → frame_of (state_of s.place q) ≡ Some f → frame_of (state_of (after A s u).place q) ≢ Some f → IsLost A s u q f }
+    ensures written { (A : Inputs) (s : State) (u : Entry) (q : Page) (f : ℕ) → IsRun A s → next_unit A s ≡ Some u
+        → process_of_entry u ≡ None → IsUnwritten s.place q f → StaysOrWritten s.place u (after A s u).place q f }
 {}
 
 /// A dirty page of data or stack stays dirty, in its frame, behind each unit, but for one that completes a write of it or
 /// the step of a process that gives it up. So where it isn't there, or isn't dirty, behind a list of units, one of them did
 /// so: no frame of a dirty page is given to another one before the page is written.
 pub fn dirty_pages_are_written()
-    ensures unit { (A : Inputs) (s : State) (u : Entry) (q : Page) (f : ℕ) → IsRun A s → next_unit A s ≡ Some u → IsDirtyIn s.place q f → IsDirtyIn (after A s u).place q f ⊎ IsCleaned A s u q f }
-    ensures units { (A : Inputs) (us : List Entry) (s t : State) (q : Page) (f : ℕ) → ImagesFit A.images → IsRun A s → Follows A s us t → IsDirtyIn s.place q f → IsDirtyIn t.place q f ⊎ CleanedIn A s us q f }
+    ensures unit { (A : Inputs) (s : State) (u : Entry) (q : Page) (f : ℕ) → IsRun A s → next_unit A s ≡ Some u → IsDirtyIn s.place q f
+        → IsDirtyIn (after A s u).place q f ⊎ IsCleaned A s u q f }
+    ensures units { (A : Inputs) (us : List Entry) (s t : State) (q : Page) (f : ℕ) → ImagesFit A.images → IsRun A s → Follows A s us t
+        → IsDirtyIn s.place q f → IsDirtyIn t.place q f ⊎ CleanedIn A s us q f }
 {}

@@ -25,10 +25,14 @@ ghost use Rattle.register_laws.specs.Longwords.{AllFit, ImageFits, AllImages, Le
 /// image fits that a file of bytes is. An instruction, over a memory that answers bytes, leaves registers that are
 /// longwords, writes bytes, and is refused by a signal that is a longword.
 pub fn registers_are_longwords()
-    ensures instruction { (memory : Answers) (regs : Regs) → ((address byte : ℕ) → memory.read address ≡ bytes.Is byte → byte < 256) → AreRegs regs → LeavesLongwords (run memory (instruction regs)) }
+    ensures instruction { (memory : Answers) (regs : Regs) → ((address byte : ℕ) → memory.read address ≡ bytes.Is byte → byte < 256)
+        → AreRegs regs → LeavesLongwords (run memory (instruction regs)) }
     ensures image { (named : NamedImage) (file : List ℕ) → image_of file ≡ Ok named.image → AreOctets file → AreOctets named.name → ImageFits named }
-    ensures images { (images : List NamedImage) → ((number : ℕ) (named : NamedImage) → image_numbered images number ≡ Some named → ImageFits named) → AllImages images }
+    ensures images { (images : List NamedImage)
+        → ((number : ℕ) (named : NamedImage) → image_numbered images number ≡ Some named → ImageFits named) → AllImages images }
     ensures start { (A : Inputs) → AllImages A.images → AllFit (start_state A).processes }
-    ensures step { (A : Inputs) (F : FlatState) (pid : ℕ) (refused : Bool) → AllImages A.images → IsNumbered F → F.next_pid < 2 ^ 32 → AllFit F.processes → AllFit (flat_step A F pid refused).after.processes }
-    ensures run { (A : Inputs) (journal : List Entry) (point : Point) → AllImages A.images → length A.first + 1 + instructions_of journal < 2 ^ 32 → flat_run A journal ≡ Some point → AllFit point.flat.processes }
+    ensures step { (A : Inputs) (F : FlatState) (pid : ℕ) (refused : Bool) → AllImages A.images → IsNumbered F → F.next_pid < 2 ^ 32
+        → AllFit F.processes → AllFit (flat_step A F pid refused).after.processes }
+    ensures run { (A : Inputs) (journal : List Entry) (point : Point) → AllImages A.images
+        → length A.first + 1 + instructions_of journal < 2 ^ 32 → flat_run A journal ≡ Some point → AllFit point.flat.processes }
 {}

@@ -44,7 +44,8 @@ pub fn lawful_is_flat()
 pub fn runs_end()
     ensures finished { (A : Inputs) (journal : List Entry) (s : State) → IsFinished A journal s → (s.count ≡ A.limit) ⊎ IsIdle A s }
     ensures below { (A : Inputs) (us : List Entry) (s t : State) → Follows A s us t → s.count ≤ A.limit → t.count ≤ A.limit }
-    ensures goes { (A : Inputs) (s : State) (pid : ℕ) (now : Bool) → IsRun A s → Runs A s pid now → wanted A s ≡ None → (u : Entry) × (next_unit A s ≡ Some u) }
+    ensures goes { (A : Inputs) (s : State) (pid : ℕ) (now : Bool) → IsRun A s → Runs A s pid now → wanted A s ≡ None
+        → (u : Entry) × (next_unit A s ≡ Some u) }
 {}
 
 /// At each state of a run an instruction touches 28 pages at most, with its call; so with 64 frames there is room beside

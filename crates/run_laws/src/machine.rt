@@ -43,11 +43,16 @@ ghost use Rattle.run_model.specs.Swapped.{image_behind, swapped_from, swapped};
 /// holdings and journal, with one owner of each frame and block, and coupled to the flat state; and so behind each
 /// list of next units. No unit stops it.
 pub fn machines_stand()
-    ensures start { (A : Inputs) (hs : Holdings) (frames : List (List ℕ)) (image : List ℕ) → CanRun A hs → length frames ≡ A.frames → 512 * A.swap_blocks ≤ length image → StandsAt A (start A hs) (start_kernel A (starting A.images A.first) hs frames) image }
-    ensures unit { (A : Inputs) (s : State) (k : Kernel) (image : List ℕ) (read : List (List ℕ)) (u : Entry) → Next A s k image u → IsGiven A s k image read u → StandsAt A (after A s u) (unit_step A s k image read u) (unit_image k image u) }
-    ensures units { (A : Inputs) (us : List Entry) (s t : State) (k l : Kernel) (image behind : List ℕ) → ImagesFit A.images → IsRun A s → StandsAt A s k image → Makes A s k image us t l behind → StandsAt A t l behind }
-    ensures follows { (A : Inputs) (us : List Entry) (s t : State) (k l : Kernel) (image behind : List ℕ) → Makes A s k image us t l behind → Follows A s us t }
-    ensures goes { (A : Inputs) (s : State) (k : Kernel) (image : List ℕ) (read : List (List ℕ)) (u : Entry) → (unit_step A s k image read u).stopped ≡ k.stopped }
+    ensures start { (A : Inputs) (hs : Holdings) (frames : List (List ℕ)) (image : List ℕ) → CanRun A hs → length frames ≡ A.frames
+        → 512 * A.swap_blocks ≤ length image → StandsAt A (start A hs) (start_kernel A (starting A.images A.first) hs frames) image }
+    ensures unit { (A : Inputs) (s : State) (k : Kernel) (image : List ℕ) (read : List (List ℕ)) (u : Entry) → Next A s k image u
+        → IsGiven A s k image read u → StandsAt A (after A s u) (unit_step A s k image read u) (unit_image k image u) }
+    ensures units { (A : Inputs) (us : List Entry) (s t : State) (k l : Kernel) (image behind : List ℕ) → ImagesFit A.images → IsRun A s
+        → StandsAt A s k image → Makes A s k image us t l behind → StandsAt A t l behind }
+    ensures follows { (A : Inputs) (us : List Entry) (s t : State) (k l : Kernel) (image behind : List ℕ) → Makes A s k image us t l behind
+        → Follows A s us t }
+    ensures goes { (A : Inputs) (s : State) (k : Kernel) (image : List ℕ) (read : List (List ℕ)) (u : Entry)
+        → (unit_step A s k image read u).stopped ≡ k.stopped }
 {}
 
 /// The same of each kind of unit by itself: a fill, with zeros, with the start of a stack, or with a parent's page; the
@@ -56,20 +61,36 @@ pub fn machines_stand()
 /// entry that completes a process's step with a change. In the middle of such a step the machine is coupled to the flat
 /// state with the bytes that it writes, before its pieces are found and once they are.
 pub fn machine_units()
-    ensures zero { (A : Inputs) (s : State) (k : Kernel) (image : List ℕ) (q : Page) → Next A s k image (entries.Zero q) → StandsAt A (after A s (entries.Zero q)) (zero_step k q) image }
-    ensures copy { (A : Inputs) (s : State) (k : Kernel) (image : List ℕ) (q : Page) → Next A s k image (entries.Copy q) → StandsAt A (after A s (entries.Copy q)) (copy_step k q) image }
-    ensures get { (A : Inputs) (s : State) (k : Kernel) (image : List ℕ) (q : Page) (lo n : ℕ) → Next A s k image (entries.Get q lo n) → StandsAt A (after A s (entries.Get q lo n)) (get_step k q lo n) image }
-    ensures reclaim { (A : Inputs) (s : State) (k : Kernel) (image : List ℕ) (q : Page) → Next A s k image (entries.Reclaim q) → StandsAt A (after A s (entries.Reclaim q)) (reclaim_step k q) image }
-    ensures hands { (A : Inputs) (s : State) (k : Kernel) (image : List ℕ) (n : ℕ) → Next A s k image (entries.Hands n) → StandsAt A (after A s (entries.Hands n)) (plain_step k (locked A s) (entries.Hands n)) image }
-    ensures put { (A : Inputs) (s : State) (k : Kernel) (image : List ℕ) (q : Page) (n : ℕ) → Next A s k image (entries.Put q n) → StandsAt A (after A s (entries.Put q n)) (push_step k q n) image }
-    ensures done { (A : Inputs) (s : State) (k : Kernel) (image : List ℕ) (read : List (List ℕ)) → Next A s k image entries.Done → AreRead (beside_kernel k A.images image s.point.flat) k.place.transfers read → StandsAt A (after A s entries.Done) (done_step k read) (image_after k image) }
-    ensures out { (A : Inputs) (s : State) (k : Kernel) (image : List ℕ) (pid : ℕ) (p : Proc) → Next A s k image (entries.SwapOut pid) → proc_of k pid ≡ Some p → AreRegs p.regs → StandsAt A (after A s (entries.SwapOut pid)) (out_step k pid) (store_at image (block_in k.holdings (owners.U pid) 0) (u_bytes k (Some p))) }
-    ensures comes { (A : Inputs) (s : State) (k : Kernel) (image : List ℕ) (pid : ℕ) → Next A s k image (entries.SwapIn pid) → StandsAt A (after A s (entries.SwapIn pid)) (in_step k pid (regs_in (stored_at image (block_in k.holdings (owners.U pid) 0)))) image }
-    ensures note { (A : Inputs) (s : State) (k : Kernel) (image : List ℕ) (u : Entry) → Next A s k image u → IsNote u → StandsAt A (after A s u) (note_step k u) image }
-    ensures ran { (A : Inputs) (s : State) (k : Kernel) (image : List ℕ) (pid n : ℕ) → Next A s k image (entries.Ran pid n) → StandsAt A (after A s (entries.Ran pid n)) (ran_step A s k pid n) image }
-    ensures step { (A : Inputs) (s : State) (k : Kernel) (image : List ℕ) (pid : ℕ) (u : Entry) → Next A s k image u → Completes pid u → StandsAt A (after A s u) (process_step A s k pid u) image }
-    ensures written { (A : Inputs) (s : State) (k : Kernel) (image : List ℕ) (pid : ℕ) (u : Entry) → Next A s k image u → EndsStep pid u → Coupled (written_step A s k pid) A.images image (apply_writes s.point.flat pid (step_at A s.point pid).writes) }
-    ensures taken { (A : Inputs) (s : State) (k : Kernel) (image : List ℕ) (pid : ℕ) (u : Entry) → Next A s k image u → EndsStep pid u → Coupled (taken_step A s k pid) A.images image (apply_writes s.point.flat pid (step_at A s.point pid).writes) }
+    ensures zero { (A : Inputs) (s : State) (k : Kernel) (image : List ℕ) (q : Page) → Next A s k image (entries.Zero q)
+        → StandsAt A (after A s (entries.Zero q)) (zero_step k q) image }
+    ensures copy { (A : Inputs) (s : State) (k : Kernel) (image : List ℕ) (q : Page) → Next A s k image (entries.Copy q)
+        → StandsAt A (after A s (entries.Copy q)) (copy_step k q) image }
+    ensures get { (A : Inputs) (s : State) (k : Kernel) (image : List ℕ) (q : Page) (lo n : ℕ) → Next A s k image (entries.Get q lo n)
+        → StandsAt A (after A s (entries.Get q lo n)) (get_step k q lo n) image }
+    ensures reclaim { (A : Inputs) (s : State) (k : Kernel) (image : List ℕ) (q : Page) → Next A s k image (entries.Reclaim q)
+        → StandsAt A (after A s (entries.Reclaim q)) (reclaim_step k q) image }
+    ensures hands { (A : Inputs) (s : State) (k : Kernel) (image : List ℕ) (n : ℕ) → Next A s k image (entries.Hands n)
+        → StandsAt A (after A s (entries.Hands n)) (plain_step k (locked A s) (entries.Hands n)) image }
+    ensures put { (A : Inputs) (s : State) (k : Kernel) (image : List ℕ) (q : Page) (n : ℕ) → Next A s k image (entries.Put q n)
+        → StandsAt A (after A s (entries.Put q n)) (push_step k q n) image }
+    ensures done { (A : Inputs) (s : State) (k : Kernel) (image : List ℕ) (read : List (List ℕ)) → Next A s k image entries.Done
+        → AreRead (beside_kernel k A.images image s.point.flat) k.place.transfers read
+        → StandsAt A (after A s entries.Done) (done_step k read) (image_after k image) }
+    ensures out { (A : Inputs) (s : State) (k : Kernel) (image : List ℕ) (pid : ℕ) (p : Proc) → Next A s k image (entries.SwapOut pid)
+        → proc_of k pid ≡ Some p → AreRegs p.regs
+        → StandsAt A (after A s (entries.SwapOut pid)) (out_step k pid) (store_at image (block_in k.holdings (owners.U pid) 0) (u_bytes k (Some p))) }
+    ensures comes { (A : Inputs) (s : State) (k : Kernel) (image : List ℕ) (pid : ℕ) → Next A s k image (entries.SwapIn pid)
+        → StandsAt A (after A s (entries.SwapIn pid)) (in_step k pid (regs_in (stored_at image (block_in k.holdings (owners.U pid) 0)))) image }
+    ensures note { (A : Inputs) (s : State) (k : Kernel) (image : List ℕ) (u : Entry) → Next A s k image u → IsNote u
+        → StandsAt A (after A s u) (note_step k u) image }
+    ensures ran { (A : Inputs) (s : State) (k : Kernel) (image : List ℕ) (pid n : ℕ) → Next A s k image (entries.Ran pid n)
+        → StandsAt A (after A s (entries.Ran pid n)) (ran_step A s k pid n) image }
+    ensures step { (A : Inputs) (s : State) (k : Kernel) (image : List ℕ) (pid : ℕ) (u : Entry) → Next A s k image u → Completes pid u
+        → StandsAt A (after A s u) (process_step A s k pid u) image }
+    ensures written { (A : Inputs) (s : State) (k : Kernel) (image : List ℕ) (pid : ℕ) (u : Entry) → Next A s k image u → EndsStep pid u
+        → Coupled (written_step A s k pid) A.images image (apply_writes s.point.flat pid (step_at A s.point pid).writes) }
+    ensures taken { (A : Inputs) (s : State) (k : Kernel) (image : List ℕ) (pid : ℕ) (u : Entry) → Next A s k image u → EndsStep pid u
+        → Coupled (taken_step A s k pid) A.images image (apply_writes s.point.flat pid (step_at A s.point pid).writes) }
 {}
 
 /// The swap image of a machine along a run is the one that the run's units say: what is in flight to swap has its flat
@@ -78,20 +99,28 @@ pub fn machine_units()
 /// says has the flat bytes of each page that is on swap alone.
 pub fn images_agree()
     ensures writes { (A : Inputs) (s : State) (k : Kernel) (image : List ℕ) → StandsAt A s k image → AllFlat A s k s.place.transfers }
-    ensures unit { (A : Inputs) (s : State) (k : Kernel) (image : List ℕ) (u : Entry) → Next A s k image u → unit_image k image u ≡ image_behind A s u image }
-    ensures units { (A : Inputs) (us : List Entry) (s t : State) (k l : Kernel) (image behind : List ℕ) → ImagesFit A.images → IsRun A s → StandsAt A s k image → Makes A s k image us t l behind → behind ≡ swapped_from A s us image }
-    ensures journal { (A : Inputs) (hs : Holdings) (us journal : List Entry) (t : State) (image : List ℕ) → CanRun A hs → Follows A (start A hs) us t → appended [] us ≡ journal → swapped_from A (start A hs) us image ≡ swapped A journal image }
+    ensures unit { (A : Inputs) (s : State) (k : Kernel) (image : List ℕ) (u : Entry) → Next A s k image u
+        → unit_image k image u ≡ image_behind A s u image }
+    ensures units { (A : Inputs) (us : List Entry) (s t : State) (k l : Kernel) (image behind : List ℕ) → ImagesFit A.images → IsRun A s
+        → StandsAt A s k image → Makes A s k image us t l behind → behind ≡ swapped_from A s us image }
+    ensures journal { (A : Inputs) (hs : Holdings) (us journal : List Entry) (t : State) (image : List ℕ) → CanRun A hs
+        → Follows A (start A hs) us t → appended [] us ≡ journal → swapped_from A (start A hs) us image ≡ swapped A journal image }
     ensures there { (A : Inputs) (s : State) (k : Kernel) (image : List ℕ) → StandsAt A s k image → HasSwapped A s image }
-    ensures run { (A : Inputs) (hs : Holdings) (us journal : List Entry) (t : State) (image : List ℕ) → CanRun A hs → AllImages A.images → length A.first + 1 + A.limit < 2 ^ 32 → Follows A (start A hs) us t → appended [] us ≡ journal → 512 * A.swap_blocks ≤ length image → HasSwapped A t (swapped A journal image) }
+    ensures run { (A : Inputs) (hs : Holdings) (us journal : List Entry) (t : State) (image : List ℕ) → CanRun A hs → AllImages A.images
+        → length A.first + 1 + A.limit < 2 ^ 32 → Follows A (start A hs) us t → appended [] us ≡ journal
+        → 512 * A.swap_blocks ≤ length image → HasSwapped A t (swapped A journal image) }
 {}
 
 /// At most 4,096 pages of data and 512 of stack in each space, and at most 64 processes: at the start, behind each step of
 /// the flat machine, in each run of it, and so at each state that a run reaches, in its placement too.
 pub fn sizes_stand()
     ensures start { (A : Inputs) → InputsSized A → ImagesFit A.images → FlatSized (start_state A) }
-    ensures step { (A : Inputs) (F : FlatState) (pid : ℕ) (refused : Bool) → InputsSized A → ImagesFit A.images → FlatSized F → FlatSized (flat_step A F pid refused).after }
-    ensures run { (A : Inputs) (journal : List Entry) (point : Point) → InputsSized A → ImagesFit A.images → flat_run A journal ≡ Some point → FlatSized point.flat }
-    ensures reached { (A : Inputs) (hs : Holdings) (journal : List Entry) (s : State) → CanRun A hs → InputsSized A → Reaches A journal s → FlatSized s.point.flat × PlaceSized s.place }
+    ensures step { (A : Inputs) (F : FlatState) (pid : ℕ) (refused : Bool) → InputsSized A → ImagesFit A.images → FlatSized F
+        → FlatSized (flat_step A F pid refused).after }
+    ensures run { (A : Inputs) (journal : List Entry) (point : Point) → InputsSized A → ImagesFit A.images → flat_run A journal ≡ Some point
+        → FlatSized point.flat }
+    ensures reached { (A : Inputs) (hs : Holdings) (journal : List Entry) (s : State) → CanRun A hs → InputsSized A → Reaches A journal s
+        → FlatSized s.point.flat × PlaceSized s.place }
 {}
 
 /// Inputs that stand in files are as a run asks: a run may begin, or the pieces of one of the first processes find no
@@ -106,18 +135,24 @@ pub fn inputs_fit()
 /// reaches. So what is left of putting a process out falls with each unit of it, and it ends.
 pub fn residents_stand()
     ensures start { (A : Inputs) (hs : Holdings) → CanRun A hs → AllResident (start A hs) }
-    ensures unit { (A : Inputs) (s : State) (u : Entry) → ImagesFit A.images → IsRun A s → AllResident s → next_unit A s ≡ Some u → AllResident (after A s u) }
+    ensures unit { (A : Inputs) (s : State) (u : Entry) → ImagesFit A.images → IsRun A s → AllResident s → next_unit A s ≡ Some u
+        → AllResident (after A s u) }
     ensures reached { (A : Inputs) (hs : Holdings) (journal : List Entry) (s : State) → CanRun A hs → Reaches A journal s → AllResident s }
-    ensures falls { (A : Inputs) (s : State) (u : Entry) (pid : ℕ) → IsRun A s → AllResident s → s.mark ≡ marks.PutOut pid → next_unit A s ≡ Some u → put_rank (after A s u).place pid (space_of_process (process_of s.point.flat pid)) < put_rank s.place pid (space_of_process (process_of s.point.flat pid)) }
-    ensures whole { (A : Inputs) (s : State) (pid at : ℕ) → IsRun A s → AllResident s → s.mark ≡ marks.PutOut pid → EndsPuttingOut at s.place pid (space_of_process (process_of s.point.flat pid)) }
+    ensures falls { (A : Inputs) (s : State) (u : Entry) (pid : ℕ) → IsRun A s → AllResident s → s.mark ≡ marks.PutOut pid
+        → next_unit A s ≡ Some u
+        → put_rank (after A s u).place pid (space_of_process (process_of s.point.flat pid)) < put_rank s.place pid (space_of_process (process_of s.point.flat pid)) }
+    ensures whole { (A : Inputs) (s : State) (pid at : ℕ) → IsRun A s → AllResident s → s.mark ≡ marks.PutOut pid
+        → EndsPuttingOut at s.place pid (space_of_process (process_of s.point.flat pid)) }
 {}
 
 /// In a run whose images fit, and whose first processes, 1 and the most instructions are fewer than 2 ^ 32 together, each
 /// process has sixteen registers that are longwords and holds a space of bytes. So a machine is given what it asks of a
 /// process that goes out.
 pub fn registers_stand()
-    ensures reached { (A : Inputs) (hs : Holdings) (journal : List Entry) (s : State) → CanRun A hs → AllImages A.images → length A.first + 1 + A.limit < 2 ^ 32 → Reaches A journal s → AllFit s.point.flat.processes }
-    ensures given { (A : Inputs) (s : State) (k : Kernel) (image : List ℕ) (read : List (List ℕ)) (pid : ℕ) → Next A s k image (entries.SwapOut pid) → AllFit s.point.flat.processes → IsGiven A s k image read (entries.SwapOut pid) }
+    ensures reached { (A : Inputs) (hs : Holdings) (journal : List Entry) (s : State) → CanRun A hs → AllImages A.images
+        → length A.first + 1 + A.limit < 2 ^ 32 → Reaches A journal s → AllFit s.point.flat.processes }
+    ensures given { (A : Inputs) (s : State) (k : Kernel) (image : List ℕ) (read : List (List ℕ)) (pid : ℕ)
+        → Next A s k image (entries.SwapOut pid) → AllFit s.point.flat.processes → IsGiven A s k image read (entries.SwapOut pid) }
 {}
 
 /// What a process reads in the flat machine is what the frames hold: a byte of a page that is valid, of text, data or stack,

@@ -32,13 +32,16 @@ pub fn touched_are_few()
 /// pages below 2 ^ 32.
 pub fn spaces_are_whole()
     ensures start { (A : Inputs) → ImagesWhole A.images → AllSized (start_state A).processes }
-    ensures step { (A : Inputs) (F : FlatState) (pid : ℕ) (refused : Bool) → ImagesWhole A.images → AllSized F.processes → AllSized (flat_step A F pid refused).after.processes }
-    ensures run { (A : Inputs) (journal : List Entry) (point : Point) → ImagesWhole A.images → flat_run A journal ≡ Some point → AllSized point.flat.processes }
+    ensures step { (A : Inputs) (F : FlatState) (pid : ℕ) (refused : Bool) → ImagesWhole A.images → AllSized F.processes
+        → AllSized (flat_step A F pid refused).after.processes }
+    ensures run { (A : Inputs) (journal : List Entry) (point : Point) → ImagesWhole A.images → flat_run A journal ≡ Some point
+        → AllSized point.flat.processes }
     ensures whole { (F : FlatState) → AllSized F.processes → EachWhole F }
     ensures image { (named : NamedImage) (bytes : List ℕ) → image_of bytes ≡ Ok named.image → ImageWhole named }
 {}
 
 /// So in each run the next instruction of each process touches 28 pages at most.
 pub fn runs_touch_few()
-    ensures { (A : Inputs) (journal : List Entry) (point : Point) (pid : ℕ) → ImagesWhole A.images → flat_run A journal ≡ Some point → length (touched A point.flat pid) ≤ 28 }
+    ensures { (A : Inputs) (journal : List Entry) (point : Point) (pid : ℕ) → ImagesWhole A.images → flat_run A journal ≡ Some point
+        → length (touched A point.flat pid) ≤ 28 }
 {}

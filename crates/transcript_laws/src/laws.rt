@@ -11,7 +11,8 @@ ghost use Rattle.transcript_laws.specs.Replayed.{entries_shown, IsTranscriptOf, 
 /// What a run writes, a judge of transcripts accepts: the text of a lawful journal, with the trace of the paging or without,
 /// is read as the entries that it shows, and these are a run of the flat machine, of no more instructions than may be.
 pub fn runs_are_replayed()
-    ensures { (traced : Bool) (A : Inputs) (journal : List Entry) (s : State) (text : List ℕ) (read : Transcript) → IsTranscriptOf traced A journal s text → IsReadTranscript text read → IsAccepted A (entries_shown traced journal) read }
+    ensures { (traced : Bool) (A : Inputs) (journal : List Entry) (s : State) (text : List ℕ) (read : Transcript)
+        → IsTranscriptOf traced A journal s text → IsReadTranscript text read → IsAccepted A (entries_shown traced journal) read }
 {}
 
 /// The entries that are shown of a journal lead the flat machine to the same point, and count as many instructions.
