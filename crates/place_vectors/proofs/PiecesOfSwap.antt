@@ -14,8 +14,7 @@ use Rattle.page_model.specs.Placement.{Placement, start_placement}
 use Rattle.page_model.specs.Place.{resize}
 use Rattle.kernel_model.specs.ChangeStep.{holdings_after}
 use Rattle.kernel_model.specs.Asks.{start_asks, change_asks, asked}
-use Rattle.place_vectors.proofs.SpaceLentAndBack.{u_piece, lender}
-use Rattle.place_vectors.proofs.SpaceLentAndBack.{quiet}
+use Rattle.place_vectors.proofs.SpaceLentAndBack.{quiet, u_piece, lender}
 use Rattle.place_vectors.proofs.OneProcessIn64Frames.{walked}
 use Rattle.place_vectors.proofs.ChoiceAmongFive.{resident}
 
@@ -50,6 +49,12 @@ break_finds_no_place = refl
 smaller_break_gives_back : holdings_after (first_pieces ++ piece (owners.Data 1) 68 64 ∷ []) (resize begun 1 17 1) begun 1 1 false (Resize 16 1) ≡ first_pieces
 unfolding begun breaking first_pieces piece kept pieces chunks_holding lowest chunk_start chunk
 smaller_break_gives_back = refl
+
+-- a piece lies in one unit of 1,024 blocks: 32 blocks behind the 1,000 first begin the next unit, which is the other
+-- device's
+unit_is_not_crossed : place_all 1056 (piece (owners.Data 1) 0 1000 ∷ []) (record { owner = owners.Data 2; length = 32 } ∷ []) ≡ Ok (piece (owners.Data 1) 0 1000 ∷ piece (owners.Data 2) 1024 32 ∷ [])
+unfolding piece place_all fit lowest_room Rattle.resource_map.specs.Room.lowest has_room all_pass is_held is_in
+unit_is_not_crossed = refl
 
 -- a child of vfork wants its u page alone
 lent_asks_for_a_u_page : place_all 4 (u_piece 1 0 ∷ []) (asked [] lender 1 (Lend 2)) ≡ Ok (u_piece 1 0 ∷ u_piece 2 2 ∷ [])
