@@ -44,10 +44,6 @@ after_joined u h e (f ∷ j) = let k : Joined (f ∷ j) (append_after f j u) u =
 two : (e u : Entry) → adds (is_hands e) u ≡ 1 → Joined (e ∷ []) (e ∷ u ∷ []) u
 two e u n = record { long = omega (arith, n); ends = refl; some = omega arith }
 
-ran_adds : (b : Bool) (q n : ℕ) → adds b (entries.Ran q n) ≡ 1
-ran_adds true q n = refl
-ran_adds false q n = refl
-
 ran_joins : (q n : ℕ) → JoinsLast (entries.Ran q n)
 ran_joins q n (entries.Ran p m) = by (p == q)
   where

@@ -214,9 +214,6 @@ no_write p locked n = let k = ap length (expire_transfers p locked) in let h = o
     of f None e = omega arith
     of f (Some q) e = to q (state_of x q) (times f x.free) (is_among q locked) e
 
-both_is : (a b : Bool) → a ≡ false → (a && b) ≡ false
-both_is a b e = ap (λ (x : Bool). x && b) e
-
 pub move_allowed : (p : Placement) (locked : List Page) → IsAllowed p (move_unit p locked)
 move_allowed p locked = go (begins_write p locked) (is_full p) refl
   where

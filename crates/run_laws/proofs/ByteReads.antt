@@ -1,18 +1,16 @@
 -- A byte of a valid page is read from the page's frame.
-use Rattle.std.proofs.Common.{◌≡◌, ℕ, ◌+◌, ◌*◌, ◌/◌, ◌%◌, ◌==◌, Bool, true, false, cond, List, [], ◌∷◌, find, get_or, take, drop, Option, Some, None, sym, ap, ◌∙◌, subst, arith}
+use Rattle.std.proofs.Common.{◌≡◌, ℕ, ◌+◌, ◌*◌, ◌/◌, ◌%◌, ◌==◌, Bool, true, false, cond, List, [], ◌∷◌, find, get_or, drop, Option, Some, sym, ap, ◌∙◌, subst, arith}
 use Rattle.std.specs.Prelude.{slice_index}
 use Rattle.std.proofs.lemmas.List.{get_or-take, get_or-drop}
 use Rattle.vm_facts.specs.declared.page.Page.{Page}
 use Rattle.vm_facts.specs.declared.page.Page.TheVariants as pages
-use Rattle.vm_facts.specs.declared.page.PageState.{PageState}
 use Rattle.vm_facts.specs.declared.page.PageState.TheVariants.{Valid}
-use Rattle.vm_facts.specs.declared.memory.ByteRead.{ByteRead}
 use Rattle.vm_facts.specs.declared.memory.ByteRead.TheVariants as reads
 use Rattle.aout_image.specs.Image.{page_at}
 use Rattle.flat_state.specs.declared.spot.Spot.{Spot}
 use Rattle.flat_state.specs.declared.spot.Spot.TheVariants as spots
 use Rattle.flat_state.specs.Space.{Space, byte_at}
-use Rattle.flat_state.specs.Flat.{Holding, Holds, Process, FlatState, NamedImage, Inputs, process_of, image_numbered, spaces_of}
+use Rattle.flat_state.specs.Flat.{Holds, Process, FlatState, Inputs, process_of, image_numbered, spaces_of}
 use Rattle.page_model.specs.Pages.{frame_of, numbered}
 use Rattle.page_model.specs.Placement.{state_of, is_dirty}
 use Rattle.page_model.specs.PageBytes.{IsInFrame}

@@ -1,11 +1,11 @@
 -- The next unit is one of these.
-use Rattle.std.proofs.Common.{◌≡◌, ◌⊎◌, inl, inr, ℕ, ◌+◌, ◌<◌, Bool, true, false, not, ◌&&◌, nat_lt, List, [], ◌∷◌, Option, Some, None, refl, sym, ap, ◌∙◌, subst, arith}
+use Rattle.std.proofs.Common.{◌≡◌, ℕ, ◌+◌, ◌<◌, Bool, true, false, not, ◌&&◌, nat_lt, List, [], ◌∷◌, Option, Some, None, refl, sym, ◌∙◌, subst, arith}
 use Rattle.std.proofs.lemmas.Bool.Decides.{nat_tests}
 use Rattle.vm_facts.specs.declared.page.Page.{Page}
 use Rattle.vm_facts.specs.declared.entry.Entry.{Entry}
 use Rattle.vm_facts.specs.declared.entry.Entry.TheVariants as entries
-use Rattle.flat_state.specs.Flat.{Inputs, process_of, can_step}
-use Rattle.page_model.specs.Placement.{Placement, Due, Start, CopyOf}
+use Rattle.flat_state.specs.Flat.{Inputs, process_of}
+use Rattle.page_model.specs.Placement.{Due, Start, CopyOf}
 use Rattle.page_model.specs.Place.{space_of_process}
 use Rattle.page_model.specs.Hands.{wants_moves}
 use Rattle.page_model.specs.Serve.{serve_unit}
@@ -14,7 +14,6 @@ use Rattle.run_model.specs.declared.mark.Mark.{Mark}
 use Rattle.run_model.specs.declared.mark.Mark.TheVariants as marks
 use Rattle.run_model.specs.State.{State}
 use Rattle.run_model.specs.Wanted.{wanted, locked}
-use Rattle.run_model.specs.Act.{act}
 use Rattle.run_model.specs.Next.{when, or_else, fill_unit, copy_unit_by, due_unit, goes_on, work_by, work, turn_by, turn_unit, turn_instructions, move_unit, owners_entry, under, next_mark, next_unit}
 use Rattle.run_model.specs.Kinds.{GoesOn, Runs, Comes, Kind, Fills, Brings, Copies, Serves, Acts, ComesIn, Interrupts, Moves, PutsOut, Notes, Begins}
 

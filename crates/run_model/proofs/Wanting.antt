@@ -1,12 +1,10 @@
 -- The pages that are wanted and locked are the touched ones, cut at the first that isn't valid.
-use Rattle.std.proofs.Common.{◌≡◌, ℕ, Bool, true, false, List, [], ◌∷◌, ◌++◌, Option, Some, None, refl, sym, ap, ◌∙◌, subst}
+use Rattle.std.proofs.Common.{◌≡◌, ℕ, Bool, true, false, List, [], ◌∷◌, ◌++◌, Some, None, refl, sym, ap, ◌∙◌, subst}
 use Rattle.std.proofs.lemmas.List.{append-nil}
-use Rattle.flat_state.specs.Flat.{FlatState, Process, Inputs, process_of, ready_if, can_step}
+use Rattle.flat_state.specs.Flat.{Inputs, can_step}
 use Rattle.vm_facts.specs.declared.page.Page.{Page}
 use Rattle.page_model.specs.Pages.{is_valid}
 use Rattle.page_model.specs.Placement.{Placement, state_of}
-use Rattle.flat_model.specs.Touched.{touched, touched_by, touched_if}
-use Rattle.flat_model.specs.Asked.{asks, asks_by}
 use Rattle.run_model.specs.State.{State}
 use Rattle.run_model.specs.Wanted.{running, touched_next, AllValid, absent_by, first_absent, present_by, before_absent, wanted_by, wanted, locked_by, locked, Splits}
 use Rattle.run_model.specs.Act.{act, act_if}

@@ -1,9 +1,9 @@
 -- What the next unit may be.
-use Rattle.std.specs.Prelude.{◌≡◌, ◌⊎◌, ℕ, ◌+◌, ◌<◌, Bool, true, false, ◌&&◌, List, [], ◌∷◌, Some, None}
+use Rattle.std.specs.Prelude.{◌≡◌, ℕ, ◌+◌, ◌<◌, Bool, true, false, List, [], ◌∷◌, Some, None}
 use Rattle.vm_facts.specs.declared.page.Page.{Page}
 use Rattle.vm_facts.specs.declared.entry.Entry.{Entry}
 use Rattle.vm_facts.specs.declared.entry.Entry.TheVariants as entries
-use Rattle.flat_state.specs.Flat.{Inputs, process_of, can_step}
+use Rattle.flat_state.specs.Flat.{Inputs, process_of}
 use Rattle.page_model.specs.Placement.{Due, Start, CopyOf}
 use Rattle.page_model.specs.Place.{space_of_process}
 use Rattle.page_model.specs.Hands.{wants_moves}

@@ -1,16 +1,12 @@
 -- The written policy: which unit comes next of all.
-use Rattle.std.specs.Prelude.{ℕ, zero, ◌+◌, ◌-◌, ◌==◌, Bool, true, false, not, ◌&&◌, nat_lt, List, [], ◌∷◌, find, length, Option, Some, None}
+use Rattle.std.specs.Prelude.{ℕ, ◌+◌, ◌-◌, Bool, true, false, not, ◌&&◌, nat_lt, List, [], ◌∷◌, find, length, Option, Some, None}
 use Rattle.flat_state.specs.Flat.{Process, FlatState, Inputs, process_of, can_step, is_ready}
 use Rattle.std.specs.Option.{is_some}
 use Rattle.vm_facts.specs.declared.page.Page.{Page}
-use Rattle.vm_facts.specs.declared.page.PageState.{PageState}
-use Rattle.vm_facts.specs.declared.page.PageState.TheVariants.{Invalid}
 use Rattle.vm_facts.specs.declared.entry.Entry.{Entry}
 use Rattle.vm_facts.specs.declared.entry.Entry.TheVariants as entries
 use Rattle.swap_book.specs.Holdings.{Holdings}
-use Rattle.flat_state.specs.PageNames.{is_among}
-use Rattle.page_model.specs.Frames.{times}
-use Rattle.page_model.specs.Placement.{Placement, Due, Start, CopyOf, state_of, is_dirty, page_of, parts_of}
+use Rattle.page_model.specs.Placement.{Placement, Due, Start, CopyOf, parts_of}
 use Rattle.page_model.specs.Place.{space_of_process}
 use Rattle.page_model.specs.Hands.{hand_run, wants_moves}
 use Rattle.page_model.specs.Serve.{force_entry, is_full, serve_unit}

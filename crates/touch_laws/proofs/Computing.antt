@@ -1,5 +1,5 @@
 -- What each instruction computes: where it reads, and what it leaves.
-use Rattle.std.proofs.Common.{◌≡◌, ℕ, ◌/◌, ◌%◌, ◌^◌, ◌≤◌, ◌==◌, Bool, true, false, cond, None, refl, ap, arith}
+use Rattle.std.proofs.Common.{◌≡◌, ℕ, ◌≤◌, ◌==◌, Bool, true, false, cond, None, refl, ap, arith}
 use Rattle.vm_facts.specs.Answers.{Answers}
 use Rattle.vm_facts.specs.declared.regs.Regs.{Regs}
 use Rattle.vax_alu.specs.declared.Sum.{Sum}
@@ -9,10 +9,10 @@ use Rattle.vax_code.specs.declared.table.Name.TheVariants as names
 use Rattle.vax_code.proofs.Filled.{is_chmk}
 use Rattle.user_vax.specs.declared.operand.Evaluated.{Evaluated}
 use Rattle.user_vax.specs.declared.operand.Place.{Place}
-use Rattle.user_vax.specs.Program.{Program, Gives, Refuses, ◌>>=◌}
-use Rattle.user_vax.specs.Operands.{register, with_register, past, back}
-use Rattle.user_vax.specs.Effects.{Effect, registers_only, result_effect, push_effect, count_effect, entry_effect, division, pop, pop_into, subroutine_return}
-use Rattle.user_vax.specs.Frames.{procedure_call, procedure_return, registers_returned, unwound, with_state_codes}
+use Rattle.user_vax.specs.Program.{Program, Gives, Refuses}
+use Rattle.user_vax.specs.Operands.{register, back}
+use Rattle.user_vax.specs.Effects.{Effect, registers_only, result_effect, push_effect, count_effect, entry_effect, division, pop_into, subroutine_return}
+use Rattle.user_vax.specs.Frames.{procedure_call, procedure_return, registers_returned}
 use Rattle.user_vax.specs.Computation.{computation}
 use Rattle.touch_laws.proofs.Cover.{Yields, yields_bind, yields_any, Covered, covered_more, covered_gives, covered_refuses}
 use Rattle.touch_laws.proofs.Stack.{sp, MayPush, may_push, may_push_again, IsLight, plain_light, store_light, push_light, return_covered, subroutine_covered, call_covered, call_light}

@@ -10,7 +10,7 @@ use Rattle.swap_book.specs.Holdings.{Holdings}
 use Rattle.page_model.specs.Pages.{frame_of, written_mark}
 use Rattle.flat_state.specs.PageNames.{is_among, same_page, number_of, beside, pages_from}
 use Rattle.page_model.specs.Frames.{times, without}
-use Rattle.page_model.specs.Placement.{Placement, Transfer, Part, Errand, Writes, Reads, Source, slots_of, state_of, mark_of, is_dirty, page_of, parts_of, moving_state, sharers, put}
+use Rattle.page_model.specs.Placement.{Placement, Transfer, Part, Errand, Writes, Reads, Source, slots_of, state_of, mark_of, is_dirty, page_of, parts_of, sharers, put}
 use Rattle.page_model.specs.Moves.{evict, turn, fill_at, begin, join_last, get_one, get_at, get_all, get_run, launch, launch_to, launch_all, launch_run, land, land_read, land_all, done, done_of, arrived_mark, reclaim, reclaim_to, retire, retire_to}
 use Rattle.page_model.specs.Runs.{run_out, pages_of_run}
 use Rattle.page_model.specs.Hands.{expire, expire_of, expire_if, expire_to, sweep, sweep_of, sweep_to, sweep_by, hand_move, hand_moves}
@@ -184,10 +184,6 @@ move_aside p locked o a = λ i n z. let k = sweep_aside (expire p locked) locked
 moves_aside : (n : ℕ) (p : Placement) (locked : List Page) → OwnsFrames p → TextAside p → TextAside (hand_moves p locked n)
 moves_aside zero p locked o a = a
 moves_aside (suc n) p locked o a = moves_aside n (hand_move p locked) locked (move_owner p locked o) (move_aside p locked o a)
-
-moving_busy : (p : Placement) (e : Errand) (f : ℕ) → IsBusy p (moving_state e f)
-moving_busy p Writes f = tt
-moving_busy p (Reads source demanded) f = tt
 
 pub land_aside : (p : Placement) (e : Errand) (x : Part) (rest : List Transfer) → OwnsFrames p → Landing p e x rest → TextAside p → TextAside (land p e x rest)
 land_aside p Writes x rest o l a = turn_aside p x.page x.frame (Invalid x.frame) (written_mark x.page) (p.free ++ x.frame ∷ []) rest o (tail_turns p Writes x rest (written_mark x.page) o l (written_clean x.page)) a (subst (IsBusy p) (sym (landing_state p Writes x rest o l)) tt)

@@ -7,9 +7,9 @@ use Rattle.vm_facts.specs.declared.page.PageState.TheVariants.{Unfilled, Valid, 
 use Rattle.page_model.specs.Pages.{Slot, Filling, Zeros, OfImage, frame_of, is_dirty_by}
 use Rattle.page_model.specs.Placement.{Placement, Errand, Writes, Reads, FromSwap, FromFile, Due, Start, CopyOf, filling_by, slot_of, state_of, mark_of, is_dirty, filling_of, page_of, errand_at, due_at, parts_of, IsThere}
 use Rattle.page_model.specs.Ownership.{OwnsFrames}
-use Rattle.page_model.specs.PageBytes.{Bytes, bytes_in, IsInFrame, KeepsUnfilled, IsUnsaved, KeepsComing, IfSaved, KeepsBy, Keeps, CouplesPages, SamePage}
+use Rattle.page_model.specs.PageBytes.{Bytes, bytes_in, IsInFrame, KeepsUnfilled, IsUnsaved, KeepsComing, IfSaved, KeepsBy, Keeps, CouplesPages}
 use Rattle.page_laws.proofs.Lists.Pages.{page_cases}
-use Rattle.page_laws.proofs.Lists.Local.{Local, other_state, some_is}
+use Rattle.page_laws.proofs.Lists.Local.{Local}
 
 -- what stands beside a placement stays the same but for one page and one frame
 pub record Beside (p q : Placement) (v : Page) (f : ℕ) (b c : Bytes) : Type 0 where
@@ -114,14 +114,4 @@ local_coupled p q v f b c o l s k here = record {
   ];
   text = λ image v. s.file (Text image v) ∙ k.text image v ∙ sym (s.text image v);
   text_due = λ image v. s.text_due image v (k.text_due image v);
-}
-
--- A step that changes one page and one frame leaves each other page the same.
-pub local_same : (p q : Placement) (v : Page) (f : ℕ) (b c : Bytes) → OwnsFrames p → Local p q v f → Beside p q v f b c → (w : Page) → w ≢ v → SamePage p q b c w
-local_same p q v f b c o l s w n = record {
-  frames = λ g h e k.
-      let same : g ≡ h = some_is g h (sym e ∙ ap frame_of (sym (other_state p q v f l w n)) ∙ k) in
-      ap (bytes_in c) (sym same) ∙ s.frames g (frame_apart p q v f o l w n g e);
-  swap = s.swap w n;
-  start = s.start w n;
 }

@@ -296,11 +296,6 @@ landing_errands p e x rest l g n = sym (ap (λ (ms : List Moving). errand_at ms 
 landing_errand : (p : Placement) (e : Errand) (x : Part) (rest : List Transfer) → Landing p e x rest → errand_at (parts_of p.transfers) x.frame ≡ Some e
 landing_errand p e x rest l = ap (λ (ms : List Moving). errand_at ms x.frame) l.parts ∙ errand_head (moving e x) (parts_of rest)
 
-written_stored : (v : Page) → is_dirty_by v (written_mark v) ≡ false
-written_stored (Data sid n) = refl
-written_stored (Stack sid n) = refl
-written_stored (Text image n) = refl
-
 -- A page that was written: its blocks have the bytes of its frame.
 pub land_write_coupled : (p : Placement) (x : Part) (rest : List Transfer) (b c : Bytes) → OwnsFrames p → Landing p Writes x rest → Stores b c x.page (bytes_in b x.frame) → CouplesPages p b → CouplesPages (land p Writes x rest) c
 land_write_coupled p x rest b c o l st k = turn_coupled p x.page x.frame (Invalid x.frame) (written_mark x.page) (p.free ++ x.frame ∷ []) rest b c o (tail_turns p Writes x rest (written_mark x.page) o l (written_clean x.page))

@@ -201,9 +201,6 @@ done_coupled p b c o tokens s k = go p.transfers refl s
 
 -- The read that serving begins.
 
-reading_swap : (p : Placement) (demanded q : Page) → state_of p q ≡ OnSwap → CanEnter p q → Reading p FromSwap demanded q
-reading_swap p demanded q e c = record { enters = c; from = e }
-
 on_swap_is : (s : PageState) → is_on_swap s ≡ true → s ≡ OnSwap
 on_swap_is OnSwap e = refl
 on_swap_is Unfilled e = absurd cc

@@ -140,10 +140,6 @@ get_run_fills D p source demanded qs o c a n =
     (each_page_imp (CanEnter p) (CanEnter (begin p (Reads source demanded))) qs c (λ q h. record { there = h.there; frameless = h.frameless })) a (begin_open p.transfers (Reads source demanded)) n in
     record { sizes = t.sizes; slots = t.slots; fills = t.fills }
 
-moves_fills : (D : Page → Type 0) (n : ℕ) (p : Placement) (locked : List Page) → KeepsFills D p (hand_moves p locked n)
-moves_fills D zero p locked = fills_self D p
-moves_fills D (suc n) p locked = fills_both D p (hand_move p locked) (hand_moves (hand_move p locked) locked n) (stays_fills D p (hand_move p locked) (move_stays p locked)) (moves_fills D n (hand_move p locked) locked)
-
 -- What is due stands, where nothing is due that wasn't.
 abbrev Waits : List Due → Page → Type 0
 Waits ds w = (d : Due) × (due_at ds w ≡ Some d)

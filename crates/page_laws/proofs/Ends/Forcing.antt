@@ -6,7 +6,7 @@ use Rattle.vm_facts.specs.declared.page.Page.TheVariants.{Data}
 use Rattle.vm_facts.specs.declared.page.PageState.{PageState}
 use Rattle.vm_facts.specs.declared.page.PageState.TheVariants.{Unfilled, Valid, Invalid, Coming, Going, OnSwap}
 use Rattle.page_model.specs.Pages.{frame_of}
-use Rattle.flat_state.specs.PageNames.{is_among, beside, pages_from}
+use Rattle.flat_state.specs.PageNames.{is_among, pages_from}
 use Rattle.page_model.specs.Frames.{times, next_frame, at_frame}
 use Rattle.page_model.specs.Placement.{Placement, Transfer, Part, Errand, Writes, state_of, mark_of, is_dirty, page_of, IsFrame, parts_of, flying}
 use Rattle.page_model.specs.Moves.{begin, join_last, launch, launch_to, launch_all, launch_run, retire_to}
@@ -198,10 +198,6 @@ begun_write p v t c = let k : IsSeated p v c.frame = c.seat in elim k.state [
     written : (f : ℕ) → HasWrite (join_last (p.transfers ++ record { errand = Writes; parts = [] } ∷ []) Writes (record { page = v; frame = f }))
     written f = subst (λ (ts : List Transfer). HasWrite (join_last (ts ++ record { errand = Writes; parts = [] } ∷ []) Writes (record { page = v; frame = f }))) (sym t) (refl, (λ e. absurd cc), refl)
 
-run_not_empty : (q : Page) (lo n : ℕ) (P : List Page → Type 0) → 0 < n → ((qs : List Page) → P (beside q lo ∷ qs)) → P (pages_from q lo n)
-run_not_empty q lo zero P l h = absurd (omega arith)
-run_not_empty q lo (suc n) P l h = h (pages_from q (lo + 1) n)
-
 run_first : (p : Placement) (qs : List Page) → p.transfers ≡ [] → EachPage (HasSeat p) qs → (qs ≡ [] → ⊥) → HasWrite (launch_run p qs).transfers
 run_first p [] t c n = absurd (n refl)
 run_first p (v ∷ qs) t c n = launched_write qs (launch (begin p Writes) v) (begun_write p v t c.0)
@@ -374,10 +370,3 @@ move_stands p locked h = record {
 
     back_high : q.back ≤ length q.holds
     back_high = let a = h.high in let b = s.back in let c = ap length s.holds in omega arith
-
-pub steady_stands : (p q : Placement) → Steady p q → HandsStand p → HandsStand q
-steady_stands p q s h = record {
-  low = subst (λ (f : ℕ). 0 < f) (sym s.back) h.low;
-  high = let a = h.high in let b = s.back in let c = ap length s.holds in omega arith;
-  ahead = s.front ∙ h.ahead ∙ ap (λ (l : List (Option Page)). walk (length l) (length l / 4) p.back) (sym s.holds) ∙ ap (walk (length q.holds) (length q.holds / 4)) (sym s.back);
-}

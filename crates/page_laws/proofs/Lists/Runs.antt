@@ -24,10 +24,6 @@ pub each_page_append : (P : Page → Type 0) (qs rs : List Page) → EachPage P 
 each_page_append P [] rs h g = g
 each_page_append P (q ∷ qs) rs h g = (h.0, each_page_append P qs rs h.1 g)
 
-pub all_apart_append : (qs rs : List Page) → AllApart qs → AllApart rs → EachPage (λ q. EachPage (λ r. r ≢ q) rs) qs → AllApart (qs ++ rs)
-all_apart_append [] rs h g k = g
-all_apart_append (q ∷ qs) rs h g k = (each_page_append (λ r. r ≢ q) qs rs h.0 k.0, all_apart_append qs rs h.1 g k.1)
-
 pub pages_from_each : (P : Page → Type 0) (q : Page) (lo n : ℕ) → ((w : ℕ) → lo ≤ w → w < lo + n → P (beside q w)) → EachPage P (pages_from q lo n)
 pages_from_each P q lo zero h = tt
 pages_from_each P q lo (suc n) h = (h lo (omega arith) (omega arith), pages_from_each P q (lo + 1) n (λ w l m. h w (omega arith) (omega arith)))

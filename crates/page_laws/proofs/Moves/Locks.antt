@@ -22,9 +22,6 @@ use Rattle.page_laws.proofs.Lists.Runs.{and_both, each_page_imp, each_page_both,
 use Rattle.page_laws.proofs.Ownership.Runs.{begin_owner, get_enters_still, get_open_still, Landing, landing_state, land_owner, land_transfers}
 use Rattle.page_laws.proofs.Ownership.Serve.{run_in_enters}
 
-pub spares_self : (p : Placement) (locked : List Page) → Spares p p locked
-spares_self p locked w i h = h
-
 pub spares_both : (p q r : Placement) (locked : List Page) → Spares p q locked → Spares q r locked → Spares p r locked
 spares_both p q r locked a b w i v = b w i (a w i v)
 

@@ -16,7 +16,7 @@ use Rattle.page_model.specs.Moves.{turn, begin, join_last, launch, launch_to, la
 use Rattle.page_model.specs.Runs.{run_put, run_put_by, run_up, run_alone, is_seated, is_seated_by, is_near, most_written}
 use Rattle.page_model.specs.Serve.{is_full}
 use Rattle.page_model.specs.Place.{put_by, put_step, moved, place_entry, data_from, stack_from, pages_of_space}
-use Rattle.page_model.specs.Conditions.{EachPage, HasSeat, CanPlace, CanBegin, HaveParts, EntryShared}
+use Rattle.page_model.specs.Conditions.{EachPage, HasSeat, CanPlace, CanBegin, HaveParts}
 use Rattle.page_model.specs.Ownership.{OwnsFrames}
 use Rattle.page_model.specs.Swapper.{residence_of, is_out, is_of_space, is_of_text, names_page, is_settled, first_seated, put_unit_by, put_out_by, put_out_if, put_out_unit}
 use Rattle.page_model.specs.Dues.{DueStand, LeavesDue}
@@ -459,9 +459,6 @@ unit_few locked at p pid sid l = unit_case (λ (u : Entry). length (place_entry 
     put_few v false f e h k = subst (λ (b : Bool). length (put_by p v (pages_from v (number_of v) (run_put p v).n) b).transfers ≤ 16) (sym e) (let c = ap length (retire_transfers p v) in omega arith)
     put_few v true false e h k = let c = entry_count locked at p (entries.Put v (run_put p v).n) in let m = not_full (length p.transfers) h in omega arith
     put_few v true true e h k = absurd (let z : true ≡ false = sym (ap₂ (λ (a b : Bool). a && b) e h) ∙ k in cc)
-
-pub unit_shared : (p : Placement) (pid sid : ℕ) → EntryShared p (put_out_unit p pid sid)
-unit_shared p pid sid = unit_case (EntryShared p) p pid sid (λ t ts h. tt) (λ v e h k. tt) (λ e h. tt)
 
 -- The whole.
 
