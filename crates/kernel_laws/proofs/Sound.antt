@@ -1,4 +1,5 @@
 pub mod Steps
 pub mod Changes
+pub mod Residing
 pub mod NumbersApart
 pub mod Allowed

@@ -1,6 +1,6 @@
 -- The whole machine as lists, and what each of its steps does to them.
 use Rattle.std.specs.Prelude.{ℕ, ◌==◌, Bool, cond, not, List, [], ◌∷◌, length, map, filter, set, Option, Some, None}
-use Rattle.flat_state.specs.Flat.{Holding, Holds, Lends, Zombie}
+use Rattle.flat_state.specs.Flat.{Holding, Holds, Lends, Zombie, cleared}
 use Rattle.vm_facts.specs.declared.page.Page.{Page}
 use Rattle.vm_facts.specs.declared.regs.Regs.{Regs}
 use Rattle.vm_facts.specs.declared.entry.Entry.{Entry}
@@ -138,11 +138,12 @@ write_step k q f at byte = record k { place = touch k.place q; frames = set_fram
 abbrev pub note_step : Kernel → Entry → Kernel
 note_step k e = record k { journal = append k.journal e }
 
-abbrev pub out_step : Kernel → ℕ → Kernel
-out_step k pid = plain_step k [] (entries.SwapOut pid)
-
 abbrev pub with_regs : ℕ → Regs → Proc → Proc
 with_regs pid regs p = cond (p.pid == pid) (record p { regs = regs }) p
+
+-- a process goes out: its u page has its registers, and its record none
+abbrev pub out_step : Kernel → ℕ → Kernel
+out_step k pid = record (plain_step k [] (entries.SwapOut pid)) { processes = map (with_regs pid cleared) k.processes }
 
 -- a process comes in with the registers that its u page holds
 abbrev pub in_step : Kernel → ℕ → Regs → Kernel

@@ -1,4 +1,4 @@
--- Numbers of spaces and of processes: no two are one, and those to come are larger than all.
+-- Numbers of spaces and of processes: no two are one, those to come are larger than all, and who lives is a resident.
 use Rattle.std.specs.Prelude.{◌≡◌, ℕ, Bool, true, false, map}
 use Rattle.flat_state.specs.declared.change.Change.{Change}
 use Rattle.flat_state.specs.declared.change.Change.TheVariants.{Resize, Fork, Lend, Exec, End}
@@ -6,6 +6,7 @@ use Rattle.flat_state.specs.Numbers.{AllDistinct, AllBelow}
 use Rattle.page_model.specs.Pages.{numbered}
 use Rattle.page_model.specs.Placement.{Placement, space_number}
 use Rattle.page_model.specs.Conditions.{LosesPages}
+use Rattle.page_model.specs.PuttingOut.{IsResident}
 use Rattle.page_model.specs.Swapper.{is_settled}
 use Rattle.kernel_model.specs.Kernel.{Life, Kernel, Proc}
 use Rattle.kernel_model.specs.Sound.{lives}
@@ -13,11 +14,16 @@ use Rattle.kernel_model.specs.ChangeStep.{space_of_life, life_of_proc, gave_back
 use Rattle.kernel_model.specs.Taken.{MayReap}
 use Rattle.kernel_model.specs.Asks.{HasSpace}
 
+-- each process that has not ended is in, or out
+abbrev pub EachResides : Kernel → Type 0
+EachResides k = (pid : ℕ) → lives k.processes pid ≡ true → IsResident k.place pid
+
 pub record Numbered (k : Kernel) : Type 0 where
   pub spaces_differ : AllDistinct (map space_number k.place.spaces)
   pub spaces_below : AllBelow k.next_sid (map space_number k.place.spaces)
   pub pids_differ : AllDistinct (map (λ (p : Proc). p.pid) k.processes)
   pub pids_below : AllBelow k.next_pid (map (λ (p : Proc). p.pid) k.processes)
+  pub residents : EachResides k
 
 -- a child has the next number
 abbrev pub TakesNext : Kernel → Change → Type 0

@@ -7,7 +7,8 @@
 //! - UPage: the registers of a process that is out, as its u page has them.
 //! - Coupled: `Coupled`, the machine, the files' images and a swap image stand for a flat state.
 //! - Sound: `Sound`, one owner of each frame and block, at most 16 transfers, and the hands in place.
-//! - Numbers: `Numbered`, no two numbers are one; and what is known of a process before its change.
+//! - Numbers: `Numbered`, no two numbers are one and who lives is a resident; and what is known of a process before its
+//!   change.
 //! - Stands: what the coupling asks beside it.
 //! - Taken, Asks: the pieces of swap that a change wants, and the machine once they are found.
 //! - Start: `start_kernel`, the machine at the start of a run.

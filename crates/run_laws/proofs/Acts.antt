@@ -29,8 +29,6 @@ use Rattle.run_laws.specs.Standing.{Placed, ExecFits}
 use Rattle.run_laws.proofs.Flows.{Ends, steps_own, on_steps}
 use Rattle.run_laws.proofs.Forms.{Suits, Formed, Form, Missed, Came, step_form}
 use Rattle.run_laws.proofs.Stepping.{Making, step_placed}
-use Rattle.run_laws.proofs.OwnChanges.{Changed}
-use Rattle.run_laws.proofs.Living.{BackTo}
 
 -- Who can step holds a space.
 
@@ -263,16 +261,13 @@ stepped_form A s u h x n = go (step_form A s.point.flat h.pid (is_refused s.poin
     go (Missed e) = absurd (c.some e)
     go (Came f) = f
 
-pub stepped_placed : (A : Inputs) (s : State) (u : Entry) → ImagesFit A.images → ExecsFit A → IsNumbered s.point.flat → LendsStand s.point.flat → (h : Stepped A s u) → Placed A s.point.flat s.place s.holdings → Changed A s.point.flat (after A s u).point.flat (after A s u).place (after A s u).holdings h.pid (step_at A s.point h.pid).change
-stepped_placed A s u images execs numbers lenders h st = record {
-  placed =
-      subst (λ (x : FlatState). Placed A x (after A s u).place (after A s u).holdings) (sym (stepped_flat A s u h))
-      (subst (λ (x : Placement). Placed A step.after x (after A s u).holdings) (sym r.place)
-      (subst (Placed A step.after (place_behind A s pid step u)) (sym (r.holdings ∙ held_is A s pid u x.process x.space found.0 h.ends own x.here x.holds (c.suits step.change form.suits) found.1))
-      (subst (λ (y : FlatState). Placed A y (place_behind A s pid step u) (given_up s.point.flat y pid x.space step.change found.0)) (sym form_after)
-      made.placed)));
-  back = subst (λ (x : FlatState). BackTo s.point.flat x pid step.change) (sym (stepped_flat A s u h ∙ form_after)) made.back;
-}
+pub stepped_placed : (A : Inputs) (s : State) (u : Entry) → ImagesFit A.images → ExecsFit A → IsNumbered s.point.flat → LendsStand s.point.flat → (h : Stepped A s u) → Placed A s.point.flat s.place s.holdings → Placed A (after A s u).point.flat (after A s u).place (after A s u).holdings
+stepped_placed A s u images execs numbers lenders h st =
+    subst (λ (x : FlatState). Placed A x (after A s u).place (after A s u).holdings) (sym (stepped_flat A s u h))
+    (subst (λ (x : Placement). Placed A step.after x (after A s u).holdings) (sym r.place)
+    (subst (Placed A step.after (place_behind A s pid step u)) (sym (r.holdings ∙ held_is A s pid u x.process x.space found.0 h.ends own x.here x.holds (c.suits step.change form.suits) found.1))
+    (subst (λ (y : FlatState). Placed A y (place_behind A s pid step u) (given_up s.point.flat y pid x.space step.change found.0)) (sym form_after)
+    made)))
   where
     pid : ℕ
     pid = h.pid
@@ -325,5 +320,5 @@ stepped_placed A s u images execs numbers lenders h st = record {
       settles = settled_when A s pid x.process x.space x.here x.holds h.unsettling;
     }
 
-    made : Changed A s.point.flat (apply_change A.images (apply_writes s.point.flat pid step.writes) pid step.regs step.change) (place_behind A s pid step u) (given_up s.point.flat (apply_change A.images (apply_writes s.point.flat pid step.writes) pid step.regs step.change) pid x.space step.change found.0) pid step.change
+    made : Placed A (apply_change A.images (apply_writes s.point.flat pid step.writes) pid step.regs step.change) (place_behind A s pid step u) (given_up s.point.flat (apply_change A.images (apply_writes s.point.flat pid step.writes) pid step.regs step.change) pid x.space step.change found.0)
     made = step_placed A s.point.flat s.place s.holdings found.0 pid step.regs s.journal u x.process x.space step.writes (pages_written s.point.flat pid step) step.change making st

@@ -1,5 +1,5 @@
 -- Execve and the end of a borrower leave what stands.
-use Rattle.std.proofs.Common.{◌≡◌, ◌⊎◌, ℕ, Bool, true, false, List, [], length, map, Option, Some, Ok, refl, sym, ap, ◌∙◌, subst}
+use Rattle.std.proofs.Common.{◌≡◌, ℕ, true, false, List, [], length, map, Option, Some, Ok, refl, sym, ap, ◌∙◌, subst}
 use Rattle.flat_state.specs.Space.{Space}
 use Rattle.flat_state.specs.Flat.{Holds, Process, FlatState, NamedImage, Inputs, image_numbered, process_of}
 use Rattle.vm_facts.specs.declared.regs.Regs.{Regs}
@@ -26,9 +26,9 @@ use Rattle.kernel_model.specs.Start.{ImageFits, ImagesFit}
 use Rattle.flat_state.specs.Numbers.{IsNumbered}
 use Rattle.flat_state.specs.Lenders.{LendsStand, IsLender}
 use Rattle.kernel_model.specs.Stands.{Stands}
-use Rattle.kernel_laws.proofs.Sound.Steps.{pass_sound, pass_lives}
+use Rattle.kernel_laws.proofs.Sound.Steps.{pass_sound}
 use Rattle.kernel_laws.proofs.Sound.NumbersApart.{flat_numbered, pass_numbered}
-use Rattle.kernel_laws.proofs.Sound.Allowed.{ready_sound, wants_these}
+use Rattle.kernel_laws.proofs.Sound.Allowed.{ready_sound}
 use Rattle.kernel_laws.proofs.Sound.Changes.{Unhanded, change_unhanded}
 use Rattle.page_laws.proofs.Ends.Hands.{SameHands}
 use Rattle.page_laws.proofs.Due.Changes.{change_due}
@@ -44,8 +44,7 @@ use Rattle.kernel_laws.proofs.Kept.Changes.{GivesBack, takes_none, back_ready}
 use Rattle.run_laws.specs.Standing.{machine_of, EachOnce, Placed, ExecFits}
 use Rattle.run_laws.proofs.Bridge.{from_machine}
 use Rattle.run_laws.proofs.Changes.{given_same, change_once}
-use Rattle.run_laws.proofs.OwnChanges.{Changing, Changed, with_found}
-use Rattle.run_laws.proofs.Living.{LivedOr, flat_back, back_from}
+use Rattle.run_laws.proofs.OwnChanges.{Changing, with_found}
 
 pub record Told (A : Inputs) (l : Kernel) (after : FlatState) : Type 0 where
   pub tables : SameTables l after
@@ -86,15 +85,12 @@ asks_same images k l pid _ gb p n = absurd gb
 
 pub back_change : (A : Inputs) (flat : FlatState) (p : Placement) (hs found : Holdings) (pid : ℕ) (regs : Regs) (j : List Entry) (e : Entry) (q : Process) (s : Space) (change : Change) → Changing A flat p hs found pid q s change → LendsStand flat → is_borrower flat.processes pid ≡ true → GivesBack change
     → Placed A flat p hs
-    → Changed A flat (apply_change A.images flat pid regs change) (place_change A.images p pid s.sid true flat.next_sid (length (append j e)) change) (given_up flat (apply_change A.images flat pid regs change) pid s change found) pid change
-back_change A flat p hs found pid regs j e q s change c lend w gb st = record {
-  placed =
-      subst (Placed A after (place_change A.images p pid s.sid true flat.next_sid at change)) (sym back)
-      (subst (λ (x : Placement). Placed A after x (holdings_after found p l.place pid s.sid true change)) lands.place
-      (subst (Placed A after l.place) lands.holdings
-      (from_machine A after l sound numbered_now told.tables told.stands dues once parts frames)));
-  back = back_from k l flat after pid change refl told.tables (λ n x. subst (λ (y : Bool). Rattle.kernel_laws.proofs.Pieces.Wanted.IsChild change n ⊎ ((y ≡ true) × Rattle.run_laws.proofs.Living.Lasting change pid n)) (pass_lives k pid m.pid own_lives lender_lives n) (flat_back A.images k1 pid regs e change n (wants_these k1 pid change n1 ready) x));
-}
+    → Placed A (apply_change A.images flat pid regs change) (place_change A.images p pid s.sid true flat.next_sid (length (append j e)) change) (given_up flat (apply_change A.images flat pid regs change) pid s change found)
+back_change A flat p hs found pid regs j e q s change c lend w gb st =
+    subst (Placed A after (place_change A.images p pid s.sid true flat.next_sid at change)) (sym back)
+    (subst (λ (x : Placement). Placed A after x (holdings_after found p l.place pid s.sid true change)) lands.place
+    (subst (Placed A after l.place) lands.holdings
+    (from_machine A after l sound numbered_now told.tables told.stands dues once parts frames)))
   where
     at : ℕ
     at = length (append j e)
@@ -115,7 +111,7 @@ back_change A flat p hs found pid regs j e q s change c lend w gb st = record {
     nb = st.numbered
 
     n : Numbered k
-    n = record { spaces_differ = nb.spaces_differ; spaces_below = nb.spaces_below; pids_differ = nb.pids_differ; pids_below = nb.pids_below }
+    n = record { spaces_differ = nb.spaces_differ; spaces_below = nb.spaces_below; pids_differ = nb.pids_differ; pids_below = nb.pids_below; residents = nb.residents }
 
     tb : SameTables (machine_of flat p hs) flat
     tb = st.tables
@@ -154,7 +150,7 @@ back_change A flat p hs found pid regs j e q s change c lend w gb st = record {
     sound1 = pass_sound A.swap_blocks (record k { holdings = hs }) pid m.pid own_lives lender_lives before
 
     n1 : Numbered k1
-    n1 = pass_numbered k pid m.pid n
+    n1 = pass_numbered k pid m.pid own_lives lender_lives n
 
     ready : ReadyFor k1 pid change
     ready = back_ready k flat pid q m s change a gb
@@ -169,7 +165,7 @@ back_change A flat p hs found pid regs j e q s change c lend w gb st = record {
     sound = ready_sound A.swap_blocks A.images k1 hs pid regs e change sound1 n1 ready pieces
 
     numbered_now : Numbered l
-    numbered_now = flat_numbered A.images k1 pid regs e change (takes_none k1 change gb) n1
+    numbered_now = flat_numbered A.images k1 pid regs e change (takes_none k1 change gb) ready.alive n1
 
     told : Told A l after
     told = back_told A k flat pid regs e q m s change gb c.images c.numbers c.found_process c.holds lender.1 c.resident c.clear c.execs t stands

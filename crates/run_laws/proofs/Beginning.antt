@@ -28,6 +28,7 @@ use Rattle.kernel_model.specs.Stands.{Stands}
 use Rattle.kernel_laws.proofs.Flat.Numbered.{not_eq}
 use Rattle.kernel_laws.proofs.Sound.Steps.{alive_owner}
 use Rattle.kernel_laws.proofs.Pieces.Starts.{start_found}
+use Rattle.kernel_laws.proofs.Sound.Residing.{started_in}
 use Rattle.kernel_laws.proofs.Sound.Allowed.{start_numbers}
 use Rattle.page_laws.proofs.Due.Entries.{start_due}
 use Rattle.kernel_laws.proofs.Machine.Starts.{start_coupled_all}
@@ -205,4 +206,5 @@ run_start A hs images there some found = record {
       spaces_below = subst (λ (m : ℕ). AllBelow m (map Rattle.page_model.specs.Placement.space_number p.spaces)) (let e = started_count A.images A.first there in let z : 1 + length first ≡ length A.first + 1 = omega arith in z) (start_numbers facts first A.frames).1;
       pids_differ = subst AllDistinct (sym (kept_pids (start_state A).processes)) n.pids;
       pids_below = subst (AllBelow (start_state A).next_pid) (sym (kept_pids (start_state A).processes)) n.pids_below;
+      residents = λ m a. started_in 1 m first (sym (started_lives A.images A.first 1 m there) ∙ a);
     }

@@ -278,7 +278,7 @@ step_reaches A s k image u images execs numbers lenders at h valid = record {
     ready : Found A flat1 k2 image s.holdings
     ready = record {
       sound = subst (λ (hs : Holdings). Sound A.swap_blocks (record k1 { holdings = hs })) held1 mid1.sound;
-      numbered = let n1 : Numbered k1 = mid1.numbered in record { spaces_differ = n1.spaces_differ; spaces_below = n1.spaces_below; pids_differ = n1.pids_differ; pids_below = n1.pids_below };
+      numbered = let n1 : Numbered k1 = mid1.numbered in record { spaces_differ = n1.spaces_differ; spaces_below = n1.spaces_below; pids_differ = n1.pids_differ; pids_below = n1.pids_below; residents = n1.residents };
       coupled = takes_coupled A.swap_blocks k1 A.images image flat1 (change_wanted A.images flat1 z step.change) found.0 st1.texts (ap (λ (hs : Holdings). place_all A.swap_blocks hs (change_wanted A.images flat1 z step.change)) held1 ∙ pieces1) c1;
       stands = record { starts = st1.starts; texts = st1.texts; out = st1.out };
     }

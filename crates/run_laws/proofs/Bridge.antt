@@ -56,6 +56,7 @@ from_machine A flat k so n t st d o h f =
         spaces_below = subst (λ (m : ℕ). AllBelow m (map Rattle.page_model.specs.Placement.space_number k.place.spaces)) t.next_sid n.spaces_below;
         pids_differ = subst AllDistinct (sym p) n.pids_differ;
         pids_below = subst (λ (m : ℕ). AllBelow m (map (λ (x : Proc). x.pid) (map kept_of flat.processes))) t.next_pid (subst (AllBelow k.next_pid) (sym p) n.pids_below);
+        residents = λ m a. n.residents m (sym (lives_same (map kept_of flat.processes) k.processes e m) ∙ a);
       };
       tables = tables_of (machine_of flat k.place k.holdings) flat (kept_outlines flat.processes) refl refl t.spaces;
       stands = record { starts = λ q e. refl; texts = st.texts; out = st.out };

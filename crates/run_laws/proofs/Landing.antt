@@ -134,7 +134,7 @@ own_landed A k flat image before pid regs e q s b change c w o settles x = recor
     l = keeps_step A.images k pid regs e change
 
     kept : own.Kept A l
-    kept = own_kept A k flat pid regs e q s change c.numbers c.found_process c.holds t c.may (ready_sound A.swap_blocks A.images k before pid regs e change so x.numbered ready pieces) (flat_numbered A.images k pid regs e change (takes_next k flat change t c.may) x.numbered)
+    kept = own_kept A k flat pid regs e q s change c.numbers c.found_process c.holds t c.may (ready_sound A.swap_blocks A.images k before pid regs e change so x.numbered ready pieces) (flat_numbered A.images k pid regs e change (takes_next k flat change t c.may) ready.alive x.numbered)
 
     told : own.Told A l after
     told = own_told A k flat pid regs e q s b change c.images c.numbers c.found_process c.holds w o c.resident c.clear c.may c.execs t st
@@ -194,7 +194,7 @@ pub back_landed : (A : Inputs) (k : Kernel) (flat : FlatState) (image : List ℕ
     → Landed A (apply_change A.images flat pid regs change) k (back_step A.images k pid regs e change) image pid s.sid true e change (given_up flat (apply_change A.images flat pid regs change) pid s change k.holdings)
 back_landed A k flat image before pid regs e q s change c lend w gb x =
     subst (λ (y : Kernel). Landed A after k y image pid s.sid true e change (given_up flat after pid s change k.holdings)) (sym (back_is A k pid m.pid regs e change gb (lender_is k flat pid s.sid m t c.numbers lender.1))) (record {
-      mid = record { sound = sound; numbered = flat_numbered A.images k1 pid regs e change (takes_none k1 change gb) n1; coupled = back_coupled A k flat image before pid regs e q m s change c lender.1 gb x; stands = told.stands };
+      mid = record { sound = sound; numbered = flat_numbered A.images k1 pid regs e change (takes_none k1 change gb) ready.alive n1; coupled = back_coupled A k flat image before pid regs e q m s change c lender.1 gb x; stands = told.stands };
       place = lands.place;
       holdings = lands.holdings ∙ sym (given_same flat after pid s change k.holdings k.place l.place true w (fit_image s (numbered space_number s.sid k.place.spaces) fits) (λ z. absurd cc));
       journal = lands.journal;
@@ -231,7 +231,7 @@ back_landed A k flat image before pid regs e q s change c lend w gb x =
     sound1 = pass_sound A.swap_blocks (record k { holdings = before }) pid m.pid (ap lives_in g.kept ∙ ap has_life g.life) (ap lives_in a.kept ∙ ap has_life a.life) x.sound
 
     n1 : Numbered k1
-    n1 = pass_numbered k pid m.pid x.numbered
+    n1 = pass_numbered k pid m.pid (ap lives_in g.kept ∙ ap has_life g.life) (ap lives_in a.kept ∙ ap has_life a.life) x.numbered
 
     ready : ReadyFor k1 pid change
     ready = back_ready k flat pid q m s change a gb

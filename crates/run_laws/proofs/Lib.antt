@@ -37,7 +37,6 @@ pub mod SwapImages
 pub mod Fitting
 pub mod Sizing
 pub mod Filing
-pub mod Living
 pub mod Residents
 pub mod Going
 pub mod LockedRoom

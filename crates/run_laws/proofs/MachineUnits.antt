@@ -85,6 +85,7 @@ numbered_of A flat k st t =
       spaces_below = subst (λ (m : ℕ). AllBelow m (map space_number k.place.spaces)) (sym t.next_sid) n.spaces_below;
       pids_differ = subst AllDistinct p n.pids_differ;
       pids_below = subst (AllBelow k.next_pid) p (subst (λ (m : ℕ). AllBelow m (map (λ (x : Proc). x.pid) (map kept_of flat.processes))) (sym t.next_pid) n.pids_below);
+      residents = λ m a. n.residents m (sym (lives_same k.processes (map kept_of flat.processes) (t.processes ∙ sym (kept_outlines flat.processes)) m) ∙ a);
     }
 
 -- a machine with the placement and the holdings of a state
@@ -361,7 +362,7 @@ off_behind A s k image pid r at given out h = subst (λ (o : Option Proc). Behin
   place = ap (λ (j : List Entry). place_entry [] (length (append j (entries.SwapOut pid))) k.place (entries.SwapOut pid)) at.journal ∙ ap (λ (p : Placement). place_entry [] (place_at s (entries.SwapOut pid)) p (entries.SwapOut pid)) at.place ∙ sym (plain_place A s (entries.SwapOut pid) refl);
   holdings = at.holdings ∙ sym (plain_holdings A s (entries.SwapOut pid) refl);
   journal = ap (λ (j : List Entry). append j (entries.SwapOut pid)) at.journal ∙ sym (journal_is A s (entries.SwapOut pid));
-  coupled = subst (λ (x : Point). Coupled l A.images behind x.flat) (sym (plain_point A s (entries.SwapOut pid) refl)) (out_coupled A.swap_blocks k A.images image s.point.flat pid x.proc kp.sound kp.room x.kept x.life are here kp.coupled);
+  coupled = subst (λ (x : Point). Coupled l A.images behind x.flat) (sym (plain_point A s (entries.SwapOut pid) refl)) (out_coupled A.swap_blocks k A.images image s.point.flat pid x.proc kp.sound kp.room x.kept x.life are (n.residents pid (ap lives_in x.kept ∙ x.life)) here kp.coupled);
   stands = subst (λ (x : Point). Stands A.images l x.flat) (sym (plain_point A s (entries.SwapOut pid) refl)) (out_stands A.images k s.point.flat pid x.process x.space x.here x.holds kp.stands);
   frames = frames_at A s k image r.placed at;
   room = subst (λ (n : ℕ). 512 * A.swap_blocks ≤ n) (sym (out_length A.swap_blocks k image pid x.proc (length (slots_of k.place (Data (space_of_life x.proc.life) 0))) (length (slots_of k.place (Stack (space_of_life x.proc.life) 0))) kp.sound kp.room are (ap lives_in x.kept ∙ x.life))) kp.room;
@@ -370,6 +371,9 @@ off_behind A s k image pid r at given out h = subst (λ (o : Option Proc). Behin
   where
     kp : Keeps A s.point.flat k image
     kp = at.keeps
+
+    n : Numbered k
+    n = kp.numbered
 
     c : Coupled k A.images image s.point.flat
     c = kp.coupled

@@ -21,14 +21,14 @@ use Rattle.kernel_model.specs.Kernel.{Kernel, Life, HoldsSpace}
 use Rattle.kernel_model.specs.Coupled.{Fits, SameTables}
 use Rattle.kernel_model.specs.Sound.{Sound, lives}
 use Rattle.kernel_model.specs.ChangeStep.{change_step, holdings_after, space_of_life, gave_back, life_of_proc}
-use Rattle.kernel_model.specs.Asks.{asked, WantsThese}
+use Rattle.kernel_model.specs.Asks.{asked}
 use Rattle.kernel_model.specs.Numbers.{Numbered, SettlesFor, ReadyFor}
 use Rattle.kernel_model.specs.Start.{ImageFits, ImagesFit}
 use Rattle.flat_state.specs.Numbers.{IsNumbered}
 use Rattle.kernel_model.specs.Stands.{Stands}
-use Rattle.kernel_laws.proofs.Sound.Steps.{pass_sound, pass_lives}
+use Rattle.kernel_laws.proofs.Sound.Steps.{pass_sound}
 use Rattle.kernel_laws.proofs.Sound.NumbersApart.{flat_numbered, pass_numbered}
-use Rattle.kernel_laws.proofs.Sound.Allowed.{ready_sound, may_change, wants_these}
+use Rattle.kernel_laws.proofs.Sound.Allowed.{ready_sound, may_change}
 use Rattle.kernel_laws.proofs.Machine.Ready.{coupled_ready}
 use Rattle.kernel_laws.proofs.Sound.Changes.{Unhanded, change_unhanded}
 use Rattle.page_laws.proofs.Ends.Hands.{SameHands}
@@ -44,7 +44,6 @@ use Rattle.run_laws.specs.Standing.{machine_of, EachOnce, Placed, ExecFits, Own}
 use Rattle.kernel_model.specs.Unit.{keeps_step as next_of}
 use Rattle.run_laws.proofs.Bridge.{from_machine}
 use Rattle.run_laws.proofs.Changes.{given_same, change_once}
-use Rattle.run_laws.proofs.Living.{LivedOr, BackTo, flat_back, back_from}
 
 -- Who keeps a space does with it what the owner does.
 
@@ -112,7 +111,7 @@ own_kept A k flat pid regs e q s (Resize d r) nums f h t m so n = record { sound
 own_kept A k flat pid regs e q s (Fork child) nums f h t m so n = record { sound = so; numbered = n }
 own_kept A k flat pid regs e q s (Lend child) nums f h t m so n =
     let l = subst (λ (c : ℕ). (lives (change_step A.images k pid regs e (Lend c)).processes pid ≡ true) × (lives (change_step A.images k pid regs e (Lend c)).processes c ≡ true)) (sym m) (lend_lives A.images k flat pid regs e q s nums f h t) in
-    record { sound = pass_sound A.swap_blocks (change_step A.images k pid regs e (Lend child)) pid child l.0 l.1 so; numbered = pass_numbered (change_step A.images k pid regs e (Lend child)) pid child n }
+    record { sound = pass_sound A.swap_blocks (change_step A.images k pid regs e (Lend child)) pid child l.0 l.1 so; numbered = pass_numbered (change_step A.images k pid regs e (Lend child)) pid child l.0 l.1 n }
 own_kept A k flat pid regs e q s (Exec image top) nums f h t m so n = record { sound = so; numbered = n }
 own_kept A k flat pid regs e q s (Reap child) nums f h t m so n = record { sound = so; numbered = n }
 own_kept A k flat pid regs e q s Sleep nums f h t m so n = record { sound = so; numbered = n }
@@ -141,25 +140,6 @@ own_lands A k flat pid regs e q s change f h t =
     (subst (Lands A k pid s.sid e change) (sym (step_is A.images k pid regs e change g.proc (HoldsSpace s.sid) g.kept g.life))
     (subst (λ (n : ℕ). Lands A k n s.sid e change (by_life A.images k (record g.proc { regs = regs }) (HoldsSpace s.sid) e change)) g.pid_is (record { place = refl; holdings = refl; journal = refl })))
 
--- who lives behind it
-pub own_lived : (A : Inputs) (k : Kernel) (flat : FlatState) (pid : ℕ) (regs : Regs) (e : Entry) (q : Process) (s : Space) (change : Change) (n : ℕ) → IsNumbered flat → process_of flat pid ≡ Some q → q.holding ≡ Holds s → SameTables k flat → NamesChild flat change → WantsThese k pid change
-    → lives (next_of A.images k pid regs e change).processes n ≡ true → LivedOr k.processes change pid n
-own_lived A k flat pid regs e q s Keep n nums f h t m w l = flat_back A.images k pid regs e Keep n w l
-own_lived A k flat pid regs e q s (Resize d r) n nums f h t m w l = flat_back A.images k pid regs e (Resize d r) n w l
-own_lived A k flat pid regs e q s (Fork child) n nums f h t m w l = flat_back A.images k pid regs e (Fork child) n w l
-own_lived A k flat pid regs e q s (Lend child) n nums f h t m w l =
-    let x = subst (λ (c : ℕ). (lives (change_step A.images k pid regs e (Lend c)).processes pid ≡ true) × (lives (change_step A.images k pid regs e (Lend c)).processes c ≡ true)) (sym m) (lend_lives A.images k flat pid regs e q s nums f h t) in
-    flat_back A.images k pid regs e (Lend child) n w (sym (pass_lives (change_step A.images k pid regs e (Lend child)) pid child x.0 x.1 n) ∙ l)
-own_lived A k flat pid regs e q s (Exec image top) n nums f h t m w l = flat_back A.images k pid regs e (Exec image top) n w l
-own_lived A k flat pid regs e q s (Reap child) n nums f h t m w l = flat_back A.images k pid regs e (Reap child) n w l
-own_lived A k flat pid regs e q s Sleep n nums f h t m w l = flat_back A.images k pid regs e Sleep n w l
-own_lived A k flat pid regs e q s (End status) n nums f h t m w l = flat_back A.images k pid regs e (End status) n w l
-
--- what stands, and who lives
-pub record Changed (A : Inputs) (flat after : FlatState) (p : Placement) (hs : Holdings) (pid : ℕ) (change : Change) : Type 0 where
-  pub placed : Placed A after p hs
-  pub back : BackTo flat after pid change
-
 -- All of it.
 
 -- what is known of a change and of the process that makes it
@@ -183,15 +163,12 @@ fit_some s (Some x) f e = absurd cc
 
 pub own_change : (A : Inputs) (flat : FlatState) (p : Placement) (hs found : Holdings) (pid : ℕ) (regs : Regs) (j : List Entry) (e : Entry) (q : Process) (s : Space) (b : Bool) (change : Change) → Changing A flat p hs found pid q s change → is_borrower flat.processes pid ≡ b → Own b change
     → SettlesFor p s.sid change → Placed A flat p hs
-    → Changed A flat (apply_change A.images flat pid regs change) (place_change A.images p pid s.sid b flat.next_sid (length (append j e)) change) (given_up flat (apply_change A.images flat pid regs change) pid s change found) pid change
-own_change A flat p hs found pid regs j e q s b change c w o settles st = record {
-  placed =
-      subst (Placed A after (place_change A.images p pid s.sid b flat.next_sid at change)) (sym back)
-      (subst (λ (x : Placement). Placed A after x (holdings_after found p l.place pid s.sid false change)) (lands.place ∙ keeps_place A.images p pid s.sid b flat.next_sid at change o)
-      (subst (Placed A after l.place) lands.holdings
-      (from_machine A after l kept.sound kept.numbered told.tables told.stands dues once parts frames)));
-  back = back_from k l flat after pid change refl told.tables (λ m x. own_lived A k flat pid regs e q s change m c.numbers c.found_process c.holds t c.may (wants_these k pid change n ready) x);
-}
+    → Placed A (apply_change A.images flat pid regs change) (place_change A.images p pid s.sid b flat.next_sid (length (append j e)) change) (given_up flat (apply_change A.images flat pid regs change) pid s change found)
+own_change A flat p hs found pid regs j e q s b change c w o settles st =
+    subst (Placed A after (place_change A.images p pid s.sid b flat.next_sid at change)) (sym back)
+    (subst (λ (x : Placement). Placed A after x (holdings_after found p l.place pid s.sid false change)) (lands.place ∙ keeps_place A.images p pid s.sid b flat.next_sid at change o)
+    (subst (Placed A after l.place) lands.holdings
+    (from_machine A after l kept.sound kept.numbered told.tables told.stands dues once parts frames)))
   where
     at : ℕ
     at = length (append j e)
@@ -212,7 +189,7 @@ own_change A flat p hs found pid regs j e q s b change c w o settles st = record
     nb = st.numbered
 
     n : Numbered k
-    n = record { spaces_differ = nb.spaces_differ; spaces_below = nb.spaces_below; pids_differ = nb.pids_differ; pids_below = nb.pids_below }
+    n = record { spaces_differ = nb.spaces_differ; spaces_below = nb.spaces_below; pids_differ = nb.pids_differ; pids_below = nb.pids_below; residents = nb.residents }
 
     tb : SameTables (machine_of flat p hs) flat
     tb = st.tables
@@ -236,7 +213,7 @@ own_change A flat p hs found pid regs j e q s b change c w o settles st = record
     l = next_of A.images k pid regs e change
 
     kept : Kept A l
-    kept = own_kept A k flat pid regs e q s change c.numbers c.found_process c.holds t c.may (ready_sound A.swap_blocks A.images k hs pid regs e change before n ready pieces) (flat_numbered A.images k pid regs e change (takes_next k flat change t c.may) n)
+    kept = own_kept A k flat pid regs e q s change c.numbers c.found_process c.holds t c.may (ready_sound A.swap_blocks A.images k hs pid regs e change before n ready pieces) (flat_numbered A.images k pid regs e change (takes_next k flat change t c.may) ready.alive n)
 
     told : Told A l after
     told = own_told A k flat pid regs e q s b change c.images c.numbers c.found_process c.holds w o c.resident c.clear c.may c.execs t stands

@@ -29,6 +29,7 @@ use Rattle.page_laws.proofs.Bytes.Others.{put_steady}
 use Rattle.page_laws.proofs.Blocks.Steps.{place_entry_one}
 use Rattle.page_laws.proofs.Moves.Parts.{entry_parts}
 use Rattle.page_laws.proofs.Due.Entries.{entry_due, get_due_list}
+use Rattle.kernel_laws.proofs.Sound.Residing.{entry_resides}
 use Rattle.kernel_laws.proofs.Sound.NumbersApart.{entry_numbers}
 use Rattle.kernel_laws.proofs.Flat.Lists.{sid_of}
 use Rattle.kernel_laws.proofs.Stands.Steps.{reclaim_due}
@@ -183,6 +184,7 @@ entry_placed A flat locked at p hs e a l leaves s =
         spaces_below = subst (AllBelow flat.next_sid) (sym (entry_numbers locked at p e)) n.spaces_below;
         pids_differ = n.pids_differ;
         pids_below = n.pids_below;
+        residents = λ m a. entry_resides locked at p e m (n.residents m a);
       };
       tables = record {
         processes = t.processes;

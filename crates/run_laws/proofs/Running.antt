@@ -212,7 +212,7 @@ core_on A s u images execs r k = go k
     step pid now x (Refuses e) = noted_core (subst (λ (y : Entry). after A s y ≡ noted s y) (sym e) (refused_after A s pid))
     step pid now x (Steps f g e) = elim (steps_shape A s.point pid u e) [
       | inl ends ↦ (let h : Stepped A s u = record { pid = pid; now = now; runs = x; ends = ends; unrefused = f; unsettling = g; next = e } in
-          record { placed = (stepped_placed A s u images execs r.numbers r.lenders h r.placed).placed; flat = step_kept A s u images execs h flat })
+          record { placed = stepped_placed A s u images execs r.numbers r.lenders h r.placed; flat = step_kept A s u images execs h flat })
       | inr out ↦ noted_core (subst (λ (y : Entry). after A s y ≡ noted s y) (sym out.1) (out_after A s pid pid out.0 (out_of A s.point pid pid out.0 (e ∙ ap (λ (y : Entry). Some y) out.1))))
     ]
 

@@ -21,7 +21,7 @@ use Rattle.page_model.specs.Conditions.{LosesPages}
 use Rattle.kernel_model.specs.Coupled.{Outline, Fits, SameTables, outline_of}
 use Rattle.kernel_model.specs.Kernel.{Life, LendsSpace, life_of}
 use Rattle.kernel_model.specs.Numbers.{SettlesFor}
-use Rattle.kernel_model.specs.Start.{ImagesFit, kept_of}
+use Rattle.kernel_model.specs.Start.{ImagesFit}
 use Rattle.flat_state.specs.Numbers.{IsNumbered}
 use Rattle.flat_state.specs.Lenders.{LendsStand}
 use Rattle.kernel_model.specs.Stands.{Stands}
@@ -41,9 +41,7 @@ use Rattle.run_model.specs.Act.{loses_pages}
 use Rattle.run_laws.specs.Standing.{machine_of, Placed, ExecFits, Own}
 use Rattle.run_laws.proofs.Changes.{borrower_same}
 use Rattle.run_laws.proofs.Writing.{SameSpace, puts_same, space_tables, touch_all_placed, writes_placed}
-use Rattle.run_laws.proofs.OwnChanges.{Changing, Changed, own_change}
-use Rattle.run_laws.proofs.Living.{LivedOr, BackTo}
-use Rattle.run_laws.proofs.Bridge.{kept_outlines, lives_same}
+use Rattle.run_laws.proofs.OwnChanges.{Changing, own_change}
 use Rattle.kernel_laws.proofs.Kept.Changes.{GivesBack}
 use Rattle.run_laws.proofs.BackChanges.{back_change}
 
@@ -190,20 +188,14 @@ pub record Making (A : Inputs) (flat : FlatState) (p : Placement) (hs found : Ho
   pub settles : loses_pages s (is_borrower flat.processes pid) change ≡ true → is_settled p s.sid ≡ true
 
 pub step_placed : (A : Inputs) (flat : FlatState) (p : Placement) (hs found : Holdings) (pid : ℕ) (regs : Rattle.vm_facts.specs.declared.regs.Regs.Regs) (j : List Entry) (e : Entry) (q : Process) (s : Space) (ws : List ByteWrite) (written : List Page) (change : Change) → Making A flat p hs found pid q s ws change → Placed A flat p hs
-    → Changed A flat (apply_change A.images (apply_writes flat pid ws) pid regs change) (place_step A.images flat pid (length (append j e)) written change p) (given_up flat (apply_change A.images (apply_writes flat pid ws) pid regs change) pid s change found) pid change
-step_placed A flat p hs found pid regs j e q s ws written change m st = record {
-  placed =
-      subst (λ (n : ℕ). Placed A after (place_change A.images p1 pid n (is_borrower flat.processes pid) flat.next_sid at change) (given_up flat after pid s change found)) (sym (ap space_of_process m.found_process ∙ ap space_of_holding m.holds))
-      (subst (Placed A after (place_change A.images p1 pid s.sid (is_borrower flat.processes pid) flat.next_sid at change)) (given_written flat flat1 after pid s z change found same.sid same.image borrows)
-      (subst (λ (n : ℕ). Placed A after (place_change A.images p1 pid s.sid (is_borrower flat.processes pid) n at change) (given_up flat1 after pid z change found)) next
-      (subst (λ (n : ℕ). Placed A after (place_change A.images p1 pid n (is_borrower flat.processes pid) flat1.next_sid at change) (given_up flat1 after pid z change found)) same.sid
-      (subst (λ (b : Bool). Placed A after (place_change A.images p1 pid z.sid b flat1.next_sid at change) (given_up flat1 after pid z change found)) borrows
-      made.placed))));
-  back = let b : BackTo flat1 after pid change = made.back in record {
-    each = λ n x. subst (λ (y : Bool). Rattle.kernel_laws.proofs.Pieces.Wanted.IsChild change n ⊎ ((y ≡ true) × Rattle.run_laws.proofs.Living.Lasting change pid n))
-        (lives_same (map kept_of flat1.processes) (map kept_of flat.processes) (kept_outlines flat1.processes ∙ sym t01.processes ∙ t0.processes ∙ sym (kept_outlines flat.processes)) n) (b.each n x);
-  };
-}
+    → Placed A (apply_change A.images (apply_writes flat pid ws) pid regs change) (place_step A.images flat pid (length (append j e)) written change p) (given_up flat (apply_change A.images (apply_writes flat pid ws) pid regs change) pid s change found)
+step_placed A flat p hs found pid regs j e q s ws written change m st =
+    subst (λ (n : ℕ). Placed A after (place_change A.images p1 pid n (is_borrower flat.processes pid) flat.next_sid at change) (given_up flat after pid s change found)) (sym (ap space_of_process m.found_process ∙ ap space_of_holding m.holds))
+    (subst (Placed A after (place_change A.images p1 pid s.sid (is_borrower flat.processes pid) flat.next_sid at change)) (given_written flat flat1 after pid s z change found same.sid same.image borrows)
+    (subst (λ (n : ℕ). Placed A after (place_change A.images p1 pid s.sid (is_borrower flat.processes pid) n at change) (given_up flat1 after pid z change found)) next
+    (subst (λ (n : ℕ). Placed A after (place_change A.images p1 pid n (is_borrower flat.processes pid) flat1.next_sid at change) (given_up flat1 after pid z change found)) same.sid
+    (subst (λ (b : Bool). Placed A after (place_change A.images p1 pid z.sid b flat1.next_sid at change) (given_up flat1 after pid z change found)) borrows
+    made))))
   where
     at : ℕ
     at = length (append j e)
@@ -288,10 +280,10 @@ step_placed A flat p hs found pid regs j e q s ws written change m st = record {
     settled : loses_pages z (is_borrower flat1.processes pid) change ≡ true → is_settled p1 z.sid ≡ true
     settled l = ap (is_settled p1) same.sid ∙ touched_settled written p s.sid ∙ m.settles (sym (ap (λ (b : Bool). loses_pages s b change) borrows) ∙ sym (loses change (is_borrower flat1.processes pid)) ∙ l)
 
-    go : Own (is_borrower flat1.processes pid) change ⊎ ((is_borrower flat1.processes pid ≡ true) × GivesBack change) → Changed A flat1 after (place_change A.images p1 pid z.sid (is_borrower flat1.processes pid) flat1.next_sid at change) (given_up flat1 after pid z change found) pid change
+    go : Own (is_borrower flat1.processes pid) change ⊎ ((is_borrower flat1.processes pid ≡ true) × GivesBack change) → Placed A after (place_change A.images p1 pid z.sid (is_borrower flat1.processes pid) flat1.next_sid at change) (given_up flat1 after pid z change found)
     go (inl o) = own_change A flat1 p1 hs found pid regs j e q1 z (is_borrower flat1.processes pid) change c refl o (settles_for p1 z (is_borrower flat1.processes pid) change o fits1 settled) st1
-    go (inr (b, g)) = subst (λ (x : Bool). Changed A flat1 after (place_change A.images p1 pid z.sid x flat1.next_sid at change) (given_up flat1 after pid z change found) pid change) (sym b)
+    go (inr (b, g)) = subst (λ (x : Bool). Placed A after (place_change A.images p1 pid z.sid x flat1.next_sid at change) (given_up flat1 after pid z change found)) (sym b)
         (back_change A flat1 p1 hs found pid regs j e q1 z change c (writes_lent flat pid ws q s m.found_process m.holds m.lenders) b g st1)
 
-    made : Changed A flat1 after (place_change A.images p1 pid z.sid (is_borrower flat1.processes pid) flat1.next_sid at change) (given_up flat1 after pid z change found) pid change
+    made : Placed A after (place_change A.images p1 pid z.sid (is_borrower flat1.processes pid) flat1.next_sid at change) (given_up flat1 after pid z change found)
     made = go (own_or (is_borrower flat1.processes pid) change)

@@ -5,4 +5,3 @@ pub mod Machine
 pub mod Images
 pub mod Sized
 pub mod Files
-pub mod Residing

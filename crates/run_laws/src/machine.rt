@@ -1,4 +1,4 @@
-ghost use Rattle.std.specs.Prelude.{◌≡◌, ℕ, ◌+◌, ◌*◌, ◌^◌, ◌<◌, ◌≤◌, Bool, List, [], length, Some, slice_index};
+ghost use Rattle.std.specs.Prelude.{◌≡◌, ℕ, ◌+◌, ◌*◌, ◌^◌, ◌<◌, ◌≤◌, Bool, true, List, [], length, map, Some, slice_index};
 ghost use Rattle.vm_facts.specs.declared.page.Page.{Page};
 ghost use Rattle.vm_facts.specs.declared.entry.Entry.{Entry};
 ghost use Rattle.vm_facts.specs.declared.entry.Entry.TheVariants as entries;
@@ -16,17 +16,17 @@ ghost use Rattle.flat_model.specs.Run.{Point, flat_run, step_at};
 ghost use Rattle.register_laws.specs.Longwords.{AllFit, AllImages};
 ghost use Rattle.run_laws.specs.Files.{AreInputs, MayBegin};
 ghost use Rattle.page_model.specs.Place.{space_of_process};
-ghost use Rattle.page_model.specs.PuttingOut.{put_rank, EndsPuttingOut};
+ghost use Rattle.page_model.specs.PuttingOut.{IsResident, put_rank, EndsPuttingOut};
 ghost use Rattle.run_model.specs.declared.mark.Mark.TheVariants as marks;
 ghost use Rattle.run_model.specs.Next.{next_unit};
-ghost use Rattle.run_laws.specs.Residing.{AllResident};
 ghost use Rattle.run_laws.specs.Sized.{FlatSized, InputsSized, PlaceSized};
 ghost use Rattle.run_model.specs.Lawful.{Reaches, Follows};
 ghost use Rattle.kernel_model.specs.Kernel.{frame_bytes, Kernel, Proc, plain_step, zero_step, copy_step, get_step, reclaim_step, push_step, done_step, note_step, out_step, in_step, image_after};
 ghost use Rattle.kernel_model.specs.UPage.{AreRegs, regs_in};
 ghost use Rattle.kernel_model.specs.Coupled.{AreRead, beside_kernel, Coupled};
 ghost use Rattle.page_model.specs.Stored.{stored_at, store_at};
-ghost use Rattle.kernel_model.specs.Start.{ImagesFit, start_kernel};
+ghost use Rattle.kernel_model.specs.Sound.{lives};
+ghost use Rattle.kernel_model.specs.Start.{ImagesFit, kept_of, start_kernel};
 ghost use Rattle.run_model.specs.State.{State, starting, start};
 ghost use Rattle.run_model.specs.Wanted.{locked};
 ghost use Rattle.run_model.specs.After.{after};
@@ -131,17 +131,15 @@ pub fn inputs_fit()
     ensures sizes { (A : Inputs) → AreInputs A → InputsSized A }
 {}
 
-/// Each process that lives is resident, or out: at the start, behind each next unit, and at each state that a run
-/// reaches. So what is left of putting a process out falls with each unit of it, and it ends.
+/// Each process that lives is resident, or out, at each state at which a run stands. So what is left of putting a process
+/// out falls with each unit of it, and it ends.
 pub fn residents_stand()
-    ensures start { (A : Inputs) (hs : Holdings) → CanRun A hs → AllResident (start A hs) }
-    ensures unit { (A : Inputs) (s : State) (u : Entry) → ImagesFit A.images → IsRun A s → AllResident s → next_unit A s ≡ Some u
-        → AllResident (after A s u) }
-    ensures reached { (A : Inputs) (hs : Holdings) (journal : List Entry) (s : State) → CanRun A hs → Reaches A journal s → AllResident s }
-    ensures falls { (A : Inputs) (s : State) (u : Entry) (pid : ℕ) → IsRun A s → AllResident s → s.mark ≡ marks.PutOut pid
+    ensures each { (A : Inputs) (s : State) (pid : ℕ) → IsRun A s → lives (map kept_of s.point.flat.processes) pid ≡ true
+        → IsResident s.place pid }
+    ensures falls { (A : Inputs) (s : State) (u : Entry) (pid : ℕ) → IsRun A s → s.mark ≡ marks.PutOut pid
         → next_unit A s ≡ Some u
         → put_rank (after A s u).place pid (space_of_process (process_of s.point.flat pid)) < put_rank s.place pid (space_of_process (process_of s.point.flat pid)) }
-    ensures whole { (A : Inputs) (s : State) (pid at : ℕ) → IsRun A s → AllResident s → s.mark ≡ marks.PutOut pid
+    ensures whole { (A : Inputs) (s : State) (pid at : ℕ) → IsRun A s → s.mark ≡ marks.PutOut pid
         → EndsPuttingOut at s.place pid (space_of_process (process_of s.point.flat pid)) }
 {}
 

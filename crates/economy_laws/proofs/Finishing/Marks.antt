@@ -129,7 +129,7 @@ put_ends (suc n) A P pid sid s g p mk i lt = finish_on A P s g p (go (λ t. put_
     go more u h b p2 =
         let is : u ≡ put_out_unit s.place pid (space_of_process (process_of s.point.flat pid)) = same u (put_out_unit s.place pid (space_of_process (process_of s.point.flat pid))) (sym h ∙ put_unit A s pid d mk) in
         let point = plain_point A s u (ap process_of_entry is ∙ put_flat s.place pid (space_of_process (process_of s.point.flat pid))) in
-        let falls = put_falls A s u pid r (g.resident s p) mk h in
+        let falls = put_falls A s u pid r mk h in
         elim (out_mark A s u pid mk b) [
           | inl m ↦ more (after A s u) p2 m (ap (λ (x : Point). space_of_process (process_of x.flat pid)) point ∙ i)
               (let a : put_rank (after A s u).place pid sid < put_rank s.place pid sid = subst (λ (x : ℕ). put_rank (after A s u).place pid x < put_rank s.place pid x) i falls in omega arith)

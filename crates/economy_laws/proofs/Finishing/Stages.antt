@@ -14,7 +14,6 @@ use Rattle.run_model.specs.After.{completed, moved_on, brought_in, put_out, audi
 use Rattle.run_model.specs.Next.{next_mark, next_unit}
 use Rattle.run_laws.specs.Standing.{Placed, machine_of}
 use Rattle.run_laws.specs.Running.{IsRun}
-use Rattle.run_laws.specs.Residing.{AllResident}
 use Rattle.run_laws.proofs.Settling.{IsMark, begins_is}
 use Rattle.economy_laws.specs.Stretch.{begins_stretch}
 use Rattle.economy_laws.specs.Finishes.{Finishes}
@@ -36,7 +35,6 @@ pub record Stage (A : Inputs) (P : State → Type 0) : Type 0 where
   pub images : ImagesFit A.images
   pub frames : 64 ≤ A.frames
   pub run : (s : State) → P s → IsRun A s
-  pub resident : (s : State) → P s → AllResident s
   pub keeps : (s : State) (u : Entry) → P s → next_unit A s ≡ Some u → is_boundary u ≡ false → P (after A s u)
   pub ends : (s : State) (u : Entry) → P s → next_unit A s ≡ Some u → is_boundary u ≡ true → Finishes A (after A s u)
 

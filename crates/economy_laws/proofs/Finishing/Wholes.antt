@@ -22,11 +22,9 @@ use Rattle.run_model.proofs.Followed.{followed_once}
 use Rattle.run_model.proofs.After.{after_count}
 use Rattle.run_model.proofs.NextUnits.{kind_of}
 use Rattle.run_laws.specs.Running.{IsRun, CanRun, IsReady}
-use Rattle.run_laws.specs.Residing.{AllResident}
 use Rattle.run_laws.proofs.Flows.{Acted, Settles, Refuses, Steps, acted, steps_own}
 use Rattle.run_laws.proofs.Lawful.{next_is_unit}
 use Rattle.run_laws.proofs.Plain.{IsPaging, serve_paging, zero_paging, copy_paging, move_paging}
-use Rattle.run_laws.proofs.Residents.{start_resides, unit_resides, reached_resides}
 use Rattle.run_laws.proofs.Settling.{IsMark}
 use Rattle.run_laws.proofs.Wholes.{start_run, unit_run, unit_ready, reached_run, reached_lawful}
 use Rattle.economy_laws.specs.Stretch.{turns, turns_of, counts, NoneCounts, ready_count}
@@ -150,7 +148,6 @@ turns_less A s u k l h n = (
 -- the states of a stage: so many instructions, lines and turns are left at most
 record Within (A : Inputs) (n l k : ℕ) (s : State) : Type 0 where
   run : IsRun A s
-  resident : AllResident s
   limit : A.limit ≤ s.count + n
   lines : length A.lines ≤ s.lines + l
   turns : length A.lines ≤ s.lines → TurnsLeft A s k
@@ -158,7 +155,6 @@ record Within (A : Inputs) (n l k : ℕ) (s : State) : Type 0 where
 within_on : (A : Inputs) (n l k : ℕ) (s : State) (u : Entry) → ImagesFit A.images → Within A n l k s → next_unit A s ≡ Some u → is_boundary u ≡ false → Within A n l k (after A s u)
 within_on A n l k s u images w h b = record {
   run = unit_run A s u images w.run h;
-  resident = unit_resides A s u images w.run w.resident h;
   limit = omega (arith, after_count A s u, w.limit);
   lines = omega (arith, quiet_lines A s u b, w.lines);
   turns = λ z us t f m. let a = w.turns (omega (arith, quiet_lines A s u b)) (u ∷ us) t (h, f) ((quiet_counts u b).0, m) in omega arith;
@@ -166,17 +162,16 @@ within_on A n l k s u images w h b = record {
 
 -- behind a counted instruction, and behind a line
 abbrev Fewer : Inputs → ℕ → Type 0
-Fewer A n = (t : State) → IsRun A t → AllResident t → t.count ≤ A.limit → A.limit < t.count + n → Finishes A t
+Fewer A n = (t : State) → IsRun A t → t.count ≤ A.limit → A.limit < t.count + n → Finishes A t
 
 abbrev Later : Inputs → ℕ → ℕ → Type 0
-Later A n l = (t : State) → IsRun A t → AllResident t → A.limit ≤ t.count + n → t.lines ≤ length A.lines → length A.lines < t.lines + l → Finishes A t
+Later A n l = (t : State) → IsRun A t → A.limit ≤ t.count + n → t.lines ≤ length A.lines → length A.lines < t.lines + l → Finishes A t
 
 between_turns : (k : ℕ) (A : Inputs) (n l : ℕ) (s : State) → ImagesFit A.images → 64 ≤ A.frames → Fewer A n → Later A n l → ((t : State) → 0 < k → Within A n l (k - 1) t → Finishes A t) → Within A n l k s → Finishes A s
 between_turns k A n l s images frames fewer later more w = stage_ends A (Within A n l k) s (record {
   images = images;
   frames = frames;
   run = λ t x. x.run;
-  resident = λ t x. x.resident;
   keeps = λ t u x h b. within_on A n l k t u images x h b;
   ends = λ t u x h b. by t u x h (bounds A t u b);
 }) w
@@ -187,9 +182,9 @@ between_turns k A n l s images frames fewer later more w = stage_ends A (Within 
         let a = after_count A t u in
         let b = counts_one u (next_is_unit A t u h) c in
         let d = r.below in
-        fewer (after A t u) (unit_run A t u images x.run h) (unit_resides A t u images x.run x.resident h) (omega arith) (omega (arith, x.limit))
+        fewer (after A t u) (unit_run A t u images x.run h) (omega arith) (omega (arith, x.limit))
     by t u x h (Line m e z) = elim (mark_lines A t u (mark_next A t u h m)) [
-      | inl y ↦ later (after A t u) (unit_run A t u images x.run h) (unit_resides A t u images x.run x.resident h) (omega (arith, after_count A t u, x.limit)) (let a = y.0 in omega arith) (omega (arith, x.lines))
+      | inl y ↦ later (after A t u) (unit_run A t u images x.run h) (omega (arith, after_count A t u, x.limit)) (let a = y.0 in omega arith) (omega (arith, x.lines))
       | inr y ↦ absurd (let a = y.1 in omega arith)
     ]
     by t u x h (Turning m e z c) = elim (mark_lines A t u (mark_next A t u h m)) [
@@ -198,7 +193,6 @@ between_turns k A n l s images frames fewer later more w = stage_ends A (Within 
           let on = turns_less A t u k (x.turns y.0) h c in
           more (after A t u) (let a = on.0 in omega arith) (record {
             run = unit_run A t u images x.run h;
-            resident = unit_resides A t u images x.run x.resident h;
             limit = omega (arith, after_count A t u, x.limit);
             lines = omega (arith, x.lines);
             turns = λ past. subst (λ (j : ℕ). TurnsLeft A (after A t u) (k - j)) z on.1;
@@ -211,30 +205,29 @@ turns_end (suc k) A n l s images frames fewer later w = between_turns (suc k) A 
     (λ t some x. turns_end k A n l t images frames fewer later (subst (λ (j : ℕ). Within A n l j t) (let e : suc k - 1 ≡ k = omega arith in e) x)) w
 
 -- so many turns are left as processes can step
-line_within : (A : Inputs) (n l : ℕ) (s : State) → ImagesFit A.images → IsRun A s → AllResident s → A.limit ≤ s.count + n → length A.lines ≤ s.lines + l → Within A n l (ready_count s.point.flat.processes) s
-line_within A n l s images r all c m = record {
+line_within : (A : Inputs) (n l : ℕ) (s : State) → ImagesFit A.images → IsRun A s → A.limit ≤ s.count + n → length A.lines ≤ s.lines + l → Within A n l (ready_count s.point.flat.processes) s
+line_within A n l s images r c m = record {
   run = r;
-  resident = all;
   limit = c;
   lines = m;
   turns = λ past us t f z. few_turns A s t us images r past f z;
 }
 
-lines_end : (l : ℕ) (A : Inputs) (n : ℕ) (s : State) → ImagesFit A.images → 64 ≤ A.frames → Fewer A n → IsRun A s → AllResident s → A.limit ≤ s.count + n → length A.lines ≤ s.lines + l → Finishes A s
-lines_end zero A n s images frames fewer r all c m = turns_end (ready_count s.point.flat.processes) A n zero s images frames fewer (λ t rt at ct low high. absurd (omega arith)) (line_within A n zero s images r all c m)
-lines_end (suc l) A n s images frames fewer r all c m = turns_end (ready_count s.point.flat.processes) A n (suc l) s images frames fewer
-    (λ t rt at ct low high. lines_end l A n t images frames fewer rt at ct (omega arith)) (line_within A n (suc l) s images r all c m)
+lines_end : (l : ℕ) (A : Inputs) (n : ℕ) (s : State) → ImagesFit A.images → 64 ≤ A.frames → Fewer A n → IsRun A s → A.limit ≤ s.count + n → length A.lines ≤ s.lines + l → Finishes A s
+lines_end zero A n s images frames fewer r c m = turns_end (ready_count s.point.flat.processes) A n zero s images frames fewer (λ t rt ct low high. absurd (omega arith)) (line_within A n zero s images r c m)
+lines_end (suc l) A n s images frames fewer r c m = turns_end (ready_count s.point.flat.processes) A n (suc l) s images frames fewer
+    (λ t rt ct low high. lines_end l A n t images frames fewer rt ct (omega arith)) (line_within A n (suc l) s images r c m)
 
-counts_end : (n : ℕ) (A : Inputs) (s : State) → ImagesFit A.images → 64 ≤ A.frames → IsRun A s → AllResident s → A.limit ≤ s.count + n → Finishes A s
-counts_end zero A s images frames r all c = lines_end (length A.lines) A zero s images frames (λ t rt at low high. absurd (omega arith)) r all c (omega arith)
-counts_end (suc n) A s images frames r all c = lines_end (length A.lines) A (suc n) s images frames (λ t rt at low high. counts_end n A t images frames rt at (omega arith)) r all c (omega arith)
+counts_end : (n : ℕ) (A : Inputs) (s : State) → ImagesFit A.images → 64 ≤ A.frames → IsRun A s → A.limit ≤ s.count + n → Finishes A s
+counts_end zero A s images frames r c = lines_end (length A.lines) A zero s images frames (λ t rt low high. absurd (omega arith)) r c (omega arith)
+counts_end (suc n) A s images frames r c = lines_end (length A.lines) A (suc n) s images frames (λ t rt low high. counts_end n A t images frames rt (omega arith)) r c (omega arith)
 
 -- Next units lead from each state of a run to one that has none.
-pub run_ends : (A : Inputs) (s : State) → ImagesFit A.images → 64 ≤ A.frames → IsRun A s → AllResident s → Finishes A s
-run_ends A s images frames r all = counts_end A.limit A s images frames r all (omega arith)
+pub run_ends : (A : Inputs) (s : State) → ImagesFit A.images → 64 ≤ A.frames → IsRun A s → Finishes A s
+run_ends A s images frames r = counts_end A.limit A s images frames r (omega arith)
 
 start_ends : (A : Inputs) (hs : Holdings) → CanRun A hs → 64 ≤ A.frames → Finishes A (start A hs)
-start_ends A hs c frames = run_ends A (start A hs) c.images frames (start_run A hs c) (start_resides A hs c)
+start_ends A hs c frames = run_ends A (start A hs) c.images frames (start_run A hs c)
 
 pub run_finishes : (A : Inputs) (hs : Holdings) → CanRun A hs → 64 ≤ A.frames → (journal : List Entry) × ((s : State) × IsFinished A journal s)
 run_finishes A hs c frames =
@@ -244,7 +237,7 @@ run_finishes A hs c frames =
 
 -- So does each run that has begun.
 pub reached_finishes : (A : Inputs) (hs : Holdings) (journal : List Entry) (s : State) → CanRun A hs → 64 ≤ A.frames → Reaches A journal s → Finishes A s
-reached_finishes A hs journal s c frames r = run_ends A s c.images frames (reached_run A hs journal s c r) (reached_resides A hs journal s c r)
+reached_finishes A hs journal s c frames r = run_ends A s c.images frames (reached_run A hs journal s c r)
 
 -- No list of next units is longer than that which leads to the end.
 

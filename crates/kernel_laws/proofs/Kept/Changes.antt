@@ -247,7 +247,7 @@ own_passed size images k flat pid regs e q s (Lend child) nums f h t m x =
     let at : LandsAt images k pid s.sid false e (Lend child) (change_step images k pid regs e (Lend child)) = x.lands in
     record {
       sound = pass_sound size (change_step images k pid regs e (Lend child)) pid child l.0 l.1 x.sound;
-      numbered = pass_numbered (change_step images k pid regs e (Lend child)) pid child x.numbered;
+      numbered = pass_numbered (change_step images k pid regs e (Lend child)) pid child l.0 l.1 x.numbered;
       lands = record { place = at.place };
     }
 own_passed size images k flat pid regs e q s (Exec image top) nums f h t m x = x
@@ -309,7 +309,7 @@ own_stood size images k before image flat pid regs e q s b change w o x n a read
     passed : Passed size images k pid s.sid false e change (keeps_step images k pid regs e change)
     passed = own_passed size images k flat pid regs e q s change x.numbers a.here a.holds t n.child (record {
       sound = ready_sound size images k before pid regs e change so x.numbered is_ready n.pieces;
-      numbered = flat_numbered images k pid regs e change (takes_next k flat change t n.child) x.numbered;
+      numbered = flat_numbered images k pid regs e change (takes_next k flat change t n.child) is_ready.alive x.numbered;
       lands = own_lands images k flat pid regs e q s change g;
     })
 
@@ -402,7 +402,7 @@ back_stood : (size : ℕ) (images : List NamedImage) (k : Kernel) (before : Hold
 back_stood size images k before image flat pid regs e q m s change gb is x n a parts =
     subst (Stood size images image (apply_change images flat pid regs change)) (sym (back_is images k pid m.pid regs e change gb (lender_is k flat pid s.sid m t x.numbers is))) (record {
       sound = ready_sound size images k1 before pid regs e change sound1 n1 ready pieces;
-      numbered = flat_numbered images k1 pid regs e change (takes_none k1 change gb) n1;
+      numbered = flat_numbered images k1 pid regs e change (takes_none k1 change gb) ready.alive n1;
       coupled = back_coupled size images k before image flat pid regs e q m s change gb is x n a;
       stands = back_stands images k flat pid regs e q m s change gb a is x.clear n.enters t x.stands;
       rests = rests images k (change_step images k1 pid regs e change) pid s.sid true e change (back_lands images k flat pid regs e q m s change b gb) x.clear parts (can change gb can0) (apart change gb);
@@ -427,7 +427,7 @@ back_stood size images k before image flat pid regs e q m s change gb is x n a p
     sound1 = pass_sound size (record k { holdings = before }) pid m.pid (ap lives_in g.kept ∙ ap has_life g.life) (ap lives_in b.kept ∙ ap has_life b.life) x.sound
 
     n1 : Numbered k1
-    n1 = pass_numbered k pid m.pid x.numbered
+    n1 = pass_numbered k pid m.pid (ap lives_in g.kept ∙ ap has_life g.life) (ap lives_in b.kept ∙ ap has_life b.life) x.numbered
 
     ready : ReadyFor k1 pid change
     ready = back_ready k flat pid q m s change b gb
@@ -531,7 +531,7 @@ change_kept size images m pid regs e change fits i may = record {
     x = record {
       fits = fits;
       sound = record { owner = so.owner; tokens = so.tokens; hands = so.hands; few_transfers = so.few_transfers };
-      numbered = record { spaces_differ = nb.spaces_differ; spaces_below = nb.spaces_below; pids_differ = nb.pids_differ; pids_below = nb.pids_below };
+      numbered = record { spaces_differ = nb.spaces_differ; spaces_below = nb.spaces_below; pids_differ = nb.pids_differ; pids_below = nb.pids_below; residents = nb.residents };
       coupled = takes_coupled size m.kernel images m.image m.flat found.pieces m.found st.texts found.placed i.coupled;
       stands = record { starts = st.starts; texts = st.texts; out = st.out };
       numbers = i.numbers;

@@ -12,6 +12,7 @@ use Rattle.flat_state.specs.Journal.{append}
 use Rattle.page_model.specs.Pages.{Zeros, frame_of}
 use Rattle.page_model.specs.Placement.{Placement, Due, Start, CopyOf, slots_of, due_at, filling_of}
 use Rattle.page_model.specs.Place.{place_entry, space_of_holding}
+use Rattle.page_model.specs.PuttingOut.{IsResident}
 use Rattle.page_model.specs.Stored.{stored_at, store_at}
 use Rattle.page_model.specs.Conditions.{CanEnter, CanPlace, CanBegin, HaveParts, IsShared}
 use Rattle.page_model.specs.Dues.{DueStand, IsDue, LeavesDue}
@@ -21,14 +22,15 @@ use Rattle.kernel_model.specs.Kernel.{Kernel, Proc, zero_step, out_step}
 use Rattle.kernel_model.specs.ChangeStep.{space_of_life}
 use Rattle.kernel_model.specs.UPage.{AreRegs, regs_in}
 use Rattle.kernel_model.specs.Coupled.{Coupled, KeepsRegs}
-use Rattle.kernel_model.specs.Sound.{Sound, lives, has_life}
+use Rattle.kernel_model.specs.Sound.{Sound, lives, lives_in, has_life}
+use Rattle.kernel_model.specs.Numbers.{Numbered}
 use Rattle.kernel_model.specs.Stands.{Stands}
 use Rattle.kernel_model.specs.Unit.{KernelState, ZeroUnit, CopyUnit, GetUnit, ReclaimUnit, HandsUnit, PutUnit, DoneUnit, NoteUnit, FindUnit, OutUnit, InUnit, state_after, u_bytes}
 use Rattle.kernel_model.specs.Invariant.{WereFound, Invariant, Acts, IsNoCopy, IsCopied, MayZero, MayCopy, MayGet, MayPut, MayLeave, MayReturn, May}
 use Rattle.page_laws.proofs.Due.Entries.{entry_due}
 use Rattle.page_laws.proofs.Moves.Parts.{entry_parts}
-use Rattle.kernel_laws.proofs.Sound.Steps.{entry_sound, plain_sound, zero_sound, copy_sound, done_sound, note_sound, in_sound}
-use Rattle.kernel_laws.proofs.Sound.NumbersApart.{plain_numbered, zero_numbered, copy_numbered, done_numbered, note_numbered, in_numbered}
+use Rattle.kernel_laws.proofs.Sound.Steps.{entry_sound, plain_sound, zero_sound, copy_sound, done_sound, note_sound, out_sound, in_sound}
+use Rattle.kernel_laws.proofs.Sound.NumbersApart.{plain_numbered, zero_numbered, copy_numbered, done_numbered, note_numbered, out_numbered, in_numbered}
 use Rattle.kernel_laws.proofs.Machine.Done.{done_coupled_step, image_length}
 use Rattle.kernel_laws.proofs.Machine.Moves.{note_coupled, get_coupled_step, reclaim_coupled_step, hand_coupled_step, push_coupled_step, zero_coupled, start_coupled, copy_coupled}
 use Rattle.kernel_laws.proofs.Machine.Processes.{Stepping, stepping}
@@ -223,9 +225,9 @@ find_kept size images m found i were = record {
 
 pub out_kept : (size : ℕ) (images : List NamedImage) (m : KernelState) (pid : ℕ) → Invariant size images m → MayLeave m.kernel m.flat pid → Invariant size images (state_after images m (OutUnit pid))
 out_kept size images m pid i may = record {
-  sound = plain_sound size k [] (entries.SwapOut pid) i.sound tt tt (let l = so.few_transfers in omega arith);
-  numbered = plain_numbered k [] (entries.SwapOut pid) i.numbered;
-  coupled = subst (λ (o : Option Proc). Coupled (out_step k pid) images (store_at m.image at (u_bytes k o)) m.flat) (sym g.kept) (out_coupled size k images m.image m.flat pid g.proc i.sound i.room g.kept life are acts.resident i.coupled);
+  sound = out_sound size k pid i.sound;
+  numbered = out_numbered k pid i.numbered;
+  coupled = subst (λ (o : Option Proc). Coupled (out_step k pid) images (store_at m.image at (u_bytes k o)) m.flat) (sym g.kept) (out_coupled size k images m.image m.flat pid g.proc i.sound i.room g.kept life are resides acts.resident i.coupled);
   stands = out_stands images k m.flat pid may.process may.space acts.here acts.holds i.stands;
   dues = dues_kept size images m [] (length (append k.journal (entries.SwapOut pid))) (entries.SwapOut pid) i tt tt;
   parts = parts_kept size images m [] (length (append k.journal (entries.SwapOut pid))) (entries.SwapOut pid) i tt tt;
@@ -239,8 +241,8 @@ out_kept size images m pid i may = record {
     k : Kernel
     k = m.kernel
 
-    so : Sound size k
-    so = i.sound
+    n : Numbered k
+    n = i.numbered
 
     c : Coupled k images m.image m.flat
     c = i.coupled
@@ -259,6 +261,9 @@ out_kept size images m pid i may = record {
 
     life : has_life g.proc.life ≡ true
     life = ap has_life g.life
+
+    resides : IsResident k.place pid
+    resides = n.residents pid (ap lives_in g.kept ∙ life)
 
     own_regs : g.proc.regs ≡ may.process.regs
     own_regs = subst (λ (z : Rattle.std.proofs.Common.Bool). KeepsRegs k m.image z may.process g.proc.regs (space_of_holding may.process.holding)) acts.resident (regs_at k images m.image m.flat c pid may.process g.proc g.found g.kept)

@@ -16,6 +16,7 @@ use Rattle.page_laws.proofs.Starts.{start_hands}
 use Rattle.page_laws.proofs.Due.Entries.{start_due}
 use Rattle.kernel_laws.proofs.Pieces.Starts.{start_found}
 use Rattle.kernel_laws.proofs.Sound.Steps.{alive_owner}
+use Rattle.kernel_laws.proofs.Sound.Residing.{started_in}
 use Rattle.kernel_laws.proofs.Sound.Allowed.{start_numbers}
 use Rattle.kernel_laws.proofs.Machine.Starts.{start_coupled_all}
 use Rattle.kernel_laws.proofs.Stands.Starts.{start_numbered, start_lent, start_beside}
@@ -57,6 +58,7 @@ start_kept A first hs frames image c = record {
     spaces_below = subst (λ (m : ℕ). AllBelow m (map space_number p.spaces)) (let e = starts_count A.images A.first first c.starting in let z : 1 + length first ≡ length A.first + 1 = omega arith in z) (start_numbers facts first A.frames).1;
     pids_differ = subst AllDistinct (sym (kept_pids (start_state A).processes)) n.pids;
     pids_below = subst (AllBelow (start_state A).next_pid) (sym (kept_pids (start_state A).processes)) n.pids_below;
+    residents = λ m a. started_in 1 m first (sym (starts_live A.images A.first first 1 m c.starting) ∙ a);
   };
   coupled = start_coupled_all A first hs frames image c.starting c.images;
   stands = start_beside A first hs frames c.starting c.images;

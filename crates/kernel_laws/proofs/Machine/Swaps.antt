@@ -3,7 +3,7 @@ use Rattle.std.proofs.Common.{◌≡◌, ◌≢◌, ◌⊎◌, inl, inr, ℕ, �
 use Rattle.std.specs.Prelude.{flat_map, replicate}
 use Rattle.std.proofs.lemmas.Bool.{cases_eq}
 use Rattle.flat_state.specs.Space.{Space}
-use Rattle.flat_state.specs.Flat.{Holds, Process, FlatState, NamedImage, process_of, spaces_of}
+use Rattle.flat_state.specs.Flat.{Holds, Process, FlatState, NamedImage, process_of, spaces_of, cleared}
 use Rattle.vm_facts.specs.declared.page.Page.{Page}
 use Rattle.vm_facts.specs.declared.page.Page.TheVariants.{Data, Stack, Text}
 use Rattle.vm_facts.specs.declared.regs.Regs.{Regs}
@@ -24,6 +24,7 @@ use Rattle.flat_state.specs.PageNames.{number_of}
 use Rattle.page_model.specs.Placement.{Placement, Residence, slots_of, space_number}
 use Rattle.page_model.specs.Place.{moved, space_of_holding}
 use Rattle.page_model.specs.Swapper.{is_out, residence_of}
+use Rattle.page_model.specs.PuttingOut.{IsResident}
 use Rattle.page_model.specs.Ownership.{OwnsBlocks, OneOwner, owner_of, u_blocks}
 use Rattle.page_model.specs.PageBytes.{SameBytes, CouplesPages}
 use Rattle.flat_state.specs.Journal.{append}
@@ -35,6 +36,7 @@ use Rattle.page_model.specs.Stored.{stored_at, store_at, put_blocks, blocks_at}
 use Rattle.kernel_model.specs.ChangeStep.{ran_by, space_of_life}
 use Rattle.page_laws.proofs.Lists.Local.{some_is}
 use Rattle.page_laws.proofs.Blocks.Places.{length_put, blocks_put_same}
+use Rattle.page_laws.proofs.Swapper.Residences.{moved_own}
 use Rattle.kernel_laws.proofs.Registers.{regs_back_any}
 use Rattle.kernel_laws.proofs.Flat.Numbered.{eq_is, eq_self, not_eq, has_number, numbered_map, mapped_some}
 use Rattle.kernel_laws.proofs.Flat.Lists.{pid_of, sid_of, held, found_is, Parts, parts_at, replaced_at, replaced_not, same_held}
@@ -273,10 +275,10 @@ u_found size k pid so alive =
 
 -- A process goes out: its registers and the sizes of its space are in its u page.
 pub out_coupled : (size : ℕ) (k : Kernel) (images : List NamedImage) (image : List ℕ) (flat : FlatState) (pid : ℕ) (p : Proc) → Sound size k → 512 * size ≤ length image → numbered kept_pid pid k.processes ≡ Some p → has_life p.life ≡ true → AreRegs p.regs
-    → is_out k.place pid ≡ false → Coupled k images image flat
+    → IsResident k.place pid → is_out k.place pid ≡ false → Coupled k images image flat
     → Coupled (out_step k pid) images (store_at image (block_in k.holdings (owners.U pid) 0) (u_page p.regs (length (slots_of k.place (Data (space_of_life p.life) 0))) (length (slots_of k.place (Stack (space_of_life p.life) 0))))) flat
-out_coupled size k images image flat pid p so li e alive are out c = subst (λ (i : List ℕ). Coupled l images i flat) (sym (ap (λ (o : Option ℕ). store_at image o bytes) block.1))
-    (coupled_of l images after flat (tables_of l flat t.processes t.next_pid t.next_sid (all_fit k flat t))
+out_coupled size k images image flat pid p so li e alive are resides out c = subst (λ (i : List ℕ). Coupled l images i flat) (sym (ap (λ (o : Option ℕ). store_at image o bytes) block.1))
+    (coupled_of l images after flat (tables_of l flat (regs_outlines pid cleared k.processes ∙ t.processes) t.next_pid t.next_sid (all_fit k flat t))
     (alike_coupled l.place (beside_kernel k images image flat) (beside_kernel l images after flat)
     (λ w. record { frames = refl; swap = u_other size k.holdings image bytes pid block.0 (owner_of w) (number_of w) book li lb block.1 (not_u w); file = file_of_same w; start = refl; memory = refl })
     (still_moved k.place pid true (length (append k.journal (entries.SwapOut pid))) (beside_kernel k images image flat) c.pages))
@@ -316,19 +318,18 @@ out_coupled size k images image flat pid p so li e alive are out c = subst (λ (
     file_of_same (Stack sid v) = refl
     file_of_same (Text i v) = refl
 
-    -- the process by itself: in its u page, or in its record where it isn't listed
-    own : (a : Process) (b : Proc) → numbered pid_of pid flat.processes ≡ Some a → numbered kept_pid pid k.processes ≡ Some b → KeepsRegs l after (is_out l.place pid) a b.regs (space_of_holding a.holding)
-    own a b ea eb =
-        let old : b.regs ≡ a.regs = subst (λ (z : Bool). KeepsRegs k image z a b.regs (space_of_holding a.holding)) out (regs_at k images image flat c pid a b ea eb) in
-        let same : p ≡ b = some_is p b (sym e ∙ eb) in
+    now_out : is_out l.place pid ≡ true
+    now_out = ap (λ (r : Residence). r.out) (moved_own k.place pid true (length (append k.journal (entries.SwapOut pid))) resides)
+
+    -- the process by itself: its registers are in its u page, whatever its record has
+    own : (a : Process) (kept : Regs) → numbered pid_of pid flat.processes ≡ Some a → KeepsRegs l after (is_out l.place pid) a kept (space_of_holding a.holding)
+    own a kept ea =
+        let old : p.regs ≡ a.regs = subst (λ (z : Bool). KeepsRegs k image z a p.regs (space_of_holding a.holding)) out (regs_at k images image flat c pid a p ea e) in
         let i : a.pid ≡ pid = has_number pid_of pid flat.processes a ea in
-        elim (out_same k.place.residents pid true (length (append k.journal (entries.SwapOut pid)))) [
-          | inl h ↦ subst (λ (z : Bool). KeepsRegs l after z a b.regs (space_of_holding a.holding)) (sym h)
-              (ap (λ (n : ℕ). stored_at after (block_in k.holdings (owners.U n) 0)) i ∙ ap (stored_at after) block.1 ∙ u_own size k.holdings image bytes pid block.0 book li lb block.1
-              ∙ ap (λ (r : Regs). u_page r (length (slots_of k.place (Data (space_of_life p.life) 0))) (length (slots_of k.place (Stack (space_of_life p.life) 0)))) (ap (λ (x : Proc). x.regs) same ∙ old)
-              ∙ ap (λ (s : ℕ). u_page a.regs (length (slots_of k.place (Data s 0))) (length (slots_of k.place (Stack s 0)))) (sid_same a ea))
-          | inr h ↦ subst (λ (z : Bool). KeepsRegs l after z a b.regs (space_of_holding a.holding)) (sym h.0) old
-        ]
+        subst (λ (z : Bool). KeepsRegs l after z a kept (space_of_holding a.holding)) (sym now_out)
+        (ap (λ (n : ℕ). stored_at after (block_in k.holdings (owners.U n) 0)) i ∙ ap (stored_at after) block.1 ∙ u_own size k.holdings image bytes pid block.0 book li lb block.1
+        ∙ ap (λ (r : Regs). u_page r (length (slots_of k.place (Data (space_of_life p.life) 0))) (length (slots_of k.place (Stack (space_of_life p.life) 0)))) old
+        ∙ ap (λ (s : ℕ). u_page a.regs (length (slots_of k.place (Data s 0))) (length (slots_of k.place (Stack s 0)))) (sid_same a ea))
       where
         sid_same : (a : Process) → numbered pid_of pid flat.processes ≡ Some a → space_of_life p.life ≡ space_of_holding a.holding
         sid_same a ea = ap (λ (x : Outline). space_of_life x.life) (outline_at k.processes flat.processes t.processes pid p a e ea) ∙ space_same a.holding
@@ -336,11 +337,11 @@ out_coupled size k images image flat pid p so li e alive are out c = subst (λ (
     regs_now : (n : ℕ) → RegsAt l after flat n
     regs_now n a b ea eb = elim (cases_eq n pid) [
       | inl same ↦ subst (λ (m : ℕ). KeepsRegs l after (is_out l.place m) a b.regs (space_of_holding a.holding)) (sym same)
-          (own a b (ap (λ (m : ℕ). numbered pid_of m flat.processes) (sym same) ∙ ea) (ap (λ (m : ℕ). numbered kept_pid m k.processes) (sym same) ∙ eb))
+          (own a b.regs (ap (λ (m : ℕ). numbered pid_of m flat.processes) (sym same) ∙ ea))
       | inr d ↦ (let i : a.pid ≡ n = has_number pid_of n flat.processes a ea in
           subst (λ (z : Bool). KeepsRegs l after z a b.regs (space_of_holding a.holding)) (sym (out_other k.place.residents pid n true (length (append k.journal (entries.SwapOut pid))) d))
           (regs_kept k l image after (is_out k.place n) a b.regs (space_of_holding a.holding)
-          (λ z. u_other size k.holdings image bytes pid block.0 (owners.U a.pid) 0 book li lb block.1 (λ h. d (sym i ∙ u_number a.pid pid h))) refl refl (regs_at k images image flat c n a b ea eb)))
+          (λ z. u_other size k.holdings image bytes pid block.0 (owners.U a.pid) 0 book li lb block.1 (λ h. d (sym i ∙ u_number a.pid pid h))) refl refl (regs_at k images image flat c n a b ea (regs_other pid n cleared k.processes b d eb))))
     ]
       where
         u_number : (a b : ℕ) → owners.U a ≡ owners.U b → a ≡ b

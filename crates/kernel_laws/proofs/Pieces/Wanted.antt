@@ -178,19 +178,19 @@ IsChild (Fork child) n = n ≡ child
 IsChild (Lend child) n = n ≡ child
 IsChild change n = ⊥
 
-pub after_back : (ps : List Proc) (x : Proc) (p : Placement) (sid : ℕ) (borrowed : Bool) (next n : ℕ) (change : Change) → lives ps x.pid ≡ true → MayAsk p ps sid borrowed next change → (IsChild change n → ⊥)
+pub after_back : (ps : List Proc) (x : Proc) (next n : ℕ) (change : Change) → lives ps x.pid ≡ true → ((status : ℕ) → change ≡ End status → OneEach ps) → (IsChild change n → ⊥)
     → lives (procs_after ps x next change) n ≡ true → lives ps n ≡ true
-after_back ps x p sid borrowed next n Keep a m c e = with_back x ps n a e
-after_back ps x p sid borrowed next n (Resize d s) a m c e = with_back x ps n a e
-after_back ps x p sid borrowed next n (Fork child) a m c e = with_back x ps n a (append_back (with_proc ps x) (child_proc x child (HoldsSpace next)) n c e)
-after_back ps x p sid borrowed next n (Lend child) a m c e = with_back x ps n a (append_back (with_proc ps x) (child_proc x child New) n c e)
-after_back ps x p sid borrowed next n (Exec image top) a m c e = with_back (record x { life = HoldsSpace next }) ps n a e
-after_back ps x p sid borrowed next n (Reap child) a m c e = elim (cases_eq n x.pid) [
+after_back ps x next n Keep a m c e = with_back x ps n a e
+after_back ps x next n (Resize d s) a m c e = with_back x ps n a e
+after_back ps x next n (Fork child) a m c e = with_back x ps n a (append_back (with_proc ps x) (child_proc x child (HoldsSpace next)) n c e)
+after_back ps x next n (Lend child) a m c e = with_back x ps n a (append_back (with_proc ps x) (child_proc x child New) n c e)
+after_back ps x next n (Exec image top) a m c e = with_back (record x { life = HoldsSpace next }) ps n a e
+after_back ps x next n (Reap child) a m c e = elim (cases_eq n x.pid) [
   | inl h ↦ ap (lives ps) h ∙ a
   | inr d ↦ without_back ps child n (with_back_other x (without_proc ps child) n d e)
 ]
-after_back ps x p sid borrowed next n Sleep a m c e = with_back (record x { asleep = true }) ps n a e
-after_back ps x p sid borrowed next n (End status) a m c e = orphan_back ps x.pid n m (left_back (x.parent == 0) (orphaned_procs ps x.pid) x status n e)
+after_back ps x next n Sleep a m c e = with_back (record x { asleep = true }) ps n a e
+after_back ps x next n (End status) a m c e = orphan_back ps x.pid n (m status refl) (left_back (x.parent == 0) (orphaned_procs ps x.pid) x status n e)
 
 -- a child with an unused number lives
 unused_with : (ps : List Proc) (p : Proc) (n : ℕ) → IsUnused ps n → IsUnused (with_proc ps p) n
@@ -627,7 +627,7 @@ change_asked images k x e change a c m = go change c m
     at = length (append k.journal e)
 
     back : (change : Change) → MayAsk k.place k.processes sid borrowed k.next_sid change → (n : ℕ) → (IsChild change n → ⊥) → lives (procs_after k.processes x k.next_sid change) n ≡ true → lives k.processes n ≡ true
-    back change m n h l = after_back k.processes x k.place sid borrowed k.next_sid n change a m h l
+    back change m n h l = after_back k.processes x k.next_sid n change a (λ status i. subst (MayAsk k.place k.processes sid borrowed k.next_sid) i m) h l
 
     living : (change : Change) → MayAsk k.place k.processes sid borrowed k.next_sid change → ((n : ℕ) → IsChild change n → ⊥) → Living k (change_by images k x e change)
     living change m h n l = back change m n (h n) l

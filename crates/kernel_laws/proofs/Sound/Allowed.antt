@@ -20,7 +20,7 @@ use Rattle.kernel_model.specs.Kernel.{Kernel, Proc}
 use Rattle.kernel_model.specs.Sound.{Sound, lives}
 use Rattle.kernel_model.specs.ChangeStep.{space_of_life, life_of_proc, gave_back, change_step}
 use Rattle.kernel_model.specs.Taken.{MayChange}
-use Rattle.kernel_model.specs.Asks.{HasSpace, IsUnused, OneEach, MayAsk, asked, WantsThese}
+use Rattle.kernel_model.specs.Asks.{HasSpace, IsUnused, MayAsk, asked, WantsThese}
 use Rattle.flat_state.specs.Numbers.{IsAbsent, AllDistinct, AllBelow}
 use Rattle.kernel_laws.proofs.Flat.Numbered.{absent_none, below_absent}
 use Rattle.kernel_model.specs.Numbers.{Numbered, TakesNext, ReadySpace, ReadyFor}
@@ -28,6 +28,7 @@ use Rattle.page_laws.proofs.Lists.Runs.{and_both}
 use Rattle.page_laws.proofs.Ownership.Changes.{added_other}
 use Rattle.page_laws.proofs.Blocks.Changes.{rest_of}
 use Rattle.page_laws.proofs.Bytes.Others.{unnamed_rests, settled_rests}
+use Rattle.kernel_laws.proofs.Sound.Residing.{one_each}
 use Rattle.kernel_laws.proofs.Sound.NumbersApart.{Fine, enter_fine, fine_spaces}
 use Rattle.kernel_laws.proofs.Pieces.Found.{found_sound}
 use Rattle.kernel_laws.proofs.Pieces.Wanted.{asked_for}
@@ -42,10 +43,6 @@ same_is : (a b : ℕ) → a ≡ b → (a == b) ≡ true
 same_is a b e = grind (arith, nat_tests)
 
 -- Numbers that nobody has.
-
-one_each : (ps : List Proc) → AllDistinct (map (λ (p : Proc). p.pid) ps) → OneEach ps
-one_each [] d = tt
-one_each (p ∷ ps) d = (absent_none (λ (q : Proc). q.pid) p.pid ps d.0, one_each ps d.1)
 
 -- The image of a space.
 

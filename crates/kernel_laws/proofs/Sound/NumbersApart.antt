@@ -1,5 +1,5 @@
 -- The numbers of spaces and processes stay apart, and below those to come.
-use Rattle.std.proofs.Common.{◌≡◌, ◌≢◌, ◌⊎◌, inl, inr, ℕ, zero, suc, ◌+◌, ◌<◌, ◌≤◌, ◌==◌, Bool, true, false, not, ◌&&◌, cond, List, [], ◌∷◌, ◌++◌, map, filter, Option, Some, None, refl, sym, ap, ◌∙◌, subst, arith}
+use Rattle.std.proofs.Common.{◌≡◌, ◌≢◌, ℕ, zero, suc, ◌+◌, ◌==◌, Bool, true, false, not, ◌&&◌, cond, List, [], ◌∷◌, ◌++◌, length, map, filter, Option, Some, None, refl, sym, ap, ◌∙◌, subst, arith}
 use Rattle.std.proofs.lemmas.Bool.Decides.{nat_tests}
 use Rattle.std.proofs.lemmas.List.{map-append}
 use Rattle.vm_facts.specs.declared.page.Page.{Page}
@@ -11,7 +11,7 @@ use Rattle.vm_facts.specs.declared.entry.Entry.{Entry}
 use Rattle.vm_facts.specs.declared.entry.Entry.TheVariants as entries
 use Rattle.flat_state.specs.declared.change.Change.{Change}
 use Rattle.flat_state.specs.declared.change.Change.TheVariants.{Keep, Resize, Fork, Lend, Exec, Reap, Sleep, End}
-use Rattle.flat_state.specs.Flat.{NamedImage, image_numbered}
+use Rattle.flat_state.specs.Flat.{NamedImage, image_numbered, cleared}
 use Rattle.page_model.specs.Pages.{SpacePages, changed, with_data, with_stack, frame_of}
 use Rattle.flat_state.specs.PageNames.{is_among, same_page, pages_from, number_of}
 use Rattle.page_model.specs.Frames.{times}
@@ -22,12 +22,17 @@ use Rattle.page_model.specs.Hands.{expire, expire_of, expire_if, expire_to, swee
 use Rattle.page_model.specs.Place.{filled, put_by, put_step, place_entry, sized, data_count, stack_count, data_from, stack_from, cut_space, resize, fork_space, enter_space, enter_image, remove_space, pages_of_space, pages_of_text, leave_text, leave_text_by, give_up, give_up_unless, place_change}
 use Rattle.page_model.specs.Serve.{read_errand}
 use Rattle.flat_state.specs.Journal.{append}
-use Rattle.kernel_model.specs.Kernel.{New, HoldsSpace, Ended, Kernel, Proc, with_regs, plain_step, zero_step, copy_step, done_step, write_step, note_step, in_step}
+use Rattle.kernel_model.specs.Kernel.{New, HoldsSpace, Ended, Kernel, Proc, with_regs, plain_step, zero_step, copy_step, done_step, write_step, note_step, out_step, in_step}
 use Rattle.kernel_model.specs.ChangeStep.{with_proc, without_proc, child_proc, is_ended, orphaned_procs, woken_procs, left_procs, procs_after, space_of_life, gave_back, change_by, change_if, change_step, ran_by, pass_step, passed_life, life_of_proc}
 use Rattle.flat_state.specs.Numbers.{IsAbsent, AllDistinct, AllBelow}
-use Rattle.kernel_model.specs.Numbers.{Numbered, TakesNext}
+use Rattle.kernel_model.specs.Sound.{lives}
+use Rattle.kernel_model.specs.Numbers.{EachResides, Numbered, TakesNext}
+use Rattle.page_model.specs.PuttingOut.{IsResident}
 use Rattle.page_laws.proofs.Ownership.Changes.{dropped_pages}
+use Rattle.kernel_laws.proofs.Machine.Shapes.{Shaped, touch_shaped}
+use Rattle.kernel_laws.proofs.Sound.Steps.{pass_lives, proc_number}
 use Rattle.kernel_laws.proofs.Sound.Changes.{find, with_number}
+use Rattle.kernel_laws.proofs.Sound.Residing.{resides, each_resides, entry_resides, regs_live, change_reside}
 
 -- The numbers of spaces stay as pages move.
 
@@ -404,8 +409,8 @@ procs_fine n ps x next k (End status) e t f = left_fine n (x.parent == 0) (orpha
 
 -- Steps of the whole machine.
 
-numbered_from : (k : Kernel) → FineSpaces k.next_sid k.place → Fine k.next_pid (pids k.processes) → Numbered k
-numbered_from k s p = record { spaces_differ = s.differ; spaces_below = s.below; pids_differ = p.differ; pids_below = p.below }
+numbered_from : (k : Kernel) → FineSpaces k.next_sid k.place → Fine k.next_pid (pids k.processes) → EachResides k → Numbered k
+numbered_from k s p r = record { spaces_differ = s.differ; spaces_below = s.below; pids_differ = p.differ; pids_below = p.below; residents = r }
 
 pub fine_spaces : (k : Kernel) → Numbered k → FineSpaces k.next_sid k.place
 fine_spaces k n = record { differ = n.spaces_differ; below = n.spaces_below }
@@ -415,23 +420,32 @@ fine_pids k n = record { differ = n.pids_differ; below = n.pids_below }
 
 pub plain_numbered : (k : Kernel) (locked : List Page) (e : Entry) → Numbered k → Numbered (plain_step k locked e)
 plain_numbered k locked e n =
-    let at = Rattle.std.proofs.Common.length (append k.journal e) in
+    let at = length (append k.journal e) in
     numbered_from (plain_step k locked e) (same_fine k.next_sid k.place (place_entry locked at k.place e) (entry_numbers locked at k.place e) (fine_spaces k n)) (fine_pids k n)
+    (each_resides k (plain_step k locked e) (λ m a. a) (entry_resides locked at k.place e) n.residents)
+
+-- of steps that change no process, and leave the residents of an entry
+paged_numbered : (k l : Kernel) (e : Entry) → l.next_sid ≡ k.next_sid → l.next_pid ≡ k.next_pid → l.processes ≡ k.processes → l.place ≡ place_entry [] 0 k.place e → Numbered k → Numbered l
+paged_numbered k l e s p ps is n = numbered_from l
+    (subst (λ (m : ℕ). FineSpaces m l.place) (sym s) (subst (FineSpaces k.next_sid) (sym is) (same_fine k.next_sid k.place (place_entry [] 0 k.place e) (entry_numbers [] 0 k.place e) (fine_spaces k n))))
+    (subst (λ (m : ℕ). Fine m (pids l.processes)) (sym p) (subst (λ (xs : List Proc). Fine k.next_pid (pids xs)) (sym ps) (fine_pids k n)))
+    (each_resides k l (λ m a. ap (λ (xs : List Proc). lives xs m) (sym ps) ∙ a) (λ m h. subst (λ (q : Placement). IsResident q m) (sym is) (entry_resides [] 0 k.place e m h)) n.residents)
 
 pub zero_numbered : (k : Kernel) (q : Page) → Numbered k → Numbered (zero_step k q)
-zero_numbered k q n = numbered_from (zero_step k q) (same_fine k.next_sid k.place (filled k.place q) (filled_numbers k.place q) (fine_spaces k n)) (fine_pids k n)
+zero_numbered k q n = paged_numbered k (zero_step k q) (entries.Zero q) refl refl refl refl n
 
 pub copy_numbered : (k : Kernel) (q : Page) → Numbered k → Numbered (copy_step k q)
-copy_numbered k q n = numbered_from (copy_step k q) (same_fine k.next_sid k.place (filled k.place q) (filled_numbers k.place q) (fine_spaces k n)) (fine_pids k n)
+copy_numbered k q n = paged_numbered k (copy_step k q) (entries.Copy q) refl refl refl refl n
 
 pub done_numbered : (k : Kernel) (read : List (List ℕ)) → Numbered k → Numbered (done_step k read)
-done_numbered k read n = numbered_from (done_step k read) (same_fine k.next_sid k.place (done k.place) (done_numbers k.place) (fine_spaces k n)) (fine_pids k n)
+done_numbered k read n = paged_numbered k (done_step k read) entries.Done refl refl refl refl n
 
 pub write_numbered : (k : Kernel) (q : Page) (f at byte : ℕ) → Numbered k → Numbered (write_step k q f at byte)
 write_numbered k q f at byte n = numbered_from (write_step k q f at byte) (same_fine k.next_sid k.place (touch k.place q) (touch_numbers k.place q) (fine_spaces k n)) (fine_pids k n)
+    (each_resides k (write_step k q f at byte) (λ m a. a) (λ m h. let x : Shaped k.place (touch k.place q) = touch_shaped k.place q in resides k.place.residents (touch k.place q).residents m x.residents h) n.residents)
 
 pub note_numbered : (k : Kernel) (e : Entry) → Numbered k → Numbered (note_step k e)
-note_numbered k e n = numbered_from (note_step k e) (fine_spaces k n) (fine_pids k n)
+note_numbered k e n = numbered_from (note_step k e) (fine_spaces k n) (fine_pids k n) n.residents
 
 regs_number : (pid : ℕ) (regs : Regs) (q : Proc) → (with_regs pid regs q).pid ≡ q.pid
 regs_number pid regs q = go (q.pid == pid)
@@ -440,23 +454,34 @@ regs_number pid regs q = go (q.pid == pid)
     go true = refl
     go false = refl
 
+-- other registers of a process
+regs_numbered : (k : Kernel) (pid : ℕ) (regs : Regs) → Numbered k → Numbered (record k { processes = map (with_regs pid regs) k.processes })
+regs_numbered k pid regs n = let l : Kernel = record k { processes = map (with_regs pid regs) k.processes } in
+    numbered_from l (fine_spaces k n) (map_fine k.next_pid (with_regs pid regs) k.processes (regs_number pid regs) (fine_pids k n))
+    (each_resides k l (λ m a. sym (regs_live pid regs k.processes m) ∙ a) (λ m h. h) n.residents)
+
+pub out_numbered : (k : Kernel) (pid : ℕ) → Numbered k → Numbered (out_step k pid)
+out_numbered k pid n = regs_numbered (plain_step k [] (entries.SwapOut pid)) pid cleared (plain_numbered k [] (entries.SwapOut pid) n)
+
 pub in_numbered : (k : Kernel) (pid : ℕ) (regs : Regs) → Numbered k → Numbered (in_step k pid regs)
-in_numbered k pid regs n = numbered_from (in_step k pid regs) (fine_spaces k n) (map_fine k.next_pid (with_regs pid regs) k.processes (regs_number pid regs) (fine_pids k n))
+in_numbered k pid regs n = regs_numbered (plain_step k [] (entries.SwapIn pid)) pid regs (plain_numbered k [] (entries.SwapIn pid) n)
 
 pub ran_numbered : (k : Kernel) (pid : ℕ) (regs : Regs) (e : Entry) → Numbered k → Numbered (ran_by k pid regs e)
-ran_numbered k pid regs e n = numbered_from (ran_by k pid regs e) (fine_spaces k n) (map_fine k.next_pid (with_regs pid regs) k.processes (regs_number pid regs) (fine_pids k n))
+ran_numbered k pid regs e n = regs_numbered (note_step k e) pid regs (note_numbered k e n)
 
-pub pass_numbered : (k : Kernel) (from to : ℕ) → Numbered k → Numbered (pass_step k from to)
-pass_numbered k from to n =
+pub pass_numbered : (k : Kernel) (from to : ℕ) → lives k.processes from ≡ true → lives k.processes to ≡ true → Numbered k → Numbered (pass_step k from to)
+pass_numbered k from to a b n =
     let sid = space_of_life (life_of_proc (find from k.processes)) in
     let receiver = life_of_proc (find to k.processes) in
     numbered_from (pass_step k from to) (fine_spaces k n) (map_fine k.next_pid (λ (q : Proc). record q { life = passed_life sid from to receiver q }) k.processes (λ q. refl) (fine_pids k n))
+    (each_resides k (pass_step k from to) (λ m l. sym (pass_lives k from to a b m) ∙ l) (λ m h. h) n.residents)
 
-pub flat_numbered : (images : List NamedImage) (k : Kernel) (pid : ℕ) (regs : Regs) (e : Entry) (change : Change) → TakesNext k change → Numbered k → Numbered (change_step images k pid regs e change)
-flat_numbered images k pid regs e change t n = go (find pid k.processes)
+pub flat_numbered : (images : List NamedImage) (k : Kernel) (pid : ℕ) (regs : Regs) (e : Entry) (change : Change) → TakesNext k change → lives k.processes pid ≡ true → Numbered k → Numbered (change_step images k pid regs e change)
+flat_numbered images k pid regs e change t a n = go (find pid k.processes) refl
   where
-    go : (o : Option Proc) → Numbered (change_if images k regs e change o)
-    go None = n
-    go (Some p) = numbered_from (change_by images k (record p { regs = regs }) e change)
-        (change_fine images k.place p.pid (space_of_life p.life) (gave_back p.life) k.next_sid (Rattle.std.proofs.Common.length (append k.journal e)) change (fine_spaces k n))
+    go : (o : Option Proc) → find pid k.processes ≡ o → Numbered (change_if images k regs e change o)
+    go None i = n
+    go (Some p) i = numbered_from (change_by images k (record p { regs = regs }) e change)
+        (change_fine images k.place p.pid (space_of_life p.life) (gave_back p.life) k.next_sid (length (append k.journal e)) change (fine_spaces k n))
         (procs_fine k.next_pid k.processes (record p { regs = regs }) k.next_sid k change refl t (fine_pids k n))
+        (change_reside images k (record p { regs = regs }) e change (ap (lives k.processes) (proc_number k.processes pid p i) ∙ a) n.pids_differ n.residents)

@@ -17,8 +17,9 @@ use Rattle.page_model.specs.Moves.{fill, begin, touch, touch_to, done}
 use Rattle.page_model.specs.Place.{place_entry}
 use Rattle.page_model.specs.Conditions.{begins, CanPlace, EntryShared, CanEnter, IsShared}
 use Rattle.page_model.specs.Ownership.{OwnsFrames, OwnsBlocks, OneOwner, TextAside, u_blocks}
+use Rattle.flat_state.specs.Flat.{cleared}
 use Rattle.flat_state.specs.Journal.{append}
-use Rattle.kernel_model.specs.Kernel.{Kernel, Proc, with_regs, start_bytes, copied_bytes, frame_bytes, put_first, read_into, landed_by, landed, plain_step, zero_step, copy_step, done_step, write_step, note_step, in_step, Life, New, HoldsSpace, LendsSpace, Ended}
+use Rattle.kernel_model.specs.Kernel.{Kernel, Proc, with_regs, start_bytes, copied_bytes, frame_bytes, put_first, read_into, landed_by, landed, plain_step, zero_step, copy_step, done_step, write_step, note_step, out_step, in_step, Life, New, HoldsSpace, LendsSpace, Ended}
 use Rattle.kernel_model.specs.Sound.{Sound, has_life, lives, lives_in}
 use Rattle.kernel_model.specs.ChangeStep.{ran_by, pass_step, pass_from, passed_life, space_of_life, life_of_proc}
 use Rattle.page_laws.proofs.Lists.Local.{none_some, some_is}
@@ -181,6 +182,11 @@ regs_sound size k pid regs s = record {
 }
 
 -- A process comes in with its registers.
+pub out_sound : (size : ℕ) (k : Kernel) (pid : ℕ) → Sound size k → Sound size (out_step k pid)
+out_sound size k pid s =
+    let t = regs_sound size (plain_step k [] (entries.SwapOut pid)) pid cleared (plain_sound size k [] (entries.SwapOut pid) s tt tt (let l = s.few_transfers in omega arith)) in
+    record { owner = t.owner; tokens = t.tokens; hands = t.hands; few_transfers = t.few_transfers }
+
 pub in_sound : (size : ℕ) (k : Kernel) (pid : ℕ) (regs : Regs) → Sound size k → Sound size (in_step k pid regs)
 in_sound size k pid regs s =
     let t = regs_sound size (plain_step k [] (entries.SwapIn pid)) pid regs (plain_sound size k [] (entries.SwapIn pid) s tt tt (let l = s.few_transfers in omega arith)) in
