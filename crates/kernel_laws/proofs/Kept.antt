@@ -4,4 +4,5 @@ pub mod Changes
 pub mod Units
 pub mod Waiting
 pub mod Starts
+pub mod Begins
 pub mod Paging

@@ -3,3 +3,4 @@ pub mod Changes
 pub mod Residing
 pub mod NumbersApart
 pub mod Allowed
+pub mod Begins

@@ -6,7 +6,6 @@ ghost use Rattle.vm_facts.specs.declared.entry.Entry.TheVariants as entries;
 ghost use Rattle.vm_facts.specs.declared.regs.Regs.{Regs};
 ghost use Rattle.aout_image.specs.declared.Image.{Image};
 ghost use Rattle.swap_book.specs.Holdings.{Holdings};
-ghost use Rattle.swap_book.specs.Placing.{place_all};
 ghost use Rattle.flat_state.specs.Space.{Space};
 ghost use Rattle.flat_state.specs.Flat.{FlatState, NamedImage, process_of, Holds, Zombie, Process};
 ghost use Rattle.flat_state.specs.Numbers.{IsNumbered};
@@ -28,7 +27,7 @@ ghost use Rattle.kernel_model.specs.UPage.{u_page, regs_in, AreRegs};
 ghost use Rattle.kernel_model.specs.Coupled.{SameTables, AreRead, beside_kernel};
 ghost use Rattle.kernel_model.specs.ChangeStep.{change_step};
 ghost use Rattle.kernel_model.specs.Taken.{AsksFor, MayReap, MayChange};
-ghost use Rattle.kernel_model.specs.Asks.{asked, WantsThese, start_asks, is_started};
+ghost use Rattle.kernel_model.specs.Asks.{asked, WantsThese, first_found, is_started};
 ghost use Rattle.kernel_model.specs.Numbers.{Numbered, TakesNext, SettlesFor, ReadyFor};
 ghost use Rattle.kernel_model.specs.Unit.{KernelState, unit_for};
 ghost use Rattle.kernel_model.specs.Invariant.{Invariant, May, MayGet, MayPut};
@@ -36,7 +35,7 @@ ghost use Rattle.kernel_model.specs.Invariant.{Invariant, May, MayGet, MayPut};
 /// Once the first processes' pieces have found their places one after another, each frame and each block has one owner.
 pub fn start_is_owned()
     ensures { (size : ℕ) (images : List Image) (first : List Starting) (frames : ℕ) (hs : Holdings)
-        → place_all size [] (start_asks (start_placement images first frames) [] 1 first) ≡ Ok hs
+        → first_found size images first frames ≡ Ok hs
         → OneOwner size (is_started 1 first) (start_placement images first frames) hs }
 {}
 

@@ -1,18 +1,20 @@
 -- The pieces of swap that a change of a process wants, by its placement, and what is so where it wants no others.
-use Rattle.std.specs.Prelude.{◌≡◌, ◌≢◌, ℕ, zero, suc, ◌+◌, ◌*◌, ◌==◌, Bool, true, false, cond, List, [], ◌∷◌, ◌++◌, length, drop, Option, Some, None}
+use Rattle.std.specs.Prelude.{◌≡◌, ◌≢◌, ℕ, zero, suc, ◌+◌, ◌*◌, ◌==◌, Bool, true, false, cond, List, [], ◌∷◌, ◌++◌, length, drop, Option, Some, None, Result}
 use Rattle.vm_facts.specs.declared.page.Page.TheVariants.{Text}
+use Rattle.aout_image.specs.declared.Image.{Image}
 use Rattle.aout_image.specs.Image.{data_pages_of}
 use Rattle.swap_dmap.specs.Chunks.{pieces, text_pieces}
 use Rattle.swap_book.specs.declared.Owner.{Owner}
 use Rattle.swap_book.specs.declared.Owner.TheVariants as owners
 use Rattle.swap_book.specs.Owners.{u_pieces}
-use Rattle.swap_book.specs.Placing.{Wanted, wanted}
+use Rattle.swap_book.specs.Holdings.{Holdings}
+use Rattle.swap_book.specs.Placing.{Wanted, wanted, place_all}
 use Rattle.flat_state.specs.declared.change.Change.{Change}
 use Rattle.flat_state.specs.declared.change.Change.TheVariants.{Resize, Fork, Lend, Exec, End}
 use Rattle.flat_state.specs.Flat.{NamedImage, image_numbered}
 use Rattle.page_model.specs.Pages.{numbered}
 use Rattle.page_model.specs.Frames.{times}
-use Rattle.page_model.specs.Placement.{Placement, Starting, space_number, slots_of, sharers}
+use Rattle.page_model.specs.Placement.{Placement, Starting, space_number, slots_of, sharers, start_placement}
 use Rattle.page_model.specs.Place.{data_count, stack_count}
 use Rattle.kernel_model.specs.Kernel.{Life, Kernel, Proc}
 use Rattle.kernel_model.specs.Sound.{lives}
@@ -28,10 +30,13 @@ text_asked zero image blocks = wanted (owners.Text image) (text_pieces blocks)
 text_asked (suc n) image blocks = []
 
 -- the text, the data and one stack page of a space that an image starts in
+abbrev pub image_pieces : Placement → ℕ → ℕ → Image → List Wanted
+image_pieces p sid image facts =
+    text_asked (sharers p image) image (2 * length (slots_of p (Text image 0))) ++ (wanted (owners.Data sid) (pieces (2 * data_pages_of facts)) ++ wanted (owners.Stack sid) (pieces 2))
+
 abbrev pub image_asked : Placement → ℕ → ℕ → Option NamedImage → List Wanted
 image_asked p sid image None = []
-image_asked p sid image (Some named) =
-    text_asked (sharers p image) image (2 * length (slots_of p (Text image 0))) ++ (wanted (owners.Data sid) (pieces (2 * data_pages_of named.image.facts)) ++ wanted (owners.Stack sid) (pieces 2))
+image_asked p sid image (Some named) = image_pieces p sid image named.image.facts
 
 -- growth and break want the further pieces of data and stack; fork those of the child's data, stack and u page; vfork
 -- those of its u page; and execve those of the new space
@@ -86,6 +91,14 @@ start_asks p earlier pid [] = []
 start_asks p earlier pid (a ∷ more) =
     text_asked (times a.image earlier) a.image (2 * length (slots_of p (Text a.image 0)))
     ++ (wanted (owners.Data pid) (pieces (2 * data_pages_of a.facts)) ++ (wanted (owners.Stack pid) (pieces 2) ++ (wanted (owners.U pid) (u_pieces 2) ++ start_asks p (a.image ∷ earlier) (pid + 1) more)))
+
+-- the holdings once they have found their places one after another
+abbrev pub first_found : ℕ → List Image → List Starting → ℕ → Result Holdings ℕ
+first_found size images first frames = place_all size [] (start_asks (start_placement images first frames) [] 1 first)
+
+-- the pieces that one first process more wants
+abbrev pub begin_asks : Placement → ℕ → ℕ → Image → List Wanted
+begin_asks p pid image facts = image_pieces p pid image facts ++ wanted (owners.U pid) (u_pieces 2)
 
 -- it is one of the first processes from a pid on
 abbrev pub is_started : ℕ → List Starting → ℕ → Bool

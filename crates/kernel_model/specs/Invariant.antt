@@ -15,7 +15,7 @@ use Rattle.flat_state.specs.Change.{NamesChild}
 use Rattle.flat_state.specs.declared.change.Change.{Change}
 use Rattle.flat_state.specs.declared.change.Change.TheVariants.{Exec}
 use Rattle.page_model.specs.Pages.{Zeros}
-use Rattle.page_model.specs.Placement.{Placement, Due, CopyOf, Starting, IsThere, due_at, state_of, filling_of, start_placement}
+use Rattle.page_model.specs.Placement.{Placement, Due, CopyOf, Starting, IsThere, due_at, state_of, filling_of}
 use Rattle.page_model.specs.Hands.{hand_move}
 use Rattle.page_model.specs.Place.{due_after, put_step}
 use Rattle.page_model.specs.Serve.{source_for}
@@ -29,7 +29,7 @@ use Rattle.kernel_model.specs.Coupled.{Coupled, AreRead, beside_kernel}
 use Rattle.kernel_model.specs.Sound.{Sound}
 use Rattle.kernel_model.specs.Stands.{Stands}
 use Rattle.kernel_model.specs.Numbers.{Numbered, ReadySpace}
-use Rattle.kernel_model.specs.Asks.{asked, start_asks}
+use Rattle.kernel_model.specs.Asks.{asked, first_found}
 use Rattle.kernel_model.specs.Start.{AreStarting, ImagesFit, start_kernel}
 use Rattle.kernel_model.specs.Unit.{KernelUnit, ZeroUnit, CopyUnit, GetUnit, ReclaimUnit, HandsUnit, PutUnit, DoneUnit, WriteUnit, NoteUnit, RanUnit, FindUnit, ChangeUnit, OutUnit, InUnit, KernelState, has_lender, state_after}
 
@@ -191,4 +191,4 @@ pub record CanStart (A : Inputs) (first : List Starting) (hs : Holdings) (frames
   pub some : 0 < A.frames
   pub tokens : length frames ≡ A.frames
   pub room : 512 * A.swap_blocks ≤ length image
-  pub pieces : place_all A.swap_blocks [] (start_asks (start_placement (map (λ (named : NamedImage). named.image.facts) A.images) first A.frames) [] 1 first) ≡ Ok hs
+  pub pieces : first_found A.swap_blocks (map (λ (named : NamedImage). named.image.facts) A.images) first A.frames ≡ Ok hs

@@ -1,12 +1,13 @@
 -- The whole machine at the start of a run.
-use Rattle.std.specs.Prelude.{◌≡◌, ℕ, ◌*◌, ◌≤◌, false, List, [], ◌∷◌, length, map, Some}
+use Rattle.std.specs.Prelude.{◌≡◌, ℕ, ◌+◌, ◌*◌, ◌≤◌, false, List, [], ◌∷◌, ◌++◌, length, map, Some}
 use Rattle.flat_state.specs.Space.{Space}
-use Rattle.flat_state.specs.Flat.{Process, NamedImage, Inputs, image_numbered, argument_area, start_state, spaces_of}
+use Rattle.flat_state.specs.Flat.{Process, NamedImage, Inputs, image_numbered, argument_area, start_page, start_regs, start_state, spaces_of}
 use Rattle.vm_facts.specs.declared.page.Page.TheVariants.{Stack}
+use Rattle.aout_image.specs.declared.Image.{Image}
 use Rattle.aout_image.specs.Image.{IsSound, text_pages_of}
 use Rattle.swap_book.specs.Holdings.{Holdings}
-use Rattle.page_model.specs.Placement.{Starting, start_placement}
-use Rattle.kernel_model.specs.Kernel.{Proc, StartBytes, Kernel, life_of}
+use Rattle.page_model.specs.Placement.{Placement, Start, Starting, new_pages, start_placement}
+use Rattle.kernel_model.specs.Kernel.{HoldsSpace, Proc, StartBytes, Kernel, life_of}
 use Rattle.kernel_model.specs.Sound.{DataFits}
 
 abbrev pub kept_of : Process → Proc
@@ -29,6 +30,51 @@ start_kernel A first hs frames = record {
   journal = [];
   stopped = false;
 }
+
+-- First processes that begin one by one.
+
+-- with no process, and some bytes in each frame
+abbrev pub new_kernel : List Image → ℕ → List (List ℕ) → Kernel
+new_kernel images count frames = record {
+  place = start_placement images [] count;
+  holdings = [];
+  processes = [];
+  next_pid = 1;
+  next_sid = 1;
+  starts = [];
+  frames = frames;
+  journal = [];
+  stopped = false;
+}
+
+-- the process is in from the start, and has a space of its own number with the pages of its image; stack page 0 of that
+-- is due, behind those of the processes before it
+abbrev pub begin_place : Placement → ℕ → ℕ → Image → Placement
+begin_place p pid image facts = record p {
+  spaces = p.spaces ++ new_pages pid image facts ∷ [];
+  residents = p.residents ++ record { pid = pid; out = false; since = 0 } ∷ [];
+  due = p.due ++ Start (Stack pid 0) ∷ [];
+}
+
+-- One first process begins, by the number, the name and the facts of its image, with the holdings in which its pieces
+-- were found. It has the next number and the registers of a start, and the bytes of its stack page 0 are kept. No entry
+-- says so.
+abbrev pub begin_step : Kernel → Holdings → ℕ → List ℕ → Image → Kernel
+begin_step k found image name facts = record k {
+  place = begin_place k.place k.next_pid image facts;
+  holdings = found;
+  processes = k.processes ++ record { pid = k.next_pid; parent = 0; regs = start_regs facts.entry (name ∷ []); life = HoldsSpace k.next_pid; asleep = false } ∷ [];
+  next_pid = k.next_pid + 1;
+  next_sid = k.next_sid + 1;
+  starts = k.starts ++ record { page = Stack k.next_pid 0; bytes = start_page (name ∷ []) } ∷ [];
+}
+
+-- one first process more, in the image of this number
+abbrev pub with_first : Inputs → ℕ → Inputs
+with_first A number = record A { first = A.first ++ number ∷ [] }
+
+abbrev pub starting_in : ℕ → NamedImage → Starting
+starting_in number named = record { image = number; facts = named.image.facts }
 
 -- each first process starts in the image of its number
 abbrev pub AreStarting : List NamedImage → List ℕ → List Starting → Type 0

@@ -62,7 +62,7 @@ resize_sizes p sid d s = record {
 pub grows_self : (p : Placement) → Grows p p
 grows_self p = record { of_data = λ t. omega arith; of_stack = λ t. omega arith; texts = λ i. refl; sharing = λ i l. l }
 
-first_or_none : (t : ℕ) (ss : List SpacePages) (x : SpacePages) → (numbered space_number t (ss ++ x ∷ []) ≡ numbered space_number t ss) ⊎ (numbered space_number t ss ≡ None)
+pub first_or_none : (t : ℕ) (ss : List SpacePages) (x : SpacePages) → (numbered space_number t (ss ++ x ∷ []) ≡ numbered space_number t ss) ⊎ (numbered space_number t ss ≡ None)
 first_or_none t [] x = inr refl
 first_or_none t (s ∷ ss) x = go (space_number s == t) (first_or_none t ss x)
   where

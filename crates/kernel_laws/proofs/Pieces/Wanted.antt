@@ -81,13 +81,13 @@ none_text a zero n m h e = sym (drop_past (length (text_pieces_while a n)) [] (o
 none_text zero (suc b) n m h e = absurd (let l = h (omega arith) in omega arith)
 none_text (suc a) (suc b) n m h e = sym (ap (λ (k : ℕ). drop (length (text_pieces n)) (text_pieces k)) e ∙ drop_past (length (text_pieces n)) (text_pieces n) (omega arith))
 
-none_u : (a b : Bool) → (b ≡ true → a ≡ true) → [] ≡ drop (length (u_pieces (u_blocks a))) (u_pieces (u_blocks b))
+pub none_u : (a b : Bool) → (b ≡ true → a ≡ true) → [] ≡ drop (length (u_pieces (u_blocks a))) (u_pieces (u_blocks b))
 none_u true true h = refl
 none_u true false h = refl
 none_u false false h = refl
 none_u false true h = absurd (let z : false ≡ true = h refl in cc)
 
-new_u : (a b : Bool) → a ≡ false → b ≡ true → u_pieces 2 ≡ drop (length (u_pieces (u_blocks a))) (u_pieces (u_blocks b))
+pub new_u : (a b : Bool) → a ≡ false → b ≡ true → u_pieces 2 ≡ drop (length (u_pieces (u_blocks a))) (u_pieces (u_blocks b))
 new_u true b x y = absurd cc
 new_u false true x y = refl
 new_u false false x y = absurd cc
@@ -147,7 +147,7 @@ with_back p ps n a e = elim (cases_eq n p.pid) [
   | inr d ↦ with_back_other p ps n d e
 ]
 
-append_back : (ps : List Proc) (c : Proc) (n : ℕ) → n ≢ c.pid → lives (ps ++ c ∷ []) n ≡ true → lives ps n ≡ true
+pub append_back : (ps : List Proc) (c : Proc) (n : ℕ) → n ≢ c.pid → lives (ps ++ c ∷ []) n ≡ true → lives ps n ≡ true
 append_back [] c n d e = absurd (let z : true ≡ false = sym e ∙ ap (λ (b : Bool). lives_in (cond b (Some c) None)) (differs c.pid n (λ k. d (sym k))) in cc)
 append_back (q ∷ qs) c n d e = go (q.pid == n) e (append_back qs c n d)
   where
@@ -201,7 +201,7 @@ unused_with (q ∷ qs) p n e = ap (λ (m : ℕ). cond (m == n) (Some (cond (q.pi
     go true k ih = absurd cc
     go false k ih = ih k
 
-last_lives : (ps : List Proc) (c : Proc) → IsUnused ps c.pid → has_life c.life ≡ true → lives (ps ++ c ∷ []) c.pid ≡ true
+pub last_lives : (ps : List Proc) (c : Proc) → IsUnused ps c.pid → has_life c.life ≡ true → lives (ps ++ c ∷ []) c.pid ≡ true
 last_lives [] c u h = ap (λ (b : Bool). lives_in (cond b (Some c) None)) (same_is c.pid c.pid refl) ∙ h
 last_lives (q ∷ qs) c u h = go (q.pid == c.pid) u (λ k. last_lives qs c k h)
   where
@@ -514,7 +514,7 @@ text_own zero zero image blocks m l e = absurd (omega arith)
 text_own zero (suc b) image blocks m l e = lengths_own (owners.Text image) (text_pieces blocks) ∙ ap text_pieces (sym e) ∙ sym (whole (text_pieces m))
 text_own (suc n) b image blocks m l e = none_text (suc n) b blocks m (λ h. omega arith) e
 
-exec_asks : (k next : Kernel) (image ns sid : ℕ) (borrowed : Bool) (named : NamedImage) → IsNew k.place ns → (borrowed ≡ false → ns ≢ sid) → next.place ≡ give_up_unless borrowed (enter_space k.place ns image named.image.facts) sid
+pub exec_asks : (k next : Kernel) (image ns sid : ℕ) (borrowed : Bool) (named : NamedImage) → IsNew k.place ns → (borrowed ≡ false → ns ≢ sid) → next.place ≡ give_up_unless borrowed (enter_space k.place ns image named.image.facts) sid
     → ((i : ℕ) → length (slots_of next.place (Text i 0)) ≡ length (slots_of k.place (Text i 0))) → Living k next → AsksFor k next (image_asked k.place ns image (Some named))
 exec_asks k next image ns sid borrowed named new apart e texts l = by
   where

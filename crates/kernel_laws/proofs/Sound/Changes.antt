@@ -83,7 +83,7 @@ filter_alive test (q ∷ qs) n h e = go (test q) (q.pid == n) refl refl e (filte
     go false true x y l ih = absurd (let z : true ≡ false = sym (h q (eq_is q.pid n y) l) ∙ x in cc)
     go false false x y l ih = ih l
 
-append_alive : (ps rs : List Proc) (n : ℕ) → lives ps n ≡ true → lives (ps ++ rs) n ≡ true
+pub append_alive : (ps rs : List Proc) (n : ℕ) → lives ps n ≡ true → lives (ps ++ rs) n ≡ true
 append_alive [] rs n e = absurd cc
 append_alive (q ∷ qs) rs n e = go (q.pid == n) e (append_alive qs rs n)
   where
@@ -278,14 +278,14 @@ pub record HasTaken (size : ℕ) (k next : Kernel) : Type 0 where
   pub taken : (owner : Owner) → lengths owner k.holdings ≡ needed k owner ++ drop (length (needed k owner)) (needed next owner)
 
 -- the holdings have what either machine needs
-taken_fits : (size : ℕ) (k next : Kernel) → HasTaken size k next → ((i : ℕ) → length (slots_of next.place (Text i 0)) ≡ length (slots_of k.place (Text i 0))) → FitsBoth k.place next.place k.holdings
+pub taken_fits : (size : ℕ) (k next : Kernel) → HasTaken size k next → ((i : ℕ) → length (slots_of next.place (Text i 0)) ≡ length (slots_of k.place (Text i 0))) → FitsBoth k.place next.place k.holdings
 taken_fits size k next t e = record {
   of_data = λ sid. t.taken (owners.Data sid) ∙ both_pieces (data_count k.place sid) (data_count next.place sid);
   of_stack = λ sid. t.taken (owners.Stack sid) ∙ both_pieces (stack_count k.place sid) (stack_count next.place sid);
   of_text = λ i. t.taken (owners.Text i) ∙ both_while (sharers k.place i) (sharers next.place i) (2 * length (slots_of k.place (Text i 0))) (2 * length (slots_of next.place (Text i 0))) (ap (λ (n : ℕ). 2 * n) (e i));
 }
 
-taken_u : (size : ℕ) (k next : Kernel) (n : ℕ) → HasTaken size k next → lengths (owners.U n) k.holdings ≡ u_pieces (u_blocks (lives k.processes n || lives next.processes n))
+pub taken_u : (size : ℕ) (k next : Kernel) (n : ℕ) → HasTaken size k next → lengths (owners.U n) k.holdings ≡ u_pieces (u_blocks (lives k.processes n || lives next.processes n))
 taken_u size k next n t = t.taken (owners.U n) ∙ both_u (lives k.processes n) (lives next.processes n)
 
 change_sound : (size : ℕ) (images : List NamedImage) (k : Kernel) (before : Holdings) (x : Proc) (e : Entry) (change : Change) → ((n : ℕ) → x.pid ≡ n → lives k.processes n ≡ true → has_life x.life ≡ true)

@@ -1,5 +1,6 @@
 -- The numbers of spaces and processes stay apart, and below those to come.
-use Rattle.std.proofs.Common.{◌≡◌, ◌≢◌, ℕ, zero, suc, ◌+◌, ◌==◌, Bool, true, false, not, ◌&&◌, cond, List, [], ◌∷◌, ◌++◌, length, map, filter, Option, Some, None, refl, sym, ap, ◌∙◌, subst, arith}
+use Rattle.std.proofs.Common.{◌≡◌, ◌≢◌, ℕ, zero, suc, ◌+◌, ◌==◌, Bool, true, false, not, ◌&&◌, cond, List, [], ◌∷◌, ◌++◌, length, map, filter, Option, Some, None, refl, sym, ap, ◌∙◌, subst, arith, inl, inr}
+use Rattle.std.proofs.lemmas.Bool.{cases_eq}
 use Rattle.std.proofs.lemmas.Bool.Decides.{nat_tests}
 use Rattle.std.proofs.lemmas.List.{map-append}
 use Rattle.vm_facts.specs.declared.page.Page.{Page}
@@ -9,9 +10,11 @@ use Rattle.vm_facts.specs.declared.page.PageState.TheVariants.{Unfilled, Valid, 
 use Rattle.vm_facts.specs.declared.regs.Regs.{Regs}
 use Rattle.vm_facts.specs.declared.entry.Entry.{Entry}
 use Rattle.vm_facts.specs.declared.entry.Entry.TheVariants as entries
+use Rattle.aout_image.specs.declared.Image.{Image}
+use Rattle.swap_book.specs.Holdings.{Holdings}
 use Rattle.flat_state.specs.declared.change.Change.{Change}
 use Rattle.flat_state.specs.declared.change.Change.TheVariants.{Keep, Resize, Fork, Lend, Exec, Reap, Sleep, End}
-use Rattle.flat_state.specs.Flat.{NamedImage, image_numbered, cleared}
+use Rattle.flat_state.specs.Flat.{NamedImage, image_numbered, cleared, start_regs}
 use Rattle.page_model.specs.Pages.{SpacePages, changed, with_data, with_stack, frame_of}
 use Rattle.flat_state.specs.PageNames.{is_among, same_page, pages_from, number_of}
 use Rattle.page_model.specs.Frames.{times}
@@ -25,6 +28,7 @@ use Rattle.flat_state.specs.Journal.{append}
 use Rattle.kernel_model.specs.Kernel.{New, HoldsSpace, Ended, Kernel, Proc, with_regs, plain_step, zero_step, copy_step, done_step, write_step, note_step, out_step, in_step}
 use Rattle.kernel_model.specs.ChangeStep.{with_proc, without_proc, child_proc, is_ended, orphaned_procs, woken_procs, left_procs, procs_after, space_of_life, gave_back, change_by, change_if, change_step, ran_by, pass_step, passed_life, life_of_proc}
 use Rattle.flat_state.specs.Numbers.{IsAbsent, AllDistinct, AllBelow}
+use Rattle.kernel_model.specs.Start.{begin_step}
 use Rattle.kernel_model.specs.Sound.{lives}
 use Rattle.kernel_model.specs.Numbers.{EachResides, Numbered, TakesNext}
 use Rattle.page_model.specs.PuttingOut.{IsResident}
@@ -32,7 +36,8 @@ use Rattle.page_laws.proofs.Ownership.Changes.{dropped_pages}
 use Rattle.kernel_laws.proofs.Machine.Shapes.{Shaped, touch_shaped}
 use Rattle.kernel_laws.proofs.Sound.Steps.{pass_lives, proc_number}
 use Rattle.kernel_laws.proofs.Sound.Changes.{find, with_number}
-use Rattle.kernel_laws.proofs.Sound.Residing.{resides, each_resides, entry_resides, regs_live, change_reside}
+use Rattle.kernel_laws.proofs.Pieces.Wanted.{append_back}
+use Rattle.kernel_laws.proofs.Sound.Residing.{begun, resides, each_resides, entry_resides, regs_live, change_reside}
 
 -- The numbers of spaces stay as pages move.
 
@@ -468,6 +473,17 @@ in_numbered k pid regs n = regs_numbered (plain_step k [] (entries.SwapIn pid)) 
 
 pub ran_numbered : (k : Kernel) (pid : ℕ) (regs : Regs) (e : Entry) → Numbered k → Numbered (ran_by k pid regs e)
 ran_numbered k pid regs e n = regs_numbered (note_step k e) pid regs (note_numbered k e n)
+
+-- a first process begins
+pub begin_numbered : (k : Kernel) (found : Holdings) (image : ℕ) (name : List ℕ) (facts : Image) → k.next_sid ≡ k.next_pid → Numbered k → Numbered (begin_step k found image name facts)
+begin_numbered k found image name facts e n =
+    let l : Kernel = begin_step k found image name facts in
+    let c : Proc = record { pid = k.next_pid; parent = 0; regs = start_regs facts.entry (name ∷ []); life = HoldsSpace k.next_pid; asleep = false } in
+    numbered_from l (add_fine k.next_sid k.place (new_pages k.next_pid image facts) (sym e) (fine_spaces k n)) (child_fine k.next_pid k.processes c refl (fine_pids k n))
+    (λ m a. begun k.place.residents k.next_pid 0 m (elim (cases_eq m k.next_pid) [
+      | inl i ↦ inl i
+      | inr d ↦ inr (n.residents m (append_back k.processes c m d a))
+    ]))
 
 pub pass_numbered : (k : Kernel) (from to : ℕ) → lives k.processes from ≡ true → lives k.processes to ≡ true → Numbered k → Numbered (pass_step k from to)
 pass_numbered k from to a b n =
