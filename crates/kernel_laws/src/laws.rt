@@ -1,4 +1,4 @@
-ghost use Rattle.std.specs.Prelude.{◌≡◌, ℕ, Bool, true, false, ◌^◌, ◌<◌, ◌≤◌, List, [], ◌∷◌, length, Some, Ok};
+ghost use Rattle.std.specs.Prelude.{◌≡◌, ℕ, Bool, true, false, ◌^◌, ◌<◌, ◌≤◌, List, [], ◌∷◌, length, Some, Ok, map};
 ghost use Rattle.vm_facts.specs.Answers.{ByteWrite};
 ghost use Rattle.vm_facts.specs.declared.page.Page.{Page};
 ghost use Rattle.vm_facts.specs.declared.entry.Entry.{Entry};
@@ -7,7 +7,7 @@ ghost use Rattle.vm_facts.specs.declared.regs.Regs.{Regs};
 ghost use Rattle.aout_image.specs.declared.Image.{Image};
 ghost use Rattle.swap_book.specs.Holdings.{Holdings};
 ghost use Rattle.flat_state.specs.Space.{Space};
-ghost use Rattle.flat_state.specs.Flat.{FlatState, NamedImage, process_of, Holds, Zombie, Process};
+ghost use Rattle.flat_state.specs.Flat.{FlatState, NamedImage, process_of, Holds, Zombie, Process, cleared};
 ghost use Rattle.flat_state.specs.Numbers.{IsNumbered};
 ghost use Rattle.flat_state.specs.Lenders.{IsLender, LendsStand};
 ghost use Rattle.flat_state.specs.Change.{apply_writes};
@@ -16,20 +16,20 @@ ghost use Rattle.page_model.specs.Place.{is_borrower};
 ghost use Rattle.page_model.specs.Placement.{Starting, IsThere, start_placement, state_of};
 ghost use Rattle.page_model.specs.Runs.{run_in};
 ghost use Rattle.page_model.specs.Serve.{source_for, force_entry, serve_unit};
-ghost use Rattle.page_model.specs.Swapper.{put_out_unit};
+ghost use Rattle.page_model.specs.Swapper.{put_out_unit, is_out};
 ghost use Rattle.page_model.specs.Conditions.{CanEnter, IsShared};
 ghost use Rattle.page_model.specs.Dues.{NotDue};
 ghost use Rattle.page_model.specs.Ownership.{OwnsFrames, OneOwner};
 ghost use Rattle.page_model.specs.PageBytes.{ReadsFrom};
-ghost use Rattle.kernel_model.specs.Kernel.{Kernel};
+ghost use Rattle.kernel_model.specs.Kernel.{Kernel, Proc, with_regs, out_step};
 ghost use Rattle.kernel_model.specs.Sound.{lives};
 ghost use Rattle.kernel_model.specs.UPage.{u_page, regs_in, AreRegs};
-ghost use Rattle.kernel_model.specs.Coupled.{SameTables, AreRead, beside_kernel};
+ghost use Rattle.kernel_model.specs.Coupled.{SameTables, AreRead, beside_kernel, Coupled};
 ghost use Rattle.kernel_model.specs.ChangeStep.{change_step};
 ghost use Rattle.kernel_model.specs.Taken.{AsksFor, MayReap, MayChange};
 ghost use Rattle.kernel_model.specs.Asks.{asked, WantsThese, first_found, is_started};
 ghost use Rattle.kernel_model.specs.Numbers.{Numbered, TakesNext, SettlesFor, ReadyFor};
-ghost use Rattle.kernel_model.specs.Unit.{KernelState, unit_for};
+ghost use Rattle.kernel_model.specs.Unit.{KernelState, unit_for, proc_of};
 ghost use Rattle.kernel_model.specs.Invariant.{Invariant, May, MayGet, MayPut};
 
 /// Once the first processes' pieces have found their places one after another, each frame and each block has one owner.
@@ -43,6 +43,16 @@ pub fn start_is_owned()
 pub fn registers_kept()
     ensures { (regs : Regs) (data_pages stack_pages : ℕ) → AreRegs regs → data_pages < 2 ^ 32 → stack_pages < 2 ^ 32
         → regs_in (u_page regs data_pages stack_pages) ≡ regs }
+{}
+
+/// The registers of a process that goes out are in its u page alone. Its record has none then; and whatever the record has of
+/// one who is out, the machine stands for the same flat state.
+pub fn registers_leave()
+    ensures out { (k : Kernel) (pid : ℕ) (p : Proc) → proc_of k pid ≡ Some p
+        → proc_of (out_step k pid) pid ≡ Some (record p { regs = cleared }) }
+    ensures free { (k : Kernel) (images : List NamedImage) (image : List ℕ) (flat : FlatState) (pid : ℕ) (regs : Regs)
+        → is_out k.place pid ≡ true → Coupled k images image flat
+        → Coupled (record k { processes = map (with_regs pid regs) k.processes }) images image flat }
 {}
 
 /// What paging makes may be made. Each unit that serves a page may: of a page that is there, and isn't due; text is shared;

@@ -8,7 +8,7 @@
 //! - `changes_ask`: what a change asks, of the placement and in pieces of swap.
 //! - `starts_begin`, `begins_keep`: the first processes of a run begin one by one, and what stands behind each.
 //! - `start_is_owned`: once the first processes' pieces are found, each frame and each block has one owner.
-//! - `registers_kept`: the registers that go out into a u page come back from it.
+//! - `registers_kept`, `registers_leave`: the registers that go out into a u page come back from it, and are nowhere else.
 //! - `borrowers_have_lenders`, `writes_follow`: of the flat state: a borrower has one lender, and bytes are written one after
 //!   another.
 //!
@@ -21,7 +21,8 @@ pub mod starts;
 pub mod units;
 
 pub use laws::{
-    borrowers_have_lenders, changes_ask, paging_may, registers_kept, start_is_owned, writes_follow,
+    borrowers_have_lenders, changes_ask, paging_may, registers_kept, registers_leave,
+    start_is_owned, writes_follow,
 };
 pub use starts::{begins_keep, starts_begin};
 pub use units::{machine_kept, pieces_wait};

@@ -43,6 +43,8 @@ use Rattle.kernel_laws.proofs.Flat.Lists.{pid_of, sid_of, held, found_is, Parts,
 use Rattle.kernel_laws.proofs.Machine.Moves.{alike_coupled, regs_kept}
 use Rattle.kernel_laws.proofs.Machine.Done.{some_of, stored_apart}
 use Rattle.kernel_laws.proofs.Machine.Tables.{outline_at, space_same, kept_pid, all_fit, tables_of, RegsAt, regs_at, coupled_of}
+use Rattle.kernel_model.specs.Unit.{proc_of}
+use Rattle.page_laws.proofs.Lists.Pages.{mapped}
 
 -- Changes of a process that holds a space.
 
@@ -358,3 +360,27 @@ out_length size k image pid p d s so li e alive are =
     let y : IsPlace size k.holdings (owners.U pid) b.0 = a.own (owners.U pid) 0 b.0 b.1 in
     let z = y.within in
     ap (λ (i : Option ℕ). length (store_at image i (u_page p.regs d s))) b.1 ∙ length_put image (u_page p.regs d s) b.0 (omega arith) (u_length p.regs d s are)
+
+-- Whatever the record has of a process that is out, the machine stands for the same.
+pub left_coupled : (k : Kernel) (images : List NamedImage) (image : List ℕ) (flat : FlatState) (pid : ℕ) (regs : Regs) → is_out k.place pid ≡ true → Coupled k images image flat → Coupled (record k { processes = map (with_regs pid regs) k.processes }) images image flat
+left_coupled k images image flat pid regs out c = coupled_of l images image flat (tables_of l flat (regs_outlines pid regs k.processes ∙ t.processes) t.next_pid t.next_sid (all_fit k flat t)) c.pages regs_now
+  where
+    l : Kernel
+    l = record k { processes = map (with_regs pid regs) k.processes }
+
+    t : SameTables k flat
+    t = c.tables
+
+    regs_now : (n : ℕ) → RegsAt l image flat n
+    regs_now n a b ea eb = elim (cases_eq n pid) [
+      | inl same ↦ (let there : is_out k.place n ≡ true = ap (is_out k.place) same ∙ out in
+          let was : (x : Proc) × (numbered kept_pid n k.processes ≡ Some x) × (with_regs pid regs x ≡ b) =
+          mapped_some (with_regs pid regs) (numbered kept_pid n k.processes) b (sym (numbered_map kept_pid (with_regs pid regs) (with_regs_pid pid regs) n k.processes) ∙ eb) in
+          let old : KeepsRegs k image true a was.0.regs (space_of_holding a.holding) = subst (λ (o : Bool). KeepsRegs k image o a was.0.regs (space_of_holding a.holding)) there (regs_at k images image flat c n a was.0 ea was.1) in
+          subst (λ (o : Bool). KeepsRegs l image o a b.regs (space_of_holding a.holding)) (sym there) old)
+      | inr d ↦ regs_at k images image flat c n a b ea (regs_other pid n regs k.processes b d eb)
+    ]
+
+-- the record of who goes out has no registers then
+pub out_record : (k : Kernel) (pid : ℕ) (p : Proc) → proc_of k pid ≡ Some p → proc_of (out_step k pid) pid ≡ Some (record p { regs = cleared })
+out_record k pid p e = numbered_map kept_pid (with_regs pid cleared) (with_regs_pid pid cleared) pid k.processes ∙ ap (mapped (with_regs pid cleared)) e ∙ ap (λ (b : Bool). Some (cond b (record p { regs = cleared }) p)) (ap (λ (n : ℕ). n == pid) (has_number kept_pid pid k.processes p e) ∙ eq_self pid)
