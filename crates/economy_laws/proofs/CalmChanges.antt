@@ -1,7 +1,7 @@
 -- A clean page stays so through the changes of processes, but where its text is given back.
 use Rattle.std.proofs.Common.{◌≡◌, ◌≢◌, ◌⊎◌, inl, inr, ℕ, zero, suc, ◌-◌, ◌<◌, ◌≤◌, ◌||◌, Bool, true, false, List, [], ◌∷◌, ◌++◌, length, get_or, map, Option, Some, None, refl, sym, ap, ◌∙◌, subst, arith}
 use Rattle.std.proofs.lemmas.Bool.{cases_eq}
-use Rattle.flat_state.specs.Flat.{FlatState, NamedImage, image_numbered, process_of}
+use Rattle.flat_state.specs.Flat.{FlatState, process_of}
 use Rattle.vm_facts.specs.declared.page.Page.{Page}
 use Rattle.vm_facts.specs.declared.page.Page.TheVariants.{Data, Stack, Text}
 use Rattle.vm_facts.specs.declared.page.PageState.{PageState}
@@ -12,7 +12,7 @@ use Rattle.page_model.specs.Pages.{Slot, no_slot, SpacePages, numbered, changed,
 use Rattle.flat_state.specs.PageNames.{same_page, is_among}
 use Rattle.page_model.specs.Placement.{Placement, Due, space_number, slots_of, state_of, image_of, sharers, new_pages}
 use Rattle.page_model.specs.Moves.{touch, touch_to, touch_all, drop_at, drop_page, drop_all}
-use Rattle.page_model.specs.Place.{sized, cut_space, resize, data_count, stack_count, data_from, stack_from, child_slot, fork_space, enter_space, remove_space, pages_of_space, pages_of_text, leave_text, leave_text_by, give_up, give_up_unless, enter_image, place_change, place_step, space_of_process, is_borrower}
+use Rattle.page_model.specs.Place.{sized, cut_space, resize, data_count, stack_count, data_from, stack_from, child_slot, fork_space, enter_space, remove_space, pages_of_space, pages_of_text, leave_text, leave_text_by, give_up, give_up_unless, enter_image, place_change, place_step, space_of_process, is_borrower, facts_numbered}
 use Rattle.page_model.specs.Conditions.{EachPage}
 use Rattle.page_laws.proofs.Lists.Pages.{mapped, changed_same, changed_other, same_page_self}
 use Rattle.page_laws.proofs.Lists.Runs.{each_page_append, pages_from_each}
@@ -20,6 +20,7 @@ use Rattle.page_laws.proofs.Ownership.Changes.{Alike, BlankSlot, AllBlank, blank
 use Rattle.page_laws.proofs.Due.Changes.{leave_all_other}
 use Rattle.kernel_laws.proofs.Pieces.Sizes.{leave_text_sharers}
 use Rattle.economy_laws.proofs.Calm.{is_going, CalmSlot, Calm, put_calm, is_text}
+use Rattle.aout_image.specs.declared.Image.{Image}
 
 -- User writes.
 
@@ -157,10 +158,10 @@ fork_calm p parent child w c = add_calm p (record {
   stack_pages = map child_slot (slots_of p (Stack parent 0));
 }) (fork_space p parent child).due w (child_blank (slots_of p (Data parent 0))) (child_blank (slots_of p (Stack parent 0))) c
 
-enter_calm : (p : Placement) (sid image : ℕ) (named : Option NamedImage) (w : Page) → Calm p w → Calm (enter_image p sid image named) w
+enter_calm : (p : Placement) (sid image : ℕ) (facts : Option Image) (w : Page) → Calm p w → Calm (enter_image p sid image facts) w
 enter_calm p sid image None w c = c
-enter_calm p sid image (Some named) w c = add_calm p (new_pages sid image named.image.facts) (enter_space p sid image named.image.facts).due w
-    (unfilled_blank named.image.facts 0 (Rattle.aout_image.specs.Image.data_pages_of named.image.facts)) ((refl, refl), tt) c
+enter_calm p sid image (Some facts) w c = add_calm p (new_pages sid image facts) (enter_space p sid image facts).due w
+    (unfilled_blank facts 0 (Rattle.aout_image.specs.Image.data_pages_of facts)) ((refl, refl), tt) c
 
 -- A space that goes, and its text.
 
@@ -201,17 +202,17 @@ unless_calm false p sid w h c = give_up_calm p sid w h c
 
 -- Each change.
 
-pub change_calm : (images : List NamedImage) (p : Placement) (pid sid : ℕ) (borrowed : Bool) (next_sid at : ℕ) (change : Change) (w : Page) → TextShared (place_change images p pid sid borrowed next_sid at change) w → Calm p w → Calm (place_change images p pid sid borrowed next_sid at change) w
+pub change_calm : (images : List Image) (p : Placement) (pid sid : ℕ) (borrowed : Bool) (next_sid at : ℕ) (change : Change) (w : Page) → TextShared (place_change images p pid sid borrowed next_sid at change) w → Calm p w → Calm (place_change images p pid sid borrowed next_sid at change) w
 change_calm images p pid sid borrowed next_sid at Keep w h c = c
 change_calm images p pid sid borrowed next_sid at (Resize d s) w h c = resize_calm p sid d s w c
 change_calm images p pid sid borrowed next_sid at (Fork child) w h c = fork_calm p sid next_sid w c
 change_calm images p pid sid borrowed next_sid at (Lend child) w h c = c
 change_calm images p pid sid borrowed next_sid at (Exec image top) w h c =
-    unless_calm borrowed (enter_image p next_sid image (image_numbered images image)) sid w h (enter_calm p next_sid image (image_numbered images image) w c)
+    unless_calm borrowed (enter_image p next_sid image (facts_numbered images image)) sid w h (enter_calm p next_sid image (facts_numbered images image) w c)
 change_calm images p pid sid borrowed next_sid at (Reap child) w h c = c
 change_calm images p pid sid borrowed next_sid at Sleep w h c = c
 change_calm images p pid sid borrowed next_sid at (End status) w h c = unless_calm borrowed p sid w h c
 
-pub place_step_calm : (images : List NamedImage) (flat : FlatState) (pid at : ℕ) (written : List Page) (change : Change) (p : Placement) (w : Page) → Untouched written w → TextShared (place_step images flat pid at written change p) w → Calm p w → Calm (place_step images flat pid at written change p) w
+pub place_step_calm : (images : List Image) (flat : FlatState) (pid at : ℕ) (written : List Page) (change : Change) (p : Placement) (w : Page) → Untouched written w → TextShared (place_step images flat pid at written change p) w → Calm p w → Calm (place_step images flat pid at written change p) w
 place_step_calm images flat pid at written change p w u h c =
     change_calm images (touch_all p written) pid (space_of_process (process_of flat pid)) (is_borrower flat.processes pid) flat.next_sid at change w h (touch_all_calm written p w u c)

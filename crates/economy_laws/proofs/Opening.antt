@@ -8,11 +8,11 @@ use Rattle.vm_facts.specs.declared.entry.Entry.{Entry}
 use Rattle.vm_facts.specs.declared.entry.Entry.TheVariants as entries
 use Rattle.flat_state.specs.declared.change.Change.{Change}
 use Rattle.flat_state.specs.declared.change.Change.TheVariants.{Keep, Resize, Fork, Lend, Exec, Reap, Sleep, End}
-use Rattle.flat_state.specs.Flat.{NamedImage, Inputs, image_numbered, process_of}
+use Rattle.flat_state.specs.Flat.{Inputs, process_of}
 use Rattle.page_model.specs.Pages.{Slot}
 use Rattle.page_model.specs.Placement.{Placement, Due, Start, CopyOf, slots_of}
 use Rattle.page_model.specs.Moves.{touch_all}
-use Rattle.page_model.specs.Place.{copy_due, copies_from, enter_image, give_up_unless, place_change, space_of_process, is_borrower}
+use Rattle.page_model.specs.Place.{copy_due, copies_from, enter_image, give_up_unless, place_change, space_of_process, is_borrower, facts_of, facts_numbered}
 use Rattle.flat_state.specs.Journal.{appended}
 use Rattle.page_model.specs.Dues.{IsDue}
 use Rattle.kernel_model.specs.Start.{ImagesFit}
@@ -39,6 +39,7 @@ use Rattle.economy_laws.specs.Stretch.{begins_stretch, NoneBegins, copies_of, Is
 use Rattle.economy_laws.proofs.Spanning.{adds_most, units_added_false}
 use Rattle.economy_laws.proofs.Left.{serve_new, force_new, AllCopies, Left, ready}
 use Rattle.economy_laws.proofs.Stretching.{copying_left, starting_left, source_of, SleepStops, stretch}
+use Rattle.aout_image.specs.declared.Image.{Image}
 
 pub data Opens (ds : List Due) : Type 0 where
   Nothing : ds ≡ [] → Opens ds
@@ -67,17 +68,17 @@ from_copies : (child parent : ℕ → Page) (v : ℕ) (xs : List Slot) → AllCo
 from_copies child parent v [] = tt
 from_copies child parent v (x ∷ xs) = all_both (copy_due (child v) (parent v) x.state) (copies_from child parent (v + 1) xs) (one_copy (child v) (parent v) x.state) (from_copies child parent (v + 1) xs)
 
-exec_opens : (borrowed : Bool) (p : Placement) (next image sid : ℕ) (named : Option NamedImage) → p.due ≡ [] → Opens (give_up_unless borrowed (enter_image p next image named) sid).due
+exec_opens : (borrowed : Bool) (p : Placement) (next image sid : ℕ) (facts : Option Image) → p.due ≡ [] → Opens (give_up_unless borrowed (enter_image p next image facts) sid).due
 exec_opens borrowed p next image sid None e = Nothing (unless_due borrowed p sid ∙ e)
-exec_opens borrowed p next image sid (Some named) e = NewStack (Stack next 0) (unless_due borrowed (enter_image p next image (Some named)) sid)
+exec_opens borrowed p next image sid (Some facts) e = NewStack (Stack next 0) (unless_due borrowed (enter_image p next image (Some facts)) sid)
 
-change_opens : (images : List NamedImage) (p : Placement) (pid sid : ℕ) (borrowed : Bool) (next at : ℕ) (change : Change) → p.due ≡ [] → Opens (place_change images p pid sid borrowed next at change).due
+change_opens : (images : List Image) (p : Placement) (pid sid : ℕ) (borrowed : Bool) (next at : ℕ) (change : Change) → p.due ≡ [] → Opens (place_change images p pid sid borrowed next at change).due
 change_opens images p pid sid borrowed next at Keep e = Nothing e
 change_opens images p pid sid borrowed next at (Resize d s) e = Nothing ((drop_all_rest (dropped_pages p sid d s) p).1 ∙ e)
 change_opens images p pid sid borrowed next at (Fork child) e = copies_open (copies_from (Data next) (Data sid) 0 (slots_of p (Data sid 0)) ++ copies_from (Stack next) (Stack sid) 0 (slots_of p (Stack sid 0)))
     (all_both (copies_from (Data next) (Data sid) 0 (slots_of p (Data sid 0))) (copies_from (Stack next) (Stack sid) 0 (slots_of p (Stack sid 0))) (from_copies (Data next) (Data sid) 0 (slots_of p (Data sid 0))) (from_copies (Stack next) (Stack sid) 0 (slots_of p (Stack sid 0))))
 change_opens images p pid sid borrowed next at (Lend child) e = Nothing e
-change_opens images p pid sid borrowed next at (Exec image top) e = exec_opens borrowed p next image sid (image_numbered images image) e
+change_opens images p pid sid borrowed next at (Exec image top) e = exec_opens borrowed p next image sid (facts_numbered images image) e
 change_opens images p pid sid borrowed next at (Reap child) e = Nothing e
 change_opens images p pid sid borrowed next at Sleep e = Nothing e
 change_opens images p pid sid borrowed next at (End status) e = Nothing (unless_due borrowed p sid ∙ e)
@@ -97,8 +98,8 @@ turn_clear A s p (Notes e k i) = e
 turn_clear A s p (Begins e k i) = e
 
 step_opens : (A : Inputs) (s : State) (pid : ℕ) (u : Entry) → s.place.due ≡ []
-    → Opens (place_change A.images (touch_all s.place (pages_written s.point.flat pid (step_at A s.point pid))) pid (space_of_process (process_of s.point.flat pid)) (is_borrower s.point.flat.processes pid) s.point.flat.next_sid (place_at s u) (step_at A s.point pid).change).due
-step_opens A s pid u e = change_opens A.images (touch_all s.place (pages_written s.point.flat pid (step_at A s.point pid))) pid (space_of_process (process_of s.point.flat pid)) (is_borrower s.point.flat.processes pid) s.point.flat.next_sid (place_at s u) (step_at A s.point pid).change
+    → Opens (place_change (facts_of A.images) (touch_all s.place (pages_written s.point.flat pid (step_at A s.point pid))) pid (space_of_process (process_of s.point.flat pid)) (is_borrower s.point.flat.processes pid) s.point.flat.next_sid (place_at s u) (step_at A s.point pid).change).due
+step_opens A s pid u e = change_opens (facts_of A.images) (touch_all s.place (pages_written s.point.flat pid (step_at A s.point pid))) pid (space_of_process (process_of s.point.flat pid)) (is_borrower s.point.flat.processes pid) s.point.flat.next_sid (place_at s u) (step_at A s.point pid).change
     (touched_due (pages_written s.point.flat pid (step_at A s.point pid)) s.place ∙ e)
 
 pub opens : (A : Inputs) (s : State) (u : Entry) → next_unit A s ≡ Some u → begins_stretch u ≡ true → Opens (after A s u).place.due

@@ -12,7 +12,7 @@ use Rattle.flat_state.specs.Flat.{Inputs, process_of}
 use Rattle.page_model.specs.Pages.{Filling, Zeros, OfImage, is_dirty_by}
 use Rattle.flat_state.specs.PageNames.{same_page, is_among, number_of, beside, pages_from}
 use Rattle.page_model.specs.Placement.{Placement, Transfer, state_of, filling_of, is_dirty, slots_of, sharers}
-use Rattle.page_model.specs.Place.{space_of_process}
+use Rattle.page_model.specs.Place.{space_of_process, facts_of}
 use Rattle.page_model.specs.Runs.{run_put, run_put_by, run_up, is_seated, is_near, most_written}
 use Rattle.page_model.specs.Serve.{force_entry, is_full, read_entry_if, bring_entry_by, feed_entry_by, serve_entry_by, serve_entry}
 use Rattle.page_model.specs.Ownership.{OneOwner, OwnsBlocks, text_pieces_while}
@@ -178,11 +178,11 @@ plain_calm A s u q n m d c = subst (λ (p : Placement). Calm p q) (sym (plain_pl
 -- a flat unit
 flat_calm : (A : Inputs) (s : State) (u : Entry) (q : Page) (pid : ℕ) → process_of_entry u ≡ Some pid → Unmarked A s u q → TextShared (after A s u).place q → Calm s.place q → Calm (after A s u).place q
 unfolding after
-flat_calm A s (entries.Ran p n) q pid e m t c = place_step_calm A.images s.point.flat p (place_at s (entries.Ran p n)) (step_writes A s p) (step_at A s.point p).change s.place q m t c
-flat_calm A s (entries.Grew p n) q pid e m t c = place_step_calm A.images s.point.flat p (place_at s (entries.Grew p n)) (step_writes A s p) (step_at A s.point p).change s.place q m t c
-flat_calm A s (entries.Call p n b r0 r1) q pid e m t c = place_step_calm A.images s.point.flat p (place_at s (entries.Call p n b r0 r1)) (step_writes A s p) (step_at A s.point p).change s.place q m t c
-flat_calm A s (entries.Sleeps p) q pid e m t c = place_step_calm A.images s.point.flat p (place_at s (entries.Sleeps p)) (step_writes A s p) (step_at A s.point p).change s.place q m t c
-flat_calm A s (entries.Ended p n) q pid e m t c = place_step_calm A.images s.point.flat p (place_at s (entries.Ended p n)) (step_writes A s p) (step_at A s.point p).change s.place q m t c
+flat_calm A s (entries.Ran p n) q pid e m t c = place_step_calm (facts_of A.images) s.point.flat p (place_at s (entries.Ran p n)) (step_writes A s p) (step_at A s.point p).change s.place q m t c
+flat_calm A s (entries.Grew p n) q pid e m t c = place_step_calm (facts_of A.images) s.point.flat p (place_at s (entries.Grew p n)) (step_writes A s p) (step_at A s.point p).change s.place q m t c
+flat_calm A s (entries.Call p n b r0 r1) q pid e m t c = place_step_calm (facts_of A.images) s.point.flat p (place_at s (entries.Call p n b r0 r1)) (step_writes A s p) (step_at A s.point p).change s.place q m t c
+flat_calm A s (entries.Sleeps p) q pid e m t c = place_step_calm (facts_of A.images) s.point.flat p (place_at s (entries.Sleeps p)) (step_writes A s p) (step_at A s.point p).change s.place q m t c
+flat_calm A s (entries.Ended p n) q pid e m t c = place_step_calm (facts_of A.images) s.point.flat p (place_at s (entries.Ended p n)) (step_writes A s p) (step_at A s.point p).change s.place q m t c
 flat_calm A s (entries.Out p bytes) q pid e m t c = c
 flat_calm A s (entries.Refused p) q pid e m t c = c
 flat_calm A s _ q pid e m t c = absurd cc

@@ -14,7 +14,7 @@ use Rattle.flat_state.specs.declared.change.Change.{Change}
 use Rattle.flat_state.specs.declared.change.Change.TheVariants.{Keep, Resize, Fork, Lend, Exec, Reap, Sleep, End}
 use Rattle.page_model.specs.Pages.{SpacePages, numbered, data_in, stack_in}
 use Rattle.page_model.specs.Placement.{space_number, slots_of, sharers, sharers_in}
-use Rattle.page_model.specs.Place.{data_count, stack_count}
+use Rattle.page_model.specs.Place.{data_count, stack_count, facts_of}
 use Rattle.kernel_model.specs.Kernel.{Life, HoldsSpace, Kernel, Proc}
 use Rattle.kernel_model.specs.Coupled.{SameTables, Fits, text_of}
 use Rattle.kernel_model.specs.Sound.{TextFits}
@@ -32,6 +32,7 @@ use Rattle.kernel_laws.proofs.Machine.Processes.{Stepping, stepping}
 use Rattle.flat_model.specs.Calls.{stack_pages_of}
 use Rattle.flat_model.specs.Step.{flat_step, data_pages_of as data_pages_in}
 use Rattle.flat_model.specs.Asked.{pieces_for, has_image, is_there, is_shared, text_wanted, image_wanted, change_wanted, wanted_in, wanted_if, asks_by, asks}
+use Rattle.kernel_laws.proofs.Machine.Images.{facts_in, facts_same}
 
 -- Sizes.
 
@@ -161,10 +162,10 @@ text_same image (suc n) blocks true named none many e = refl
 text_same image (suc n) blocks false named none many e = absurd (let h = many n refl in cc)
 
 image_same : (images : List NamedImage) (k : Kernel) (flat : FlatState) (image : ℕ) (o : Option NamedImage) → ImagesFit images → TextFits images k.place → Numbered k → IsNumbered flat → SameTables k flat → image_numbered images image ≡ o
-    → image_asked k.place k.next_sid image o ≡ image_wanted (is_shared flat image) flat.next_sid image o
+    → image_asked k.place k.next_sid image (facts_in o) ≡ image_wanted (is_shared flat image) flat.next_sid image o
 image_same images k flat image None i x c n t e = refl
 image_same images k flat image (Some named) i x c n t e =
-    ap (λ (sid : ℕ). image_asked k.place sid image (Some named)) t.next_sid
+    ap (λ (sid : ℕ). image_asked k.place sid image (Some named.image.facts)) t.next_sid
     ∙ ap (λ (ws : List Wanted). ws ++ (wanted (owners.Data flat.next_sid) (pieces (2 * data_pages_of named.image.facts)) ++ wanted (owners.Stack flat.next_sid) (pieces 2))) text
     ∙ sym (append_assoc (text_wanted (is_shared flat image) image named.image) (wanted (owners.Data flat.next_sid) (pieces (2 * data_pages_of named.image.facts))) (wanted (owners.Stack flat.next_sid) (pieces 2)))
   where
@@ -185,7 +186,7 @@ image_same images k flat image (Some named) i x c n t e =
 
 -- what a change wants, where the space has these sizes
 sizes_same : (images : List NamedImage) (k : Kernel) (flat : FlatState) (s : Space) (change : Change) → ImagesFit images → TextFits images k.place → Numbered k → IsNumbered flat → SameTables k flat
-    → data_count k.place s.sid ≡ data_pages_in s → stack_count k.place s.sid ≡ stack_pages_of s → change_asks images k.place s.sid k.next_sid change ≡ change_wanted images flat s change
+    → data_count k.place s.sid ≡ data_pages_in s → stack_count k.place s.sid ≡ stack_pages_of s → change_asks (facts_of images) k.place s.sid k.next_sid change ≡ change_wanted images flat s change
 sizes_same images k flat s Keep i x c n t d u = refl
 sizes_same images k flat s (Resize data_pages stack_pages) i x c n t d u =
     ap₂ (λ (v w : List Wanted). v ++ w)
@@ -196,15 +197,15 @@ sizes_same images k flat s (Fork child) i x c n t d u =
     ∙ ap₂ (λ (a b : ℕ). wanted (owners.Data flat.next_sid) (pieces (2 * a)) ++ (wanted (owners.Stack flat.next_sid) (pieces (2 * b)) ++ wanted (owners.U child) (u_pieces 2))) d u
     ∙ sym (append_assoc (pieces_for (owners.Data flat.next_sid) (data_pages_in s)) (pieces_for (owners.Stack flat.next_sid) (stack_pages_of s)) (pieces_for (owners.U child) 1))
 sizes_same images k flat s (Lend child) i x c n t d u = refl
-sizes_same images k flat s (Exec image top) i x c n t d u = image_same images k flat image (image_numbered images image) i x c n t refl
+sizes_same images k flat s (Exec image top) i x c n t d u = ap (image_asked k.place k.next_sid image) (facts_same images image) ∙ image_same images k flat image (image_numbered images image) i x c n t refl
 sizes_same images k flat s (Reap child) i x c n t d u = refl
 sizes_same images k flat s Sleep i x c n t d u = refl
 sizes_same images k flat s (End status) i x c n t d u = refl
 
 pub change_same : (images : List NamedImage) (k : Kernel) (flat : FlatState) (pid : ℕ) (p : Process) (s : Space) (change : Change) → ImagesFit images → TextFits images k.place → Numbered k → IsNumbered flat → SameTables k flat
-    → process_of flat pid ≡ Some p → p.holding ≡ Holds s → asked images k pid change ≡ change_wanted images flat s change
+    → process_of flat pid ≡ Some p → p.holding ≡ Holds s → asked (facts_of images) k pid change ≡ change_wanted images flat s change
 change_same images k flat pid p s change i x c n t here holds =
-    ap (λ (l : Life). change_asks images k.place (space_of_life l) k.next_sid change) life
+    ap (λ (l : Life). change_asks (facts_of images) k.place (space_of_life l) k.next_sid change) life
     ∙ sizes_same images k flat s change i x c n t (data_counted s (numbered space_number s.sid k.place.spaces) fits) (stack_counted s (numbered space_number s.sid k.place.spaces) fits)
   where
     step : Stepping k flat pid p s
@@ -219,19 +220,19 @@ change_same images k flat pid p s change i x c n t here holds =
 -- The step.
 
 pub step_same : (A : Inputs) (k : Kernel) (flat : FlatState) (pid : ℕ) → ImagesFit A.images → TextFits A.images k.place → Numbered k → IsNumbered flat → SameTables k flat → can_step flat pid ≡ true
-    → asked A.images k pid (flat_step A flat pid false).change ≡ asks A flat pid
+    → asked (facts_of A.images) k pid (flat_step A flat pid false).change ≡ asks A flat pid
 unfolding asks
 step_same A k flat pid i x c n t can = go (process_of flat pid) refl can ∙ ap (λ (b : Bool). asks_by b A flat pid) (sym can)
   where
     change : Change
     change = (flat_step A flat pid false).change
 
-    ready : (p : Process) (b : Bool) → process_of flat pid ≡ Some p → (h : Holding) → p.holding ≡ h → is_ready (record p { asleep = b; holding = h }) ≡ true → asked A.images k pid change ≡ wanted_in A.images flat change h
+    ready : (p : Process) (b : Bool) → process_of flat pid ≡ Some p → (h : Holding) → p.holding ≡ h → is_ready (record p { asleep = b; holding = h }) ≡ true → asked (facts_of A.images) k pid change ≡ wanted_in A.images flat change h
     ready p true here h holds e = absurd cc
     ready p false here (Holds s) holds e = change_same A.images k flat pid p s change i x c n t here holds
     ready p false here (Lends sid child) holds e = absurd cc
     ready p false here (Zombie status) holds e = absurd cc
 
-    go : (o : Option Process) → process_of flat pid ≡ o → ready_if o ≡ true → asked A.images k pid change ≡ wanted_if A.images flat change (process_of flat pid)
+    go : (o : Option Process) → process_of flat pid ≡ o → ready_if o ≡ true → asked (facts_of A.images) k pid change ≡ wanted_if A.images flat change (process_of flat pid)
     go None here e = absurd cc
     go (Some p) here e = ready p p.asleep here p.holding refl e ∙ ap (wanted_if A.images flat change) (sym here)

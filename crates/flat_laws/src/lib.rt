@@ -41,6 +41,7 @@ ghost use Rattle.flat_model.specs.Shown.{shown};
 ghost use Rattle.touch_laws.specs.Whole.{EachWhole};
 ghost use Rattle.flat_laws.specs.Shown.{AreOf, IsCallOf};
 ghost use Rattle.flat_laws.specs.Others.{HoldsStill, is_refusal, is_writing};
+ghost use Rattle.page_model.specs.Place.{facts_of};
 
 /// The next entry of a process's step follows from the flat state, from whether its pieces were refused, and from
 /// whether it has bytes out. So two entries of a process that may come next, neither of which says that pieces found no
@@ -86,10 +87,10 @@ pub fn numbers_are_kept()
 pub fn asks_agree()
     ensures change { (images : List NamedImage) (k : Kernel) (flat : FlatState) (pid : ℕ) (p : Process) (s : Space) (change : Change)
         → ImagesFit images → TextFits images k.place → Numbered k → IsNumbered flat → SameTables k flat → process_of flat pid ≡ Some p
-        → p.holding ≡ Holds s → asked images k pid change ≡ change_wanted images flat s change }
+        → p.holding ≡ Holds s → asked (facts_of images) k pid change ≡ change_wanted images flat s change }
     ensures step { (A : Inputs) (k : Kernel) (flat : FlatState) (pid : ℕ) → ImagesFit A.images → TextFits A.images k.place → Numbered k
         → IsNumbered flat → SameTables k flat → can_step flat pid ≡ true
-        → asked A.images k pid (flat_step A flat pid false).change ≡ asks A flat pid }
+        → asked (facts_of A.images) k pid (flat_step A flat pid false).change ≡ asks A flat pid }
 {}
 
 /// A process's next instruction, with its call where it is one, touches 28 pages at most, in each state whose spaces

@@ -81,10 +81,10 @@ pub fn paging_may()
 /// change, and wants no other pieces than those that it asks for; and these are exactly what each owner needs beyond what
 /// it holds. A process of the flat state is ready so, and who is a zombie there lives no more.
 pub fn changes_ask()
-    ensures allows { (images : List NamedImage) (k : Kernel) (pid : ℕ) (change : AnyChange)
+    ensures allows { (images : List Image) (k : Kernel) (pid : ℕ) (change : AnyChange)
         → OwnsFrames k.place → Numbered k → ReadyFor k pid change → MayChange images k pid change }
     ensures wants { (k : Kernel) (pid : ℕ) (change : AnyChange) → Numbered k → ReadyFor k pid change → WantsThese k pid change }
-    ensures asks { (images : List NamedImage) (k : Kernel) (pid : ℕ) (regs : Regs) (e : Entry) (change : AnyChange)
+    ensures asks { (images : List Image) (k : Kernel) (pid : ℕ) (regs : Regs) (e : Entry) (change : AnyChange)
         → MayChange images k pid change → WantsThese k pid change
         → AsksFor k (change_step images k pid regs e change) (asked images k pid change) }
     ensures ready { (k : Kernel) (flat : FlatState) (pid : ℕ) (q : Process) (s : Space) (change : AnyChange)

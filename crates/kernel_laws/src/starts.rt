@@ -1,9 +1,10 @@
-ghost use Rattle.std.specs.Prelude.{◌≡◌, ℕ, ◌+◌, List, [], ◌∷◌, ◌++◌, length, map, Some, Ok};
+ghost use Rattle.std.specs.Prelude.{◌≡◌, ℕ, ◌+◌, List, [], ◌∷◌, ◌++◌, length, Some, Ok};
 ghost use Rattle.aout_image.specs.declared.Image.{Image};
 ghost use Rattle.swap_book.specs.Holdings.{Holdings};
 ghost use Rattle.swap_book.specs.Placing.{place_all};
 ghost use Rattle.flat_state.specs.Flat.{NamedImage, Inputs, image_numbered};
 ghost use Rattle.page_model.specs.Placement.{Starting, start_placement};
+ghost use Rattle.page_model.specs.Place.{facts_of};
 ghost use Rattle.page_model.specs.Dues.{DueStand};
 ghost use Rattle.kernel_model.specs.Kernel.{Kernel};
 ghost use Rattle.kernel_model.specs.Sound.{Sound};
@@ -15,7 +16,7 @@ ghost use Rattle.kernel_model.specs.Start.{start_kernel, new_kernel, begin_step,
 /// the machine with those before it, once that one began. It finds its pieces behind theirs.
 pub fn starts_begin()
     ensures none { (A : Inputs) (frames : List (List ℕ)) → A.first ≡ []
-        → start_kernel A [] [] frames ≡ new_kernel (map (λ (named : NamedImage). named.image.facts) A.images) A.frames frames }
+        → start_kernel A [] [] frames ≡ new_kernel (facts_of A.images) A.frames frames }
     ensures next { (A : Inputs) (first : List Starting) (hs found : Holdings) (frames : List (List ℕ)) (number : ℕ) (named : NamedImage)
         → AreStarting A.images A.first first → image_numbered A.images number ≡ Some named
         → start_kernel (with_first A number) (first ++ starting_in number named ∷ []) found frames

@@ -10,6 +10,7 @@ ghost use Rattle.kernel_model.specs.Start.{ImagesFit};
 ghost use Rattle.kernel_model.specs.Asks.{asked};
 ghost use Rattle.kernel_model.specs.Unit.{KernelUnit, KernelState, FindUnit, DoneUnit, with_found, state_after, states_after};
 ghost use Rattle.kernel_model.specs.Invariant.{Invariant, May, MayAll, Waits, CanStart, started};
+ghost use Rattle.page_model.specs.Place.{facts_of};
 
 /// All that is so of the kernel between two units is so at the start of a run, after each unit that it may make, and after
 /// each list of units, one after another: each frame and each block of swap has one owner, no two numbers are one, what is
@@ -33,7 +34,7 @@ pub fn pieces_wait()
     ensures image { (size : ℕ) (images : List NamedImage) (m : KernelState) → Invariant size images m
         → image_after (with_found m) m.image ≡ image_after m.kernel m.image }
     ensures found { (size : ℕ) (images : List NamedImage) (m : KernelState) (found : Holdings) (pid : ℕ) (change : AnyChange)
-        → Invariant size images m → place_all size m.kernel.holdings (asked images m.kernel pid change) ≡ Ok found
+        → Invariant size images m → place_all size m.kernel.holdings (asked (facts_of images) m.kernel pid change) ≡ Ok found
         → Waits size images (state_after images m (FindUnit found)) pid change }
     ensures waits { (size : ℕ) (images : List NamedImage) (reads : List (List (List ℕ))) (m : KernelState) (pid : ℕ) (change : AnyChange)
         → Waits size images m pid change → MayAll size images m (map DoneUnit reads)

@@ -11,11 +11,10 @@ use Rattle.swap_book.specs.Holdings.{Holdings}
 use Rattle.swap_book.specs.Placing.{Wanted, wanted, place_all}
 use Rattle.flat_state.specs.declared.change.Change.{Change}
 use Rattle.flat_state.specs.declared.change.Change.TheVariants.{Resize, Fork, Lend, Exec, End}
-use Rattle.flat_state.specs.Flat.{NamedImage, image_numbered}
 use Rattle.page_model.specs.Pages.{numbered}
 use Rattle.page_model.specs.Frames.{times}
 use Rattle.page_model.specs.Placement.{Placement, Starting, space_number, slots_of, sharers, start_placement}
-use Rattle.page_model.specs.Place.{data_count, stack_count}
+use Rattle.page_model.specs.Place.{data_count, stack_count, facts_numbered}
 use Rattle.kernel_model.specs.Kernel.{Life, Kernel, Proc}
 use Rattle.kernel_model.specs.Sound.{lives}
 use Rattle.kernel_model.specs.ChangeStep.{space_of_life, life_of_proc, gave_back}
@@ -34,18 +33,18 @@ abbrev pub image_pieces : Placement → ℕ → ℕ → Image → List Wanted
 image_pieces p sid image facts =
     text_asked (sharers p image) image (2 * length (slots_of p (Text image 0))) ++ (wanted (owners.Data sid) (pieces (2 * data_pages_of facts)) ++ wanted (owners.Stack sid) (pieces 2))
 
-abbrev pub image_asked : Placement → ℕ → ℕ → Option NamedImage → List Wanted
+abbrev pub image_asked : Placement → ℕ → ℕ → Option Image → List Wanted
 image_asked p sid image None = []
-image_asked p sid image (Some named) = image_pieces p sid image named.image.facts
+image_asked p sid image (Some facts) = image_pieces p sid image facts
 
 -- growth and break want the further pieces of data and stack; fork those of the child's data, stack and u page; vfork
 -- those of its u page; and execve those of the new space
-abbrev pub change_asks : List NamedImage → Placement → ℕ → ℕ → Change → List Wanted
+abbrev pub change_asks : List Image → Placement → ℕ → ℕ → Change → List Wanted
 change_asks images p sid next_sid (Resize data_pages stack_pages) = further (owners.Data sid) (data_count p sid) data_pages ++ further (owners.Stack sid) (stack_count p sid) stack_pages
 change_asks images p sid next_sid (Fork child) =
     wanted (owners.Data next_sid) (pieces (2 * data_count p sid)) ++ (wanted (owners.Stack next_sid) (pieces (2 * stack_count p sid)) ++ wanted (owners.U child) (u_pieces 2))
 change_asks images p sid next_sid (Lend child) = wanted (owners.U child) (u_pieces 2)
-change_asks images p sid next_sid (Exec image top) = image_asked p next_sid image (image_numbered images image)
+change_asks images p sid next_sid (Exec image top) = image_asked p next_sid image (facts_numbered images image)
 change_asks images p sid next_sid _ = []
 
 abbrev pub HasSpace : Placement → ℕ → Type 0
@@ -71,7 +70,7 @@ MayAsk p ps sid borrowed next_sid (End status) = OneEach ps
 MayAsk p ps sid borrowed next_sid _ = Unit {0}
 
 -- the pieces that a change of a process wants
-abbrev pub asked : List NamedImage → Kernel → ℕ → Change → List Wanted
+abbrev pub asked : List Image → Kernel → ℕ → Change → List Wanted
 asked images k pid change = change_asks images k.place (space_of_life (life_of_proc (numbered (λ (q : Proc). q.pid) pid k.processes))) k.next_sid change
 
 -- a process that lives and has this: its change wants no other pieces

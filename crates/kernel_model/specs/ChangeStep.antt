@@ -8,13 +8,13 @@ use Rattle.swap_book.specs.declared.Owner.TheVariants as owners
 use Rattle.swap_book.specs.Holdings.{Holdings, kept}
 use Rattle.flat_state.specs.declared.change.Change.{Change}
 use Rattle.flat_state.specs.declared.change.Change.TheVariants.{Keep, Resize, Fork, Lend, Exec, Reap, Sleep, End}
-use Rattle.flat_state.specs.Flat.{NamedImage}
 use Rattle.flat_state.specs.Change.{with_results}
 use Rattle.flat_state.specs.Journal.{append}
 use Rattle.page_model.specs.Pages.{numbered}
 use Rattle.page_model.specs.Placement.{Placement, image_of, sharers}
 use Rattle.page_model.specs.Place.{place_change}
 use Rattle.kernel_model.specs.Kernel.{Life, New, HoldsSpace, LendsSpace, Ended, Proc, StartBytes, Kernel}
+use Rattle.aout_image.specs.declared.Image.{Image}
 
 -- Records.
 
@@ -103,7 +103,7 @@ abbrev pub gave_back : Life → Bool
 gave_back New = true
 gave_back _ = false
 
-abbrev pub change_by : List NamedImage → Kernel → Proc → Entry → Change → Kernel
+abbrev pub change_by : List Image → Kernel → Proc → Entry → Change → Kernel
 change_by images k p e change =
     let sid = space_of_life p.life in
     let place = place_change images k.place p.pid sid (gave_back p.life) k.next_sid (length (append k.journal e)) change in
@@ -117,12 +117,12 @@ change_by images k p e change =
       journal = append k.journal e;
     }
 
-abbrev pub change_if : List NamedImage → Kernel → Regs → Entry → Change → Option Proc → Kernel
+abbrev pub change_if : List Image → Kernel → Regs → Entry → Change → Option Proc → Kernel
 change_if images k regs e change None = k
 change_if images k regs e change (Some p) = change_by images k (record p { regs = regs }) e change
 
 -- an entry of a process, which is left with these registers, and its change; the pieces that it takes were found before
-abbrev pub change_step : List NamedImage → Kernel → ℕ → Regs → Entry → Change → Kernel
+abbrev pub change_step : List Image → Kernel → ℕ → Regs → Entry → Change → Kernel
 change_step images k pid regs e change = change_if images k regs e change (numbered (λ (p : Proc). p.pid) pid k.processes)
 
 -- one instruction ran, and left these registers; its writes were made before

@@ -1,5 +1,5 @@
 -- All that is so of a kernel between two units, and what each unit asks.
-use Rattle.std.specs.Prelude.{◌≡◌, ℕ, ◌*◌, ◌<◌, ◌≤◌, true, false, List, [], ◌∷◌, length, map, Option, Some, Ok}
+use Rattle.std.specs.Prelude.{◌≡◌, ℕ, ◌*◌, ◌<◌, ◌≤◌, true, false, List, [], ◌∷◌, length, Option, Some, Ok}
 use Rattle.vm_facts.specs.Answers.{ByteWrite}
 use Rattle.vm_facts.specs.declared.page.Page.{Page}
 use Rattle.vm_facts.specs.declared.page.PageState.TheVariants.{Unfilled, Valid}
@@ -17,7 +17,7 @@ use Rattle.flat_state.specs.declared.change.Change.TheVariants.{Exec}
 use Rattle.page_model.specs.Pages.{Zeros}
 use Rattle.page_model.specs.Placement.{Placement, Due, CopyOf, Starting, IsThere, due_at, state_of, filling_of}
 use Rattle.page_model.specs.Hands.{hand_move}
-use Rattle.page_model.specs.Place.{due_after, put_step}
+use Rattle.page_model.specs.Place.{due_after, put_step, facts_of}
 use Rattle.page_model.specs.Serve.{source_for}
 use Rattle.page_model.specs.Swapper.{is_out}
 use Rattle.page_model.specs.Conditions.{EachPage, CanEnter, HasSeat, IsShared, HaveParts}
@@ -149,7 +149,7 @@ pub record MayComplete (size : ℕ) (images : List NamedImage) (m : KernelState)
   pub child : NamesChild m.flat change
   pub enters : EntersImage images change
   pub ready : ReadySpace m.kernel.place space.sid (has_lender m.kernel.processes pid) change
-  pub pieces : place_all size m.kernel.holdings (asked images m.kernel pid change) ≡ Ok m.found
+  pub pieces : place_all size m.kernel.holdings (asked (facts_of images) m.kernel pid change) ≡ Ok m.found
 
 abbrev pub May : ℕ → List NamedImage → KernelState → KernelUnit → Type 0
 May size images m (ZeroUnit q) = MayZero m.kernel.place q
@@ -175,7 +175,7 @@ MayAll size images m (u ∷ us) = May size images m u × MayAll size images (sta
 -- all is so that is between two units, and the pieces that wait are those that a change of the process asks for
 pub record Waits (size : ℕ) (images : List NamedImage) (m : KernelState) (pid : ℕ) (change : Change) : Type 0 where
   pub invariant : Invariant size images m
-  pub pieces : place_all size m.kernel.holdings (asked images m.kernel pid change) ≡ Ok m.found
+  pub pieces : place_all size m.kernel.holdings (asked (facts_of images) m.kernel pid change) ≡ Ok m.found
 
 -- The start.
 
@@ -191,4 +191,4 @@ pub record CanStart (A : Inputs) (first : List Starting) (hs : Holdings) (frames
   pub some : 0 < A.frames
   pub tokens : length frames ≡ A.frames
   pub room : 512 * A.swap_blocks ≤ length image
-  pub pieces : first_found A.swap_blocks (map (λ (named : NamedImage). named.image.facts) A.images) first A.frames ≡ Ok hs
+  pub pieces : first_found A.swap_blocks (facts_of A.images) first A.frames ≡ Ok hs

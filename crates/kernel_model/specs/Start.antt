@@ -9,6 +9,7 @@ use Rattle.swap_book.specs.Holdings.{Holdings}
 use Rattle.page_model.specs.Placement.{Placement, Start, Starting, new_pages, start_placement}
 use Rattle.kernel_model.specs.Kernel.{HoldsSpace, Proc, StartBytes, Kernel, life_of}
 use Rattle.kernel_model.specs.Sound.{DataFits}
+use Rattle.page_model.specs.Place.{facts_of}
 
 abbrev pub kept_of : Process → Proc
 kept_of q = record { pid = q.pid; parent = q.parent; regs = q.regs; life = life_of q.holding; asleep = q.asleep }
@@ -20,7 +21,7 @@ start_of s = record { page = Stack s.sid 0; bytes = s.stack_bytes }
 -- with the first processes' images, their holdings, and some bytes in each frame
 abbrev pub start_kernel : Inputs → List Starting → Holdings → List (List ℕ) → Kernel
 start_kernel A first hs frames = record {
-  place = start_placement (map (λ (named : NamedImage). named.image.facts) A.images) first A.frames;
+  place = start_placement (facts_of A.images) first A.frames;
   holdings = hs;
   processes = map kept_of (start_state A).processes;
   next_pid = (start_state A).next_pid;

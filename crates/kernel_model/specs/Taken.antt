@@ -8,7 +8,6 @@ use Rattle.swap_book.specs.Owners.{same_owner, u_pieces}
 use Rattle.swap_book.specs.Placing.{Wanted}
 use Rattle.flat_state.specs.declared.change.Change.{Change}
 use Rattle.flat_state.specs.declared.change.Change.TheVariants.{Reap}
-use Rattle.flat_state.specs.Flat.{NamedImage}
 use Rattle.page_model.specs.Pages.{numbered}
 use Rattle.page_model.specs.Placement.{slots_of, sharers}
 use Rattle.page_model.specs.Place.{data_count, stack_count}
@@ -17,6 +16,7 @@ use Rattle.page_model.specs.Ownership.{text_pieces_while, u_blocks}
 use Rattle.kernel_model.specs.Kernel.{Life, Kernel, Proc}
 use Rattle.kernel_model.specs.Sound.{lives}
 use Rattle.kernel_model.specs.ChangeStep.{space_of_life, life_of_proc, gave_back}
+use Rattle.aout_image.specs.declared.Image.{Image}
 
 -- the lengths of the pieces that an owner needs in a machine
 abbrev pub needed : Kernel → Owner → List ℕ
@@ -40,10 +40,10 @@ MayReap ps (Reap child) = lives ps child ≡ false
 MayReap ps _ = Unit {0}
 
 -- what a change of a process asks of the whole machine, by what the process has
-pub record MayChangeBy (images : List NamedImage) (k : Kernel) (life : Life) (change : Change) : Type 0 where
+pub record MayChangeBy (images : List Image) (k : Kernel) (life : Life) (change : Change) : Type 0 where
   pub can : CanChange k.place (space_of_life life) (gave_back life) k.next_sid change
   pub forgets : MayForget images k.place (space_of_life life) (gave_back life) k.next_sid change
   pub reaps : MayReap k.processes change
 
-abbrev pub MayChange : List NamedImage → Kernel → ℕ → Change → Type 0
+abbrev pub MayChange : List Image → Kernel → ℕ → Change → Type 0
 MayChange images k pid change = MayChangeBy images k (life_of_proc (numbered (λ (p : Proc). p.pid) pid k.processes)) change

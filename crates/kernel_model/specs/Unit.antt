@@ -19,6 +19,8 @@ use Rattle.page_model.specs.Stored.{stored_at, store_at}
 use Rattle.kernel_model.specs.Kernel.{Kernel, Proc, Life, New, HoldsSpace, LendsSpace, Ended, zero_step, copy_step, get_step, reclaim_step, hand_step, push_step, done_step, write_step, note_step, out_step, in_step, image_after}
 use Rattle.kernel_model.specs.UPage.{u_page, regs_in}
 use Rattle.kernel_model.specs.ChangeStep.{change_step, ran_by, pass_step, space_of_life}
+use Rattle.page_model.specs.Place.{facts_of}
+use Rattle.aout_image.specs.declared.Image.{Image}
 
 -- Spaces that are lent.
 
@@ -39,18 +41,18 @@ has_lender [] pid = false
 has_lender (p ∷ ps) pid = lends_life pid p.life || has_lender ps pid
 
 -- who has a space of its own, or keeps the one that it borrowed; a space that it lends passes to the child
-abbrev pub keeps_step : List NamedImage → Kernel → ℕ → Regs → Entry → Change → Kernel
+abbrev pub keeps_step : List Image → Kernel → ℕ → Regs → Entry → Change → Kernel
 keeps_step images k pid regs e (Lend child) = pass_step (change_step images k pid regs e (Lend child)) pid child
 keeps_step images k pid regs e change = change_step images k pid regs e change
 
 -- who borrowed its space gives it back before a new image and before its end
-abbrev pub back_step : List NamedImage → Kernel → ℕ → Regs → Entry → Change → Kernel
+abbrev pub back_step : List Image → Kernel → ℕ → Regs → Entry → Change → Kernel
 back_step images k pid regs e (Exec image top) = change_step images (pass_step k pid (lender_among k.processes pid)) pid regs e (Exec image top)
 back_step images k pid regs e (End status) = change_step images (pass_step k pid (lender_among k.processes pid)) pid regs e (End status)
 back_step images k pid regs e change = keeps_step images k pid regs e change
 
 -- an entry of a process with its change, and with the space that passes, by whether the process borrowed its space
-abbrev pub passing_change : Bool → List NamedImage → Kernel → ℕ → Regs → Entry → Change → Kernel
+abbrev pub passing_change : Bool → List Image → Kernel → ℕ → Regs → Entry → Change → Kernel
 passing_change true = back_step
 passing_change false = keeps_step
 
@@ -117,7 +119,7 @@ pub record KernelState : Type 0 where
 abbrev pub with_found : KernelState → Kernel
 with_found m = record (m.kernel) { holdings = m.found }
 
-abbrev pub kernel_step : List NamedImage → KernelState → KernelUnit → Kernel
+abbrev pub kernel_step : List Image → KernelState → KernelUnit → Kernel
 kernel_step images m (ZeroUnit q) = zero_step m.kernel q
 kernel_step images m (CopyUnit q) = copy_step m.kernel q
 kernel_step images m (GetUnit q lo n) = get_step m.kernel q lo n
@@ -134,7 +136,7 @@ kernel_step images m (OutUnit pid) = out_step m.kernel pid
 kernel_step images m (InUnit pid) = in_step m.kernel pid (regs_in (stored_at m.image (block_in m.kernel.holdings (owners.U pid) 0)))
 
 -- after a change no pieces wait
-abbrev pub found_after : List NamedImage → KernelState → KernelUnit → Holdings
+abbrev pub found_after : List Image → KernelState → KernelUnit → Holdings
 found_after images m (FindUnit found) = found
 found_after images m (ChangeUnit pid regs e change) = let k : Kernel = kernel_step images m (ChangeUnit pid regs e change) in k.holdings
 found_after images m u = m.found
@@ -153,7 +155,7 @@ flat_after images flat (ChangeUnit pid regs e change) = apply_change images flat
 flat_after images flat u = flat
 
 abbrev pub state_after : List NamedImage → KernelState → KernelUnit → KernelState
-state_after images m u = record { kernel = kernel_step images m u; found = found_after images m u; image = swap_after m u; flat = flat_after images m.flat u }
+state_after images m u = record { kernel = kernel_step (facts_of images) m u; found = found_after (facts_of images) m u; image = swap_after m u; flat = flat_after images m.flat u }
 
 abbrev pub states_after : List NamedImage → KernelState → List KernelUnit → KernelState
 states_after images m [] = m

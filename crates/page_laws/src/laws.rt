@@ -1,5 +1,5 @@
 ghost use Rattle.std.specs.Prelude.{◌≡◌, ◌≢◌, ◌⊎◌, ℕ, ◌+◌, ◌*◌, ◌<◌, ◌≤◌, Bool, true, false, List, [], ◌∷◌, length, Some, None, IsSome};
-ghost use Rattle.flat_state.specs.Flat.{FlatState, NamedImage, process_of};
+ghost use Rattle.flat_state.specs.Flat.{FlatState, process_of};
 ghost use Rattle.vm_facts.specs.declared.page.Page.{Page};
 ghost use Rattle.vm_facts.specs.declared.page.Page.TheVariants.{Data, Stack, Text};
 ghost use Rattle.vm_facts.specs.declared.page.PageState.TheVariants.{Valid, Going, Unfilled, OnSwap};
@@ -49,7 +49,7 @@ pub fn start_stands()
 /// of serving a page.
 pub fn ownership_kept()
     ensures entry { (locked : List Page) (at : ℕ) (p : Placement) (e : Entry) → OwnsFrames p → CanPlace p e → OwnsFrames (place_entry locked at p e) }
-    ensures change { (images : List NamedImage) (flat : FlatState) (pid at : ℕ) (written : List Page) (change : AnyChange) (p : Placement)
+    ensures change { (images : List Image) (flat : FlatState) (pid at : ℕ) (written : List Page) (change : AnyChange) (p : Placement)
         → OwnsFrames p
         → CanChange (touch_all p written) (space_of_process (process_of flat pid)) (is_borrower flat.processes pid) flat.next_sid change
         → OwnsFrames (place_step images flat pid at written change p) }
@@ -64,7 +64,7 @@ pub fn ownership_kept()
 pub fn blocks_kept()
     ensures entry { (size : ℕ) (lives : ℕ → Bool) (hs : Holdings) (locked : List Page) (at : ℕ) (p : Placement) (e : Entry)
         → OneOwner size lives p hs → CanPlace p e → EntryShared p e → OneOwner size lives (place_entry locked at p e) hs }
-    ensures text { (images : List NamedImage) (p : Placement) (pid sid : ℕ) (borrowed : Bool) (next_sid at : ℕ) (change : AnyChange)
+    ensures text { (images : List Image) (p : Placement) (pid sid : ℕ) (borrowed : Bool) (next_sid at : ℕ) (change : AnyChange)
         → TextAside p → MayForget images p sid borrowed next_sid change
         → TextAside (place_change images p pid sid borrowed next_sid at change) }
     ensures places { (size : ℕ) (lives : ℕ → Bool) (p : Placement) (hs : Holdings) (q : Page) → OneOwner size lives p hs
@@ -135,7 +135,7 @@ pub fn others_same()
     ensures residence { (p : Placement) (pid : ℕ) (out : Bool) (at : ℕ) (b : Bytes) (w : Page) → SamePage p (moved p pid out at) b b w }
     ensures u_page { (size pid : ℕ) (hs : Holdings) (image bytes : List ℕ) (w : Page) → IsBook size hs → 512 * size ≤ length image
         → length bytes ≡ 1024 → stored hs (store_at image (block_in hs (U pid) 0) bytes) w ≡ stored hs image w }
-    ensures change { (images : List NamedImage) (p : Placement) (pid sid new at : ℕ) (lent : Bool) (x : AnyChange) (b c : Bytes) (w : Page)
+    ensures change { (images : List Image) (p : Placement) (pid sid new at : ℕ) (lent : Bool) (x : AnyChange) (b c : Bytes) (w : Page)
         → IsNew p new → SameBytes b c w → SamePage p (place_change images p pid sid lent new at x) b c w }
 {}
 
@@ -226,7 +226,7 @@ pub fn due_kept()
     ensures fork { (p : Placement) (parent child : ℕ) → IsNew p child → DueStand (fork_space p parent child) }
     ensures enter { (p : Placement) (sid image : ℕ) (facts : Image) → IsNew p sid → DueStand (enter_space p sid image facts) }
     ensures write { (p : Placement) (q : Page) → DueStand p → DueStand (touch p q) }
-    ensures changes { (images : List NamedImage) (p : Placement) (pid sid : ℕ) (borrowed : Bool) (next_sid at : ℕ) (change : AnyChange)
+    ensures changes { (images : List Image) (p : Placement) (pid sid : ℕ) (borrowed : Bool) (next_sid at : ℕ) (change : AnyChange)
         → p.due ≡ [] → CanChange p sid borrowed next_sid change → ApartFrom sid borrowed next_sid change
         → DueStand (place_change images p pid sid borrowed next_sid at change) }
 {}
@@ -292,9 +292,9 @@ pub fn moves_write_their_run()
 pub fn frames_are_left()
     ensures entry { (locked : List Page) (at : ℕ) (p : Placement) (e : Entry) (q : Page) (f : ℕ) → OwnsFrames p → CanPlace p e
         → frame_of (state_of p q) ≡ Some f → StaysOrTaken p e (place_entry locked at p e) q f }
-    ensures change { (images : List NamedImage) (p : Placement) (pid sid next at : ℕ) (lent : Bool) (change : AnyChange) (q : Page)
+    ensures change { (images : List Image) (p : Placement) (pid sid next at : ℕ) (lent : Bool) (change : AnyChange) (q : Page)
         → IsNew p next → StaysOrGivenUp p sid lent change (place_change images p pid sid lent next at change) q }
-    ensures dirty { (images : List NamedImage) (p : Placement) (pid sid new at f : ℕ) (lent : Bool) (x : AnyChange) (q : Page) → IsNew p new
+    ensures dirty { (images : List Image) (p : Placement) (pid sid new at f : ℕ) (lent : Bool) (x : AnyChange) (q : Page) → IsNew p new
         → IsDirtyIn p q f → DirtyOrGivenUp sid lent x (place_change images p pid sid lent new at x) q f }
     ensures written { (locked : List Page) (at : ℕ) (p : Placement) (e : Entry) (q : Page) (f : ℕ) → OwnsFrames p → CanPlace p e
         → IsUnwritten p q f → StaysOrWritten p e (place_entry locked at p e) q f }

@@ -10,10 +10,10 @@ use Rattle.page_model.specs.Pages.{numbered, frame_of, is_valid, SpacePages}
 use Rattle.flat_state.specs.PageNames.{number_of, pages_from, is_among}
 use Rattle.flat_state.specs.declared.change.Change.{Change}
 use Rattle.flat_state.specs.declared.change.Change.TheVariants.{Resize, Fork, Exec, End}
-use Rattle.page_model.specs.Place.{data_count, stack_count, remove_space, enter_image}
-use Rattle.flat_state.specs.Flat.{NamedImage, image_numbered}
+use Rattle.page_model.specs.Place.{data_count, stack_count, remove_space, enter_image, facts_numbered}
 use Rattle.page_model.specs.Frames.{times}
 use Rattle.page_model.specs.Placement.{Placement, Transfer, space_number, state_of, IsThere, sharers, image_of}
+use Rattle.aout_image.specs.declared.Image.{Image}
 
 -- something is so of each page
 abbrev pub EachPage : (Page → Type 0) → List Page → Type 0
@@ -129,8 +129,8 @@ pub record CanForget (p : Placement) (sid : ℕ) : Type 0 where
   pub text_rests : sharers (remove_space p sid) (image_of p sid) ≡ 0 → (v : ℕ) → AtRest (state_of p (Text (image_of p sid) v))
 
 -- what a change asks of the text of a space that goes
-abbrev pub MayForget : List NamedImage → Placement → ℕ → Bool → ℕ → Change → Type 0
-MayForget images p sid borrowed next_sid (Exec image top) = borrowed ≡ false → CanForget (enter_image p next_sid image (image_numbered images image)) sid
+abbrev pub MayForget : List Image → Placement → ℕ → Bool → ℕ → Change → Type 0
+MayForget images p sid borrowed next_sid (Exec image top) = borrowed ≡ false → CanForget (enter_image p next_sid image (facts_numbered images image)) sid
 MayForget images p sid borrowed next_sid (End status) = borrowed ≡ false → CanForget p sid
 MayForget images p sid borrowed next_sid _ = Unit {0}
 

@@ -1,5 +1,5 @@
 -- What each entry of the journal does to a placement.
-use Rattle.std.specs.Prelude.{ℕ, zero, suc, ◌+◌, ◌-◌, ◌==◌, Bool, true, false, cond, not, ◌||◌, List, [], ◌∷◌, ◌++◌, length, map, filter, Option, Some, None}
+use Rattle.std.specs.Prelude.{ℕ, zero, suc, ◌+◌, ◌-◌, ◌==◌, Bool, true, false, cond, not, ◌||◌, List, [], ◌∷◌, ◌++◌, length, map, filter, slice_get, Option, Some, None}
 use Rattle.vm_facts.specs.declared.page.Page.{Page}
 use Rattle.vm_facts.specs.declared.page.Page.TheVariants.{Data, Stack, Text}
 use Rattle.vm_facts.specs.declared.page.PageState.{PageState}
@@ -7,7 +7,7 @@ use Rattle.vm_facts.specs.declared.page.PageState.TheVariants.{Unfilled}
 use Rattle.vm_facts.specs.declared.entry.Entry.{Entry}
 use Rattle.vm_facts.specs.declared.entry.Entry.TheVariants as entries
 use Rattle.aout_image.specs.declared.Image.{Image}
-use Rattle.flat_state.specs.Flat.{Holding, Holds, Lends, Zombie, Process, FlatState, NamedImage, image_numbered, process_of}
+use Rattle.flat_state.specs.Flat.{Holding, Holds, Lends, Zombie, Process, FlatState, NamedImage, process_of}
 use Rattle.flat_state.specs.Change.{lends_to}
 use Rattle.flat_state.specs.declared.change.Change.{Change}
 use Rattle.flat_state.specs.declared.change.Change.TheVariants.{Keep, Resize, Fork, Lend, Exec, Reap, Sleep, End}
@@ -172,24 +172,33 @@ abbrev pub give_up_unless : Bool → Placement → ℕ → Placement
 give_up_unless true p sid = p
 give_up_unless false p sid = give_up p sid
 
-abbrev pub enter_image : Placement → ℕ → ℕ → Option NamedImage → Placement
-enter_image p sid image None = p
-enter_image p sid image (Some named) = enter_space p sid image named.image.facts
+abbrev pub facts_of : List NamedImage → List Image
+facts_of images = map (λ (named : NamedImage). named.image.facts) images
 
--- by the process, its space, whether it borrowed that, the number of the next space, and the place in the journal
-abbrev pub place_change : List NamedImage → Placement → ℕ → ℕ → Bool → ℕ → ℕ → Change → Placement
+-- the facts of an image by its number, from 1 on
+abbrev pub facts_numbered : List Image → ℕ → Option Image
+facts_numbered images zero = None
+facts_numbered images (suc place) = slice_get images place
+
+abbrev pub enter_image : Placement → ℕ → ℕ → Option Image → Placement
+enter_image p sid image None = p
+enter_image p sid image (Some facts) = enter_space p sid image facts
+
+-- by the images' facts, the process, its space, whether it borrowed that, the number of the next space, and the place in
+-- the journal
+abbrev pub place_change : List Image → Placement → ℕ → ℕ → Bool → ℕ → ℕ → Change → Placement
 place_change images p pid sid borrowed next_sid at Keep = p
 place_change images p pid sid borrowed next_sid at (Resize data_pages stack_pages) = resize p sid data_pages stack_pages
 place_change images p pid sid borrowed next_sid at (Fork child) = begin_residence (fork_space p sid next_sid) child at
 place_change images p pid sid borrowed next_sid at (Lend child) = begin_residence p child at
 place_change images p pid sid borrowed next_sid at (Exec image top) =
-    give_up_unless borrowed (enter_image p next_sid image (image_numbered images image)) sid
+    give_up_unless borrowed (enter_image p next_sid image (facts_numbered images image)) sid
 place_change images p pid sid borrowed next_sid at (Reap child) = p
 place_change images p pid sid borrowed next_sid at Sleep = p
 place_change images p pid sid borrowed next_sid at (End status) = end_residence (give_up_unless borrowed p sid) pid
 
 -- The placement after an entry of a process with its change: the pages that were written are dirty, and the change is
 -- made. The flat state is the one before, and the place that of the entry in the journal.
-abbrev pub place_step : List NamedImage → FlatState → ℕ → ℕ → List Page → Change → Placement → Placement
+abbrev pub place_step : List Image → FlatState → ℕ → ℕ → List Page → Change → Placement → Placement
 place_step images flat pid at written change p =
     place_change images (touch_all p written) pid (space_of_process (process_of flat pid)) (is_borrower flat.processes pid) flat.next_sid at change

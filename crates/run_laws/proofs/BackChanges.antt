@@ -1,7 +1,7 @@
 -- Execve and the end of a borrower leave what stands.
 use Rattle.std.proofs.Common.{◌≡◌, ℕ, true, false, List, [], length, map, Option, Some, Ok, refl, sym, ap, ◌∙◌, subst}
 use Rattle.flat_state.specs.Space.{Space}
-use Rattle.flat_state.specs.Flat.{Holds, Process, FlatState, NamedImage, Inputs, image_numbered, process_of}
+use Rattle.flat_state.specs.Flat.{Holds, Process, FlatState, Inputs, process_of}
 use Rattle.vm_facts.specs.declared.regs.Regs.{Regs}
 use Rattle.vm_facts.specs.declared.entry.Entry.{Entry}
 use Rattle.swap_book.specs.Holdings.{Holdings}
@@ -12,7 +12,7 @@ use Rattle.flat_state.specs.Change.{apply_change}
 use Rattle.flat_state.specs.Journal.{append}
 use Rattle.page_model.specs.Pages.{numbered}
 use Rattle.page_model.specs.Placement.{Placement, space_number}
-use Rattle.page_model.specs.Place.{is_borrower, place_change}
+use Rattle.page_model.specs.Place.{is_borrower, place_change, facts_of, facts_numbered}
 use Rattle.page_model.specs.Dues.{DueStand}
 use Rattle.page_model.specs.Conditions.{HaveParts, CanChange, ApartFrom}
 use Rattle.page_model.specs.Swapper.{is_out}
@@ -45,13 +45,14 @@ use Rattle.run_laws.specs.Standing.{machine_of, EachOnce, Placed, ExecFits}
 use Rattle.run_laws.proofs.Bridge.{from_machine}
 use Rattle.run_laws.proofs.Changes.{given_same, change_once}
 use Rattle.run_laws.proofs.OwnChanges.{Changing, with_found}
+use Rattle.aout_image.specs.declared.Image.{Image}
 
 pub record Told (A : Inputs) (l : Kernel) (after : FlatState) : Type 0 where
   pub tables : SameTables l after
   pub stands : Stands A.images l after
 
 pub back_told : (A : Inputs) (k : Kernel) (flat : FlatState) (pid : ℕ) (regs : Regs) (e : Entry) (q m : Process) (s : Space) (change : Change) → GivesBack change → ImagesFit A.images → IsNumbered flat → process_of flat pid ≡ Some q → q.holding ≡ Holds s → IsLender flat pid s.sid m
-    → is_out k.place pid ≡ false → k.place.due ≡ [] → ExecFits A.images change → SameTables k flat → Stands A.images k flat → Told A (change_step A.images (pass_step k pid m.pid) pid regs e change) (apply_change A.images flat pid regs change)
+    → is_out k.place pid ≡ false → k.place.due ≡ [] → ExecFits A.images change → SameTables k flat → Stands A.images k flat → Told A (change_step (facts_of A.images) (pass_step k pid m.pid) pid regs e change) (apply_change A.images flat pid regs change)
 back_told A k flat pid regs e q m s (Exec number top) gb fit nums f h is out due (named, im, whole) t st =
     let i : ImageFits named = fit number named im in
     record { tables = exec_back_tables k A.images flat pid regs e number top named q m s nums f h is im i.«data» whole t; stands = exec_back_stands A.images k flat pid regs e number top named q m s t due f h is out im st }
@@ -60,7 +61,7 @@ back_told A k flat pid regs e q m s _ gb fit nums f h is out due x t st = absurd
 
 -- where the change lands
 pub record Lands (A : Inputs) (k : Kernel) (pid sid : ℕ) (e : Entry) (change : Change) (l : Kernel) : Type 0 where
-  pub place : l.place ≡ place_change A.images k.place pid sid true k.next_sid (length (append k.journal e)) change
+  pub place : l.place ≡ place_change (facts_of A.images) k.place pid sid true k.next_sid (length (append k.journal e)) change
   pub holdings : l.holdings ≡ holdings_after k.holdings k.place l.place pid sid true change
   pub journal : l.journal ≡ append k.journal e
 
@@ -69,25 +70,25 @@ lands_any A k pid sid e (Exec image top) l gb x = record { place = x.place; hold
 lands_any A k pid sid e (End status) l gb x = record { place = x.place; holdings = x.holdings; journal = x.journal }
 lands_any A k pid sid e _ l gb x = absurd gb
 
-pub back_lands : (A : Inputs) (k : Kernel) (flat : FlatState) (pid : ℕ) (regs : Regs) (e : Entry) (q m : Process) (s : Space) (change : Change) (a : Borrowing k flat pid q m s) → GivesBack change → Lands A k pid s.sid e change (change_step A.images (pass_step k pid m.pid) pid regs e change)
+pub back_lands : (A : Inputs) (k : Kernel) (flat : FlatState) (pid : ℕ) (regs : Regs) (e : Entry) (q m : Process) (s : Space) (change : Change) (a : Borrowing k flat pid q m s) → GivesBack change → Lands A k pid s.sid e change (change_step (facts_of A.images) (pass_step k pid m.pid) pid regs e change)
 back_lands A k flat pid regs e q m s change a gb =
     let g : Stepping k flat pid q s = a.step in
     let k1 : Kernel = record k { processes = map (passes s.sid pid m.pid) k.processes } in
-    lands_any A k pid s.sid e change (change_step A.images (pass_step k pid m.pid) pid regs e change) gb
-    (subst (λ (x : Kernel). Lands A k pid 0 e change (change_step A.images x pid regs e change)) (sym (back_kernel k flat pid q m s a))
-    (subst (Lands A k pid 0 e change) (sym (step_is A.images k1 pid regs e change (record g.proc { life = New }) New (back_proc k flat pid q m s a) refl))
-    (subst (λ (n : ℕ). Lands A k n 0 e change (by_life A.images k1 (record g.proc { regs = regs; life = New }) New e change)) g.pid_is (record { place = refl; holdings = refl; journal = refl }))))
+    lands_any A k pid s.sid e change (change_step (facts_of A.images) (pass_step k pid m.pid) pid regs e change) gb
+    (subst (λ (x : Kernel). Lands A k pid 0 e change (change_step (facts_of A.images) x pid regs e change)) (sym (back_kernel k flat pid q m s a))
+    (subst (Lands A k pid 0 e change) (sym (step_is (facts_of A.images) k1 pid regs e change (record g.proc { life = New }) New (back_proc k flat pid q m s a) refl))
+    (subst (λ (n : ℕ). Lands A k n 0 e change (by_life (facts_of A.images) k1 (record g.proc { regs = regs; life = New }) New e change)) g.pid_is (record { place = refl; holdings = refl; journal = refl }))))
 
-pub asks_same : (images : List NamedImage) (k l : Kernel) (pid : ℕ) (change : Change) → GivesBack change → l.place ≡ k.place → l.next_sid ≡ k.next_sid → asked images l pid change ≡ asked images k pid change
-asks_same images k l pid (Exec image top) gb p n = ap (λ (x : Placement). Rattle.kernel_model.specs.Asks.image_asked x l.next_sid image (image_numbered images image)) p ∙ ap (λ (m : ℕ). Rattle.kernel_model.specs.Asks.image_asked k.place m image (image_numbered images image)) n
+pub asks_same : (images : List Image) (k l : Kernel) (pid : ℕ) (change : Change) → GivesBack change → l.place ≡ k.place → l.next_sid ≡ k.next_sid → asked images l pid change ≡ asked images k pid change
+asks_same images k l pid (Exec image top) gb p n = ap (λ (x : Placement). Rattle.kernel_model.specs.Asks.image_asked x l.next_sid image (facts_numbered images image)) p ∙ ap (λ (m : ℕ). Rattle.kernel_model.specs.Asks.image_asked k.place m image (facts_numbered images image)) n
 asks_same images k l pid (End status) gb p n = refl
 asks_same images k l pid _ gb p n = absurd gb
 
 pub back_change : (A : Inputs) (flat : FlatState) (p : Placement) (hs found : Holdings) (pid : ℕ) (regs : Regs) (j : List Entry) (e : Entry) (q : Process) (s : Space) (change : Change) → Changing A flat p hs found pid q s change → LendsStand flat → is_borrower flat.processes pid ≡ true → GivesBack change
     → Placed A flat p hs
-    → Placed A (apply_change A.images flat pid regs change) (place_change A.images p pid s.sid true flat.next_sid (length (append j e)) change) (given_up flat (apply_change A.images flat pid regs change) pid s change found)
+    → Placed A (apply_change A.images flat pid regs change) (place_change (facts_of A.images) p pid s.sid true flat.next_sid (length (append j e)) change) (given_up flat (apply_change A.images flat pid regs change) pid s change found)
 back_change A flat p hs found pid regs j e q s change c lend w gb st =
-    subst (Placed A after (place_change A.images p pid s.sid true flat.next_sid at change)) (sym back)
+    subst (Placed A after (place_change (facts_of A.images) p pid s.sid true flat.next_sid at change)) (sym back)
     (subst (λ (x : Placement). Placed A after x (holdings_after found p l.place pid s.sid true change)) lands.place
     (subst (Placed A after l.place) lands.holdings
     (from_machine A after l sound numbered_now told.tables told.stands dues once parts frames)))
@@ -155,17 +156,17 @@ back_change A flat p hs found pid regs j e q s change c lend w gb st =
     ready : ReadyFor k1 pid change
     ready = back_ready k flat pid q m s change a gb
 
-    pieces : place_all A.swap_blocks hs (asked A.images k1 pid change) ≡ Ok found
-    pieces = ap (place_all A.swap_blocks hs) (asks_same A.images k k1 pid change gb refl refl ∙ change_same A.images k flat pid q s change c.images sb.texts n c.numbers t c.found_process c.holds) ∙ c.pieces
+    pieces : place_all A.swap_blocks hs (asked (facts_of A.images) k1 pid change) ≡ Ok found
+    pieces = ap (place_all A.swap_blocks hs) (asks_same (facts_of A.images) k k1 pid change gb refl refl ∙ change_same A.images k flat pid q s change c.images sb.texts n c.numbers t c.found_process c.holds) ∙ c.pieces
 
     l : Kernel
-    l = change_step A.images k1 pid regs e change
+    l = change_step (facts_of A.images) k1 pid regs e change
 
     sound : Sound A.swap_blocks l
-    sound = ready_sound A.swap_blocks A.images k1 hs pid regs e change sound1 n1 ready pieces
+    sound = ready_sound A.swap_blocks (facts_of A.images) k1 hs pid regs e change sound1 n1 ready pieces
 
     numbered_now : Numbered l
-    numbered_now = flat_numbered A.images k1 pid regs e change (takes_none k1 change gb) ready.alive n1
+    numbered_now = flat_numbered (facts_of A.images) k1 pid regs e change (takes_none k1 change gb) ready.alive n1
 
     told : Told A l after
     told = back_told A k flat pid regs e q m s change gb c.images c.numbers c.found_process c.holds lender.1 c.resident c.clear c.execs t stands
@@ -183,17 +184,17 @@ back_change A flat p hs found pid regs j e q s change c lend w gb st =
     is_apart (End status) gb = tt
     is_apart _ gb = absurd gb
 
-    un : Unhanded p (place_change A.images p pid s.sid true flat.next_sid at change)
-    un = change_unhanded A.images p pid s.sid true flat.next_sid at change
+    un : Unhanded p (place_change (facts_of A.images) p pid s.sid true flat.next_sid at change)
+    un = change_unhanded (facts_of A.images) p pid s.sid true flat.next_sid at change
 
-    hands : SameHands p (place_change A.images p pid s.sid true flat.next_sid at change)
+    hands : SameHands p (place_change (facts_of A.images) p pid s.sid true flat.next_sid at change)
     hands = un.hands
 
     dues : DueStand l.place
-    dues = subst DueStand (sym lands.place) (change_due A.images p pid s.sid true flat.next_sid at change c.clear (can change gb) (is_apart change gb))
+    dues = subst DueStand (sym lands.place) (change_due (facts_of A.images) p pid s.sid true flat.next_sid at change c.clear (can change gb) (is_apart change gb))
 
     once : EachOnce l.place.due
-    once = subst (λ (x : Placement). EachOnce x.due) (sym lands.place) (change_once A.images p pid s.sid true flat.next_sid at change c.clear)
+    once = subst (λ (x : Placement). EachOnce x.due) (sym lands.place) (change_once (facts_of A.images) p pid s.sid true flat.next_sid at change c.clear)
 
     parts : HaveParts l.place.transfers
     parts = subst (λ (x : Placement). HaveParts x.transfers) (sym lands.place) (subst HaveParts (sym un.transfers) st.parts)

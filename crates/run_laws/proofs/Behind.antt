@@ -17,7 +17,7 @@ use Rattle.page_model.specs.Pages.{numbered, is_valid}
 use Rattle.flat_state.specs.PageNames.{same_page, is_among}
 use Rattle.page_model.specs.Placement.{Placement, space_number, state_of}
 use Rattle.page_model.specs.Moves.{touch_all}
-use Rattle.page_model.specs.Place.{is_borrower, place_change, space_of_holding, space_of_process}
+use Rattle.page_model.specs.Place.{is_borrower, place_change, space_of_holding, space_of_process, facts_of}
 use Rattle.page_model.specs.Swapper.{is_out, is_settled}
 use Rattle.kernel_model.specs.Kernel.{Kernel}
 use Rattle.kernel_model.specs.Coupled.{Fits, SameTables, Coupled}
@@ -108,7 +108,7 @@ step_reaches A s k image u images execs numbers lenders at h valid = record {
   taken = subst (λ (y : Kernel). Coupled y A.images image flat1) (sym k2_is) ready.coupled;
   out_regs = subst (λ (x : FlatState). OutRegs (after A s u).place x) (sym flat_is)
       (regs_stay A.images flat s.place (after A s u).place pid step.writes step.regs step.change runs.resident outs may
-      (λ n e. still_out n (change_out A.images (touch_all s.place written) pid (space_of_process (process_of flat pid)) (is_borrower flat.processes pid) flat.next_sid (place_at s u) step.change n (ap (λ (p : Placement). is_out p n) (sym r.place) ∙ e)))
+      (λ n e. still_out n (change_out (facts_of A.images) (touch_all s.place written) pid (space_of_process (process_of flat pid)) (is_borrower flat.processes pid) flat.next_sid (place_at s u) step.change n (ap (λ (p : Placement). is_out p n) (sym r.place) ∙ e)))
       (subst (λ (p : Placement). OutRegs p flat) at.place kp.out_regs));
 }
   where
@@ -313,7 +313,7 @@ step_reaches A s k image u images execs numbers lenders at h valid = record {
     settled l = ap (λ (p : Placement). is_settled p z.sid) place1 ∙ ap (is_settled p1) same.sid ∙ touched_settled written s.place x.space.sid
         ∙ settled_when A s pid x.process x.space x.here x.holds h.unsettling (sym (loses step.change (is_borrower flat.processes pid)) ∙ l)
 
-    landed : Landed A (apply_change A.images flat1 pid step.regs step.change) k2 (passing_change (is_borrower flat.processes pid) A.images k2 pid step.regs u step.change) image pid z.sid (is_borrower flat.processes pid) u step.change (given_up flat1 (apply_change A.images flat1 pid step.regs step.change) pid z step.change found.0)
+    landed : Landed A (apply_change A.images flat1 pid step.regs step.change) k2 (passing_change (is_borrower flat.processes pid) (facts_of A.images) k2 pid step.regs u step.change) image pid z.sid (is_borrower flat.processes pid) u step.change (given_up flat1 (apply_change A.images flat1 pid step.regs step.change) pid z step.change found.0)
     landed = step_landed A k2 flat1 image s.holdings pid step.regs u q1 z (is_borrower flat.processes pid) step.change changing lenders1 borrows (λ o. settles_for k1.place z (is_borrower flat.processes pid) step.change o fits1 settled) ready
 
     sid_is : z.sid ≡ space_of_process (process_of flat pid)
@@ -323,13 +323,13 @@ step_reaches A s k image u images execs numbers lenders at h valid = record {
     journal1 = rest.journal ∙ at.journal
 
     changes : Reaches A s u (process_step A s k pid u) image
-    changes = subst (λ (y : Kernel). Reaches A s u (passing_change (is_borrower flat.processes pid) A.images y pid step.regs u step.change) image) (sym k2_is) (record {
-      mid = subst (λ (y : FlatState). Mid A y (passing_change (is_borrower flat.processes pid) A.images k2 pid step.regs u step.change) image) (sym flat_is) landed.mid;
+    changes = subst (λ (y : Kernel). Reaches A s u (passing_change (is_borrower flat.processes pid) (facts_of A.images) y pid step.regs u step.change) image) (sym k2_is) (record {
+      mid = subst (λ (y : FlatState). Mid A y (passing_change (is_borrower flat.processes pid) (facts_of A.images) k2 pid step.regs u step.change) image) (sym flat_is) landed.mid;
       place = landed.place
-          ∙ ap (λ (p : Placement). place_change A.images p pid z.sid (is_borrower flat.processes pid) k1.next_sid (length (append k1.journal u)) step.change) place1
-          ∙ ap (λ (n : ℕ). place_change A.images p1 pid n (is_borrower flat.processes pid) k1.next_sid (length (append k1.journal u)) step.change) sid_is
-          ∙ ap (λ (n : ℕ). place_change A.images p1 pid (space_of_process (process_of flat pid)) (is_borrower flat.processes pid) n (length (append k1.journal u)) step.change) next
-          ∙ ap (λ (j : List Entry). place_change A.images p1 pid (space_of_process (process_of flat pid)) (is_borrower flat.processes pid) flat.next_sid (length (append j u)) step.change) journal1
+          ∙ ap (λ (p : Placement). place_change (facts_of A.images) p pid z.sid (is_borrower flat.processes pid) k1.next_sid (length (append k1.journal u)) step.change) place1
+          ∙ ap (λ (n : ℕ). place_change (facts_of A.images) p1 pid n (is_borrower flat.processes pid) k1.next_sid (length (append k1.journal u)) step.change) sid_is
+          ∙ ap (λ (n : ℕ). place_change (facts_of A.images) p1 pid (space_of_process (process_of flat pid)) (is_borrower flat.processes pid) n (length (append k1.journal u)) step.change) next
+          ∙ ap (λ (j : List Entry). place_change (facts_of A.images) p1 pid (space_of_process (process_of flat pid)) (is_borrower flat.processes pid) flat.next_sid (length (append j u)) step.change) journal1
           ∙ sym r.place;
       holdings = landed.holdings ∙ given_written flat flat1 (apply_change A.images flat1 pid step.regs step.change) pid x.space z step.change found.0 same.sid same.image borrows
           ∙ ap (λ (y : FlatState). given_up flat y pid x.space step.change found.0) (sym form_after)
@@ -346,7 +346,7 @@ step_reaches A s k image u images execs numbers lenders at h valid = record {
             coupled = ran_coupled k1 A.images image flat1 pid step.regs u q1 z here refl changing.resident c1;
             stands = ran_stands A.images k1 flat1 pid step.regs u q1 z here refl changing.resident st1;
           });
-          place = place1 ∙ sym (r.place ∙ ap (λ (y : Change). place_change A.images p1 pid (space_of_process (process_of flat pid)) (is_borrower flat.processes pid) flat.next_sid (place_at s u) y) keep);
+          place = place1 ∙ sym (r.place ∙ ap (λ (y : Change). place_change (facts_of A.images) p1 pid (space_of_process (process_of flat pid)) (is_borrower flat.processes pid) flat.next_sid (place_at s u) y) keep);
           holdings = held1 ∙ sym (r.holdings ∙ ap (λ (y : Entry). held_entry A s.point y s.holdings) i);
           journal = ap (λ (j : List Entry). append j u) journal1;
         }))

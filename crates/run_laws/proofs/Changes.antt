@@ -1,7 +1,7 @@
 -- A change of a process leaves what stands.
 use Rattle.std.proofs.Common.{◌≡◌, ℕ, zero, suc, ◌+◌, ◌*◌, ◌<◌, ◌≤◌, ◌==◌, ◌||◌, ◌&&◌, Bool, true, false, cond, List, [], ◌∷◌, ◌++◌, length, map, find, Option, Some, None, refl, sym, ap, ap₂, ◌∙◌, subst, arith}
 use Rattle.flat_state.specs.Space.{Space}
-use Rattle.flat_state.specs.Flat.{Process, FlatState, NamedImage, image_numbered}
+use Rattle.flat_state.specs.Flat.{Process, FlatState}
 use Rattle.vm_facts.specs.declared.page.Page.{Page}
 use Rattle.vm_facts.specs.declared.page.Page.TheVariants as pages
 use Rattle.vm_facts.specs.declared.page.PageState.{PageState}
@@ -19,11 +19,12 @@ use Rattle.flat_state.specs.Change.{lends_to}
 use Rattle.page_model.specs.Pages.{Slot}
 use Rattle.flat_state.specs.PageNames.{same_page}
 use Rattle.page_model.specs.Placement.{Placement, Due, CopyOf, due_page, due_at, image_of, sharers, slots_of}
-use Rattle.page_model.specs.Place.{is_borrower, place_change, copy_due, copies_from, give_up_unless}
+use Rattle.page_model.specs.Place.{is_borrower, place_change, copy_due, copies_from, give_up_unless, facts_numbered}
 use Rattle.page_model.specs.Dues.{NotDue}
 use Rattle.kernel_model.specs.ChangeStep.{holdings_after, given_back_unless, text_given_back}
 use Rattle.flat_model.specs.Asked.{is_there, is_shared, without, without_text, without_own, given_up}
 use Rattle.run_laws.specs.Standing.{EachOnce}
+use Rattle.aout_image.specs.declared.Image.{Image}
 
 -- What goes back.
 
@@ -157,7 +158,7 @@ stack_absent child parent xs ys (pages.Text sid n) h = absent_copies (pages.Stac
 none_once : (p : Placement) → p.due ≡ [] → EachOnce p.due
 none_once p e = subst EachOnce (sym e) tt
 
-pub change_once : (images : List NamedImage) (p : Placement) (pid sid : ℕ) (borrowed : Bool) (next at : ℕ) (change : Change) → p.due ≡ [] → EachOnce (place_change images p pid sid borrowed next at change).due
+pub change_once : (images : List Image) (p : Placement) (pid sid : ℕ) (borrowed : Bool) (next at : ℕ) (change : Change) → p.due ≡ [] → EachOnce (place_change images p pid sid borrowed next at change).due
 change_once images p pid sid borrowed next at Keep e = none_once p e
 change_once images p pid sid borrowed next at (Resize d s) e = none_once (place_change images p pid sid borrowed next at (Resize d s)) ((Rattle.page_laws.proofs.Bytes.Changes.drop_all_rest (Rattle.page_laws.proofs.Ownership.Changes.dropped_pages p sid d s) p).1 ∙ e)
 change_once images p pid sid borrowed next at (Fork child) e =
@@ -166,11 +167,11 @@ change_once images p pid sid borrowed next at (Fork child) e =
     (copies_once (pages.Stack next) (pages.Stack sid) 0 (slots_of p (pages.Stack sid 0)) (λ u w l. ap (λ (b : Bool). (next == next) && b) (later_apart u w l) ∙ and_false (next == next)))
     (stack_absent next sid (slots_of p (pages.Data sid 0)) (slots_of p (pages.Stack sid 0)))
 change_once images p pid sid borrowed next at (Lend child) e = none_once p e
-change_once images p pid sid borrowed next at (Exec image top) e = go (image_numbered images image)
+change_once images p pid sid borrowed next at (Exec image top) e = go (facts_numbered images image)
   where
-    go : (o : Option NamedImage) → EachOnce (give_up_unless borrowed (Rattle.page_model.specs.Place.enter_image p next image o) sid).due
+    go : (o : Option Image) → EachOnce (give_up_unless borrowed (Rattle.page_model.specs.Place.enter_image p next image o) sid).due
     go None = subst EachOnce (sym (Rattle.kernel_laws.proofs.Machine.Gone.gone_unless borrowed p sid).due) (none_once p e)
-    go (Some named) = subst EachOnce (sym (Rattle.kernel_laws.proofs.Machine.Gone.gone_unless borrowed (Rattle.page_model.specs.Place.enter_space p next image named.image.facts) sid).due) (refl, tt)
+    go (Some facts) = subst EachOnce (sym (Rattle.kernel_laws.proofs.Machine.Gone.gone_unless borrowed (Rattle.page_model.specs.Place.enter_space p next image facts) sid).due) (refl, tt)
 change_once images p pid sid borrowed next at (Reap child) e = none_once p e
 change_once images p pid sid borrowed next at Sleep e = none_once p e
 change_once images p pid sid borrowed next at (End status) e = subst EachOnce (sym (Rattle.kernel_laws.proofs.Machine.Gone.gone_unless borrowed p sid).due) (none_once p e)

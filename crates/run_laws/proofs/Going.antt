@@ -13,7 +13,7 @@ use Rattle.flat_state.specs.declared.change.Change.{Change}
 use Rattle.flat_state.specs.declared.change.Change.TheVariants.{Keep, Resize, Fork, Lend, Exec, Reap, Sleep, End}
 use Rattle.page_model.specs.Pages.{numbered}
 use Rattle.page_model.specs.Placement.{state_of}
-use Rattle.page_model.specs.Place.{is_borrower}
+use Rattle.page_model.specs.Place.{is_borrower, facts_of}
 use Rattle.kernel_model.specs.Kernel.{Kernel, Proc}
 use Rattle.kernel_model.specs.ChangeStep.{change_if, change_step, pass_step}
 use Rattle.flat_model.specs.Touched.{page_tested}
@@ -47,14 +47,14 @@ by_goes k (Some q) ws = go q.holding
     go (Lends sid child) = refl
     go (Zombie status) = refl
 
-flat_goes : (images : List NamedImage) (k : Kernel) (pid : ℕ) (regs : Regs) (e : Entry) (change : Change) → (change_step images k pid regs e change).stopped ≡ k.stopped
+flat_goes : (images : List NamedImage) (k : Kernel) (pid : ℕ) (regs : Regs) (e : Entry) (change : Change) → (change_step (facts_of images) k pid regs e change).stopped ≡ k.stopped
 flat_goes images k pid regs e change = go (numbered (λ (p : Proc). p.pid) pid k.processes)
   where
-    go : (o : Option Proc) → (change_if images k regs e change o).stopped ≡ k.stopped
+    go : (o : Option Proc) → (change_if (facts_of images) k regs e change o).stopped ≡ k.stopped
     go None = refl
     go (Some p) = refl
 
-keeps_goes : (images : List NamedImage) (k : Kernel) (pid : ℕ) (regs : Regs) (e : Entry) (change : Change) → (keeps_step images k pid regs e change).stopped ≡ k.stopped
+keeps_goes : (images : List NamedImage) (k : Kernel) (pid : ℕ) (regs : Regs) (e : Entry) (change : Change) → (keeps_step (facts_of images) k pid regs e change).stopped ≡ k.stopped
 keeps_goes images k pid regs e Keep = flat_goes images k pid regs e Keep
 keeps_goes images k pid regs e (Resize d s) = flat_goes images k pid regs e (Resize d s)
 keeps_goes images k pid regs e (Fork child) = flat_goes images k pid regs e (Fork child)
@@ -64,7 +64,7 @@ keeps_goes images k pid regs e (Reap child) = flat_goes images k pid regs e (Rea
 keeps_goes images k pid regs e Sleep = flat_goes images k pid regs e Sleep
 keeps_goes images k pid regs e (End status) = flat_goes images k pid regs e (End status)
 
-back_goes : (images : List NamedImage) (k : Kernel) (pid : ℕ) (regs : Regs) (e : Entry) (change : Change) → (back_step images k pid regs e change).stopped ≡ k.stopped
+back_goes : (images : List NamedImage) (k : Kernel) (pid : ℕ) (regs : Regs) (e : Entry) (change : Change) → (back_step (facts_of images) k pid regs e change).stopped ≡ k.stopped
 back_goes images k pid regs e Keep = flat_goes images k pid regs e Keep
 back_goes images k pid regs e (Resize d s) = flat_goes images k pid regs e (Resize d s)
 back_goes images k pid regs e (Fork child) = flat_goes images k pid regs e (Fork child)
@@ -77,7 +77,7 @@ back_goes images k pid regs e (End status) = flat_goes images (pass_step k pid (
 step_goes : (A : Inputs) (s : State) (k : Kernel) (pid : ℕ) (e : Entry) → (process_step A s k pid e).stopped ≡ k.stopped
 step_goes A s k pid e = go (is_borrower s.point.flat.processes pid) ∙ by_goes k (process_of s.point.flat pid) (step_at A s.point pid).writes
   where
-    go : (b : Bool) → (passing_change b A.images (taken_step A s k pid) pid (step_at A s.point pid).regs e (step_at A s.point pid).change).stopped ≡ (written_step A s k pid).stopped
+    go : (b : Bool) → (passing_change b (facts_of A.images) (taken_step A s k pid) pid (step_at A s.point pid).regs e (step_at A s.point pid).change).stopped ≡ (written_step A s k pid).stopped
     go true = back_goes A.images (taken_step A s k pid) pid (step_at A s.point pid).regs e (step_at A s.point pid).change
     go false = keeps_goes A.images (taken_step A s k pid) pid (step_at A s.point pid).regs e (step_at A s.point pid).change
 

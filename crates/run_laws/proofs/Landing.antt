@@ -12,7 +12,7 @@ use Rattle.flat_state.specs.Change.{apply_change}
 use Rattle.flat_state.specs.Journal.{append}
 use Rattle.page_model.specs.Pages.{numbered}
 use Rattle.page_model.specs.Placement.{space_number, image_of, sharers}
-use Rattle.page_model.specs.Place.{is_borrower, place_change}
+use Rattle.page_model.specs.Place.{is_borrower, place_change, facts_of}
 use Rattle.page_model.specs.Conditions.{MayForget}
 use Rattle.page_model.specs.Ownership.{OneOwner}
 use Rattle.kernel_model.specs.Kernel.{Kernel, Life}
@@ -57,7 +57,7 @@ use Rattle.run_laws.proofs.Written.{Mid}
 -- the machine behind a change
 pub record Landed (A : Inputs) (after : FlatState) (k l : Kernel) (image : List ℕ) (pid sid : ℕ) (b : Bool) (e : Entry) (change : Change) (held : Holdings) : Type 0 where
   pub mid : Mid A after l image
-  pub place : l.place ≡ place_change A.images k.place pid sid b k.next_sid (length (append k.journal e)) change
+  pub place : l.place ≡ place_change (facts_of A.images) k.place pid sid b k.next_sid (length (append k.journal e)) change
   pub holdings : l.holdings ≡ held
   pub journal : l.journal ≡ append k.journal e
 
@@ -75,14 +75,14 @@ found_none A flat k image before x e = subst (λ (hs : Holdings). Sound A.swap_b
 -- Who keeps its space, or has one of its own.
 
 own_coupled : (A : Inputs) (k : Kernel) (flat : FlatState) (image : List ℕ) (before : Holdings) (pid : ℕ) (regs : Regs) (e : Entry) (q : Process) (s : Space) (b : Bool) (change : Change) → Changing A flat k.place before k.holdings pid q s change → is_borrower flat.processes pid ≡ b
-    → Own b change → SettlesFor k.place s.sid change → MayForget A.images k.place s.sid false k.next_sid change → Found A flat k image before → Coupled (keeps_step A.images k pid regs e change) A.images image (apply_change A.images flat pid regs change)
+    → Own b change → SettlesFor k.place s.sid change → MayForget (facts_of A.images) k.place s.sid false k.next_sid change → Found A flat k image before → Coupled (keeps_step (facts_of A.images) k pid regs e change) A.images image (apply_change A.images flat pid regs change)
 own_coupled A k flat image before pid regs e q s b Keep c w o z y x = keep_coupled k A.images image flat pid regs e q s c.numbers c.found_process c.holds c.resident x.coupled
 own_coupled A k flat image before pid regs e q s b (Resize d r) c w o z y x = let st : Stands A.images k flat = x.stands in resize_coupled_step k A.images image flat pid regs e d r q s c.numbers st.out c.clear c.found_process c.holds c.resident x.coupled
 own_coupled A k flat image before pid regs e q s b (Fork child) c w o z y x = let st : Stands A.images k flat = x.stands in
-    subst (λ (n : ℕ). Coupled (keeps_step A.images k pid regs e (Fork n)) A.images image (apply_change A.images flat pid regs (Fork n))) (sym c.may)
+    subst (λ (n : ℕ). Coupled (keeps_step (facts_of A.images) k pid regs e (Fork n)) A.images image (apply_change A.images flat pid regs (Fork n))) (sym c.may)
     (fork_coupled_step k A.images image flat pid regs e q s c.numbers st.out c.clear c.found_process c.holds c.resident x.coupled)
 own_coupled A k flat image before pid regs e q s b (Lend child) c w o z y x = let st : Stands A.images k flat = x.stands in
-    subst (λ (n : ℕ). Coupled (keeps_step A.images k pid regs e (Lend n)) A.images image (apply_change A.images flat pid regs (Lend n))) (sym c.may)
+    subst (λ (n : ℕ). Coupled (keeps_step (facts_of A.images) k pid regs e (Lend n)) A.images image (apply_change A.images flat pid regs (Lend n))) (sym c.may)
     (lend_coupled_step k A.images image flat pid regs e q s c.numbers st.out c.found_process c.holds c.resident x.coupled)
 own_coupled A k flat image before pid regs e q s b (Exec number top) c w o z y x =
     let st : Stands A.images k flat = x.stands in
@@ -101,10 +101,10 @@ own_coupled A k flat image before pid regs e q s b (End status) c w o z y x =
 
 pub own_landed : (A : Inputs) (k : Kernel) (flat : FlatState) (image : List ℕ) (before : Holdings) (pid : ℕ) (regs : Regs) (e : Entry) (q : Process) (s : Space) (b : Bool) (change : Change) → Changing A flat k.place before k.holdings pid q s change → is_borrower flat.processes pid ≡ b
     → Own b change → SettlesFor k.place s.sid change → Found A flat k image before
-    → Landed A (apply_change A.images flat pid regs change) k (keeps_step A.images k pid regs e change) image pid s.sid b e change (given_up flat (apply_change A.images flat pid regs change) pid s change k.holdings)
+    → Landed A (apply_change A.images flat pid regs change) k (keeps_step (facts_of A.images) k pid regs e change) image pid s.sid b e change (given_up flat (apply_change A.images flat pid regs change) pid s change k.holdings)
 own_landed A k flat image before pid regs e q s b change c w o settles x = record {
   mid = record { sound = kept.sound; numbered = kept.numbered; coupled = coupled; stands = told.stands };
-  place = lands.place ∙ keeps_place A.images k.place pid s.sid b k.next_sid (length (append k.journal e)) change o;
+  place = lands.place ∙ keeps_place (facts_of A.images) k.place pid s.sid b k.next_sid (length (append k.journal e)) change o;
   holdings = lands.holdings ∙ sym back;
   journal = lands.journal;
 }
@@ -127,14 +127,14 @@ own_landed A k flat image before pid regs e q s b change c w o settles x = recor
     ready : ReadyFor k pid change
     ready = coupled_ready k flat pid q s change t c.found_process c.holds (takes_next k flat change t c.may) (may_reap k flat change t c.may) settles
 
-    pieces : place_all A.swap_blocks before (asked A.images k pid change) ≡ Ok k.holdings
+    pieces : place_all A.swap_blocks before (asked (facts_of A.images) k pid change) ≡ Ok k.holdings
     pieces = ap (place_all A.swap_blocks before) (change_same A.images k flat pid q s change c.images st.texts x.numbered c.numbers t c.found_process c.holds) ∙ c.pieces
 
     l : Kernel
-    l = keeps_step A.images k pid regs e change
+    l = keeps_step (facts_of A.images) k pid regs e change
 
     kept : own.Kept A l
-    kept = own_kept A k flat pid regs e q s change c.numbers c.found_process c.holds t c.may (ready_sound A.swap_blocks A.images k before pid regs e change so x.numbered ready pieces) (flat_numbered A.images k pid regs e change (takes_next k flat change t c.may) ready.alive x.numbered)
+    kept = own_kept A k flat pid regs e q s change c.numbers c.found_process c.holds t c.may (ready_sound A.swap_blocks (facts_of A.images) k before pid regs e change so x.numbered ready pieces) (flat_numbered (facts_of A.images) k pid regs e change (takes_next k flat change t c.may) ready.alive x.numbered)
 
     told : own.Told A l after
     told = own_told A k flat pid regs e q s b change c.images c.numbers c.found_process c.holds w o c.resident c.clear c.may c.execs t st
@@ -148,8 +148,8 @@ own_landed A k flat image before pid regs e q s b change c w o settles x = recor
     ow : OneOwner A.swap_blocks (lives k.processes) k.place before
     ow = so.owner
 
-    forgets : MayForget A.images k.place s.sid false k.next_sid change
-    forgets = subst (λ (y : Life). MayForget A.images k.place (space_of_life y) (gave_back y) k.next_sid change) (ap life_of_proc g.kept ∙ g.life) (may_change A.images k pid change ow.frames x.numbered ready).forgets
+    forgets : MayForget (facts_of A.images) k.place s.sid false k.next_sid change
+    forgets = subst (λ (y : Life). MayForget (facts_of A.images) k.place (space_of_life y) (gave_back y) k.next_sid change) (ap life_of_proc g.kept ∙ g.life) (may_change (facts_of A.images) k pid change ow.frames x.numbered ready).forgets
 
     coupled : Coupled l A.images image after
     coupled = own_coupled A k flat image before pid regs e q s b change c w o settles forgets x
@@ -174,7 +174,7 @@ own_landed A k flat image before pid regs e q s b change c w o settles x = recor
 -- Who borrowed its space, and gives it back.
 
 back_coupled : (A : Inputs) (k : Kernel) (flat : FlatState) (image : List ℕ) (before : Holdings) (pid : ℕ) (regs : Regs) (e : Entry) (q m : Process) (s : Space) (change : Change) → Changing A flat k.place before k.holdings pid q s change → IsLender flat pid s.sid m → GivesBack change
-    → Found A flat k image before → Coupled (change_step A.images (pass_step k pid m.pid) pid regs e change) A.images image (apply_change A.images flat pid regs change)
+    → Found A flat k image before → Coupled (change_step (facts_of A.images) (pass_step k pid m.pid) pid regs e change) A.images image (apply_change A.images flat pid regs change)
 back_coupled A k flat image before pid regs e q m s (Exec number top) c is gb x =
     let st : Stands A.images k flat = x.stands in
     let i : ImageFits c.execs.0 = c.images number c.execs.0 c.execs.1 in
@@ -184,17 +184,17 @@ back_coupled A k flat image before pid regs e q m s (End status) c is gb x =
     end_back A.swap_blocks k A.images image flat pid regs e status q m s (found_none A flat k image before x c.pieces) c.numbers st.out c.clear c.found_process c.holds is x.coupled
 back_coupled A k flat image before pid regs e q m s _ c is gb x = absurd gb
 
-back_is : (A : Inputs) (k : Kernel) (pid n : ℕ) (regs : Regs) (e : Entry) (change : Change) → GivesBack change → lender_among k.processes pid ≡ n → back_step A.images k pid regs e change ≡ change_step A.images (pass_step k pid n) pid regs e change
-back_is A k pid n regs e (Exec number top) gb i = ap (λ (m : ℕ). change_step A.images (pass_step k pid m) pid regs e (Exec number top)) i
-back_is A k pid n regs e (End status) gb i = ap (λ (m : ℕ). change_step A.images (pass_step k pid m) pid regs e (End status)) i
+back_is : (A : Inputs) (k : Kernel) (pid n : ℕ) (regs : Regs) (e : Entry) (change : Change) → GivesBack change → lender_among k.processes pid ≡ n → back_step (facts_of A.images) k pid regs e change ≡ change_step (facts_of A.images) (pass_step k pid n) pid regs e change
+back_is A k pid n regs e (Exec number top) gb i = ap (λ (m : ℕ). change_step (facts_of A.images) (pass_step k pid m) pid regs e (Exec number top)) i
+back_is A k pid n regs e (End status) gb i = ap (λ (m : ℕ). change_step (facts_of A.images) (pass_step k pid m) pid regs e (End status)) i
 back_is A k pid n regs e _ gb i = absurd gb
 
 pub back_landed : (A : Inputs) (k : Kernel) (flat : FlatState) (image : List ℕ) (before : Holdings) (pid : ℕ) (regs : Regs) (e : Entry) (q : Process) (s : Space) (change : Change) → Changing A flat k.place before k.holdings pid q s change → LendsStand flat → is_borrower flat.processes pid ≡ true → GivesBack change
     → Found A flat k image before
-    → Landed A (apply_change A.images flat pid regs change) k (back_step A.images k pid regs e change) image pid s.sid true e change (given_up flat (apply_change A.images flat pid regs change) pid s change k.holdings)
+    → Landed A (apply_change A.images flat pid regs change) k (back_step (facts_of A.images) k pid regs e change) image pid s.sid true e change (given_up flat (apply_change A.images flat pid regs change) pid s change k.holdings)
 back_landed A k flat image before pid regs e q s change c lend w gb x =
     subst (λ (y : Kernel). Landed A after k y image pid s.sid true e change (given_up flat after pid s change k.holdings)) (sym (back_is A k pid m.pid regs e change gb (lender_is k flat pid s.sid m t c.numbers lender.1))) (record {
-      mid = record { sound = sound; numbered = flat_numbered A.images k1 pid regs e change (takes_none k1 change gb) ready.alive n1; coupled = back_coupled A k flat image before pid regs e q m s change c lender.1 gb x; stands = told.stands };
+      mid = record { sound = sound; numbered = flat_numbered (facts_of A.images) k1 pid regs e change (takes_none k1 change gb) ready.alive n1; coupled = back_coupled A k flat image before pid regs e q m s change c lender.1 gb x; stands = told.stands };
       place = lands.place;
       holdings = lands.holdings ∙ sym (given_same flat after pid s change k.holdings k.place l.place true w (fit_image s (numbered space_number s.sid k.place.spaces) fits) (λ z. absurd cc));
       journal = lands.journal;
@@ -236,14 +236,14 @@ back_landed A k flat image before pid regs e q s change c lend w gb x =
     ready : ReadyFor k1 pid change
     ready = back_ready k flat pid q m s change a gb
 
-    pieces : place_all A.swap_blocks before (asked A.images k1 pid change) ≡ Ok k.holdings
-    pieces = ap (place_all A.swap_blocks before) (asks_same A.images k k1 pid change gb refl refl ∙ change_same A.images k flat pid q s change c.images st.texts x.numbered c.numbers t c.found_process c.holds) ∙ c.pieces
+    pieces : place_all A.swap_blocks before (asked (facts_of A.images) k1 pid change) ≡ Ok k.holdings
+    pieces = ap (place_all A.swap_blocks before) (asks_same (facts_of A.images) k k1 pid change gb refl refl ∙ change_same A.images k flat pid q s change c.images st.texts x.numbered c.numbers t c.found_process c.holds) ∙ c.pieces
 
     l : Kernel
-    l = change_step A.images k1 pid regs e change
+    l = change_step (facts_of A.images) k1 pid regs e change
 
     sound : Sound A.swap_blocks l
-    sound = ready_sound A.swap_blocks A.images k1 before pid regs e change sound1 n1 ready pieces
+    sound = ready_sound A.swap_blocks (facts_of A.images) k1 before pid regs e change sound1 n1 ready pieces
 
     told : back.Told A l after
     told = back_told A k flat pid regs e q m s change gb c.images c.numbers c.found_process c.holds lender.1 c.resident c.clear c.execs t st
@@ -258,7 +258,7 @@ back_landed A k flat image before pid regs e q s change c lend w gb x =
 
 pub step_landed : (A : Inputs) (k : Kernel) (flat : FlatState) (image : List ℕ) (before : Holdings) (pid : ℕ) (regs : Regs) (e : Entry) (q : Process) (s : Space) (b : Bool) (change : Change) → Changing A flat k.place before k.holdings pid q s change → LendsStand flat → is_borrower flat.processes pid ≡ b
     → (Own b change → SettlesFor k.place s.sid change) → Found A flat k image before
-    → Landed A (apply_change A.images flat pid regs change) k (passing_change b A.images k pid regs e change) image pid s.sid b e change (given_up flat (apply_change A.images flat pid regs change) pid s change k.holdings)
+    → Landed A (apply_change A.images flat pid regs change) k (passing_change b (facts_of A.images) k pid regs e change) image pid s.sid b e change (given_up flat (apply_change A.images flat pid regs change) pid s change k.holdings)
 step_landed A k flat image before pid regs e q s false change c lend w settles x = own_landed A k flat image before pid regs e q s false change c w (own_of change) (settles (own_of change)) x
   where
     own_of : (y : Change) → Own false y

@@ -9,7 +9,7 @@ use Rattle.flat_state.specs.declared.change.Change.{Change}
 use Rattle.flat_state.specs.declared.change.Change.TheVariants.{Keep, Resize, Fork, Lend, Exec, Reap, Sleep, End}
 use Rattle.flat_state.specs.Change.{apply_change, apply_writes, NamesChild}
 use Rattle.page_model.specs.Placement.{Placement, Residence}
-use Rattle.page_model.specs.Place.{place_change, enter_image, give_up_unless}
+use Rattle.page_model.specs.Place.{place_change, enter_image, give_up_unless, facts_numbered}
 use Rattle.page_model.specs.Moves.{drop_all}
 use Rattle.page_model.specs.Swapper.{is_out, residence_of}
 use Rattle.kernel_model.specs.UPage.{AreRegs}
@@ -21,21 +21,22 @@ use Rattle.kernel_laws.proofs.Machine.Gone.{Gone, gone_unless}
 use Rattle.kernel_laws.proofs.Machine.Ends.{out_ended, out_gone}
 use Rattle.run_laws.specs.Machine.{OutRegs}
 use Rattle.run_laws.proofs.Registered.{FoundRegs, writes_stay, change_stays}
+use Rattle.aout_image.specs.declared.Image.{Image}
 
-entered_residents : (p : Placement) (next image : ℕ) (o : Option NamedImage) → (enter_image p next image o).residents ≡ p.residents
+entered_residents : (p : Placement) (next image : ℕ) (o : Option Image) → (enter_image p next image o).residents ≡ p.residents
 entered_residents p next image None = refl
-entered_residents p next image (Some named) = refl
+entered_residents p next image (Some facts) = refl
 
 -- nobody goes out by a change of a process
-pub change_out : (images : List NamedImage) (p : Placement) (pid sid : ℕ) (b : Bool) (next at : ℕ) (change : Change) (n : ℕ) → is_out (place_change images p pid sid b next at change) n ≡ true → is_out p n ≡ true
+pub change_out : (images : List Image) (p : Placement) (pid sid : ℕ) (b : Bool) (next at : ℕ) (change : Change) (n : ℕ) → is_out (place_change images p pid sid b next at change) n ≡ true → is_out p n ≡ true
 change_out images p pid sid b next at Keep n e = e
 change_out images p pid sid b next at (Resize d s) n e = let sh : Shaped p (drop_all p (dropped_pages p sid d s)) = drop_all_shaped (dropped_pages p sid d s) p in ap (λ (rs : List Residence). (residence_of rs n).out) (sym sh.residents) ∙ e
 change_out images p pid sid b next at (Fork child) n e = sym (out_begun p.residents child at n) ∙ e
 change_out images p pid sid b next at (Lend child) n e = sym (out_begun p.residents child at n) ∙ e
 change_out images p pid sid b next at (Exec image top) n e =
-    let p1 : Placement = enter_image p next image (image_numbered images image) in
+    let p1 : Placement = enter_image p next image (facts_numbered images image) in
     let g : Gone p1 (give_up_unless b p1 sid) b sid = gone_unless b p1 sid in
-    ap (λ (rs : List Residence). (residence_of rs n).out) (sym (g.residents ∙ entered_residents p next image (image_numbered images image))) ∙ e
+    ap (λ (rs : List Residence). (residence_of rs n).out) (sym (g.residents ∙ entered_residents p next image (facts_numbered images image))) ∙ e
 change_out images p pid sid b next at (Reap child) n e = e
 change_out images p pid sid b next at Sleep n e = e
 change_out images p pid sid b next at (End status) n e =

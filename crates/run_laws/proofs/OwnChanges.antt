@@ -1,7 +1,7 @@
 -- A change of a process that holds its own space, or doesn't give it up, leaves what stands.
 use Rattle.std.proofs.Common.{◌≡◌, ◌≢◌, ℕ, Bool, true, false, List, [], length, Option, Some, None, Ok, refl, sym, ap, ◌∙◌, subst}
 use Rattle.flat_state.specs.Space.{Space}
-use Rattle.flat_state.specs.Flat.{Holds, Process, FlatState, NamedImage, Inputs, process_of}
+use Rattle.flat_state.specs.Flat.{Holds, Process, FlatState, Inputs, process_of}
 use Rattle.vm_facts.specs.declared.regs.Regs.{Regs}
 use Rattle.vm_facts.specs.declared.entry.Entry.{Entry}
 use Rattle.swap_book.specs.Holdings.{Holdings}
@@ -12,7 +12,7 @@ use Rattle.flat_state.specs.Change.{apply_change, NamesChild}
 use Rattle.flat_state.specs.Journal.{append}
 use Rattle.page_model.specs.Pages.{SpacePages, numbered}
 use Rattle.page_model.specs.Placement.{Placement, space_number, image_of, sharers}
-use Rattle.page_model.specs.Place.{is_borrower, place_change}
+use Rattle.page_model.specs.Place.{is_borrower, place_change, facts_of}
 use Rattle.page_model.specs.Dues.{DueStand}
 use Rattle.page_model.specs.Conditions.{HaveParts, CanChange, ApartFrom}
 use Rattle.page_model.specs.Swapper.{is_out}
@@ -44,10 +44,11 @@ use Rattle.run_laws.specs.Standing.{machine_of, EachOnce, Placed, ExecFits, Own}
 use Rattle.kernel_model.specs.Unit.{keeps_step as next_of}
 use Rattle.run_laws.proofs.Bridge.{from_machine}
 use Rattle.run_laws.proofs.Changes.{given_same, change_once}
+use Rattle.aout_image.specs.declared.Image.{Image}
 
 -- Who keeps a space does with it what the owner does.
 
-pub keeps_place : (images : List NamedImage) (p : Placement) (pid sid : ℕ) (b : Bool) (next at : ℕ) (change : Change) → Own b change → place_change images p pid sid false next at change ≡ place_change images p pid sid b next at change
+pub keeps_place : (images : List Image) (p : Placement) (pid sid : ℕ) (b : Bool) (next at : ℕ) (change : Change) → Own b change → place_change images p pid sid false next at change ≡ place_change images p pid sid b next at change
 keeps_place images p pid sid false next at change o = refl
 keeps_place images p pid sid true next at Keep o = refl
 keeps_place images p pid sid true next at (Resize d s) o = refl
@@ -83,12 +84,12 @@ end_false true status o = absurd o
 end_false false status o = refl
 
 pub own_told : (A : Inputs) (k : Kernel) (flat : FlatState) (pid : ℕ) (regs : Regs) (e : Entry) (q : Process) (s : Space) (b : Bool) (change : Change) → ImagesFit A.images → IsNumbered flat → process_of flat pid ≡ Some q → q.holding ≡ Holds s → is_borrower flat.processes pid ≡ b → Own b change
-    → is_out k.place pid ≡ false → k.place.due ≡ [] → NamesChild flat change → ExecFits A.images change → SameTables k flat → Stands A.images k flat → Told A (next_of A.images k pid regs e change) (apply_change A.images flat pid regs change)
+    → is_out k.place pid ≡ false → k.place.due ≡ [] → NamesChild flat change → ExecFits A.images change → SameTables k flat → Stands A.images k flat → Told A (next_of (facts_of A.images) k pid regs e change) (apply_change A.images flat pid regs change)
 own_told A k flat pid regs e q s b Keep fit nums f h w o out due m x t st = record { tables = keep_tables k A.images flat pid regs e q s nums f h t; stands = keep_stands A.images k flat pid regs e q s t f h out st }
 own_told A k flat pid regs e q s b (Resize d r) fit nums f h w o out due m x t st = record { tables = resize_tables k A.images flat pid regs e d r q s nums f h t; stands = resize_stands A.images k flat pid regs e d r q s t f h out st }
-own_told A k flat pid regs e q s b (Fork child) fit nums f h w o out due m x t st = subst (λ (c : ℕ). Told A (next_of A.images k pid regs e (Fork c)) (apply_change A.images flat pid regs (Fork c))) (sym m)
+own_told A k flat pid regs e q s b (Fork child) fit nums f h w o out due m x t st = subst (λ (c : ℕ). Told A (next_of (facts_of A.images) k pid regs e (Fork c)) (apply_change A.images flat pid regs (Fork c))) (sym m)
     (record { tables = fork_tables k A.images flat pid regs e q s nums f h t; stands = fork_stands A.images k flat pid regs e q s t due f h out st })
-own_told A k flat pid regs e q s b (Lend child) fit nums f h w o out due m x t st = subst (λ (c : ℕ). Told A (next_of A.images k pid regs e (Lend c)) (apply_change A.images flat pid regs (Lend c))) (sym m)
+own_told A k flat pid regs e q s b (Lend child) fit nums f h w o out due m x t st = subst (λ (c : ℕ). Told A (next_of (facts_of A.images) k pid regs e (Lend c)) (apply_change A.images flat pid regs (Lend c))) (sym m)
     (record { tables = lend_tables k A.images flat pid regs e q s nums f h t; stands = lend_stands A.images k flat pid regs e q s t f h out st })
 own_told A k flat pid regs e q s b (Exec number top) fit nums f h w o out due m (named, im, whole) t st =
     let i : ImageFits named = fit number named im in
@@ -105,13 +106,13 @@ pub record Kept (A : Inputs) (l : Kernel) : Type 0 where
   pub numbered : Numbered l
 
 pub own_kept : (A : Inputs) (k : Kernel) (flat : FlatState) (pid : ℕ) (regs : Regs) (e : Entry) (q : Process) (s : Space) (change : Change) → IsNumbered flat → process_of flat pid ≡ Some q → q.holding ≡ Holds s → SameTables k flat → NamesChild flat change
-    → Sound A.swap_blocks (change_step A.images k pid regs e change) → Numbered (change_step A.images k pid regs e change) → Kept A (next_of A.images k pid regs e change)
+    → Sound A.swap_blocks (change_step (facts_of A.images) k pid regs e change) → Numbered (change_step (facts_of A.images) k pid regs e change) → Kept A (next_of (facts_of A.images) k pid regs e change)
 own_kept A k flat pid regs e q s Keep nums f h t m so n = record { sound = so; numbered = n }
 own_kept A k flat pid regs e q s (Resize d r) nums f h t m so n = record { sound = so; numbered = n }
 own_kept A k flat pid regs e q s (Fork child) nums f h t m so n = record { sound = so; numbered = n }
 own_kept A k flat pid regs e q s (Lend child) nums f h t m so n =
-    let l = subst (λ (c : ℕ). (lives (change_step A.images k pid regs e (Lend c)).processes pid ≡ true) × (lives (change_step A.images k pid regs e (Lend c)).processes c ≡ true)) (sym m) (lend_lives A.images k flat pid regs e q s nums f h t) in
-    record { sound = pass_sound A.swap_blocks (change_step A.images k pid regs e (Lend child)) pid child l.0 l.1 so; numbered = pass_numbered (change_step A.images k pid regs e (Lend child)) pid child l.0 l.1 n }
+    let l = subst (λ (c : ℕ). (lives (change_step (facts_of A.images) k pid regs e (Lend c)).processes pid ≡ true) × (lives (change_step (facts_of A.images) k pid regs e (Lend c)).processes c ≡ true)) (sym m) (lend_lives A.images k flat pid regs e q s nums f h t) in
+    record { sound = pass_sound A.swap_blocks (change_step (facts_of A.images) k pid regs e (Lend child)) pid child l.0 l.1 so; numbered = pass_numbered (change_step (facts_of A.images) k pid regs e (Lend child)) pid child l.0 l.1 n }
 own_kept A k flat pid regs e q s (Exec image top) nums f h t m so n = record { sound = so; numbered = n }
 own_kept A k flat pid regs e q s (Reap child) nums f h t m so n = record { sound = so; numbered = n }
 own_kept A k flat pid regs e q s Sleep nums f h t m so n = record { sound = so; numbered = n }
@@ -119,11 +120,11 @@ own_kept A k flat pid regs e q s (End status) nums f h t m so n = record { sound
 
 -- the placement and the holdings behind it
 pub record Lands (A : Inputs) (k : Kernel) (pid sid : ℕ) (e : Entry) (change : Change) (l : Kernel) : Type 0 where
-  pub place : l.place ≡ place_change A.images k.place pid sid false k.next_sid (length (append k.journal e)) change
+  pub place : l.place ≡ place_change (facts_of A.images) k.place pid sid false k.next_sid (length (append k.journal e)) change
   pub holdings : l.holdings ≡ holdings_after k.holdings k.place l.place pid sid false change
   pub journal : l.journal ≡ append k.journal e
 
-pub next_lands : (A : Inputs) (k : Kernel) (pid sid : ℕ) (regs : Regs) (e : Entry) (change : Change) → Lands A k pid sid e change (change_step A.images k pid regs e change) → Lands A k pid sid e change (next_of A.images k pid regs e change)
+pub next_lands : (A : Inputs) (k : Kernel) (pid sid : ℕ) (regs : Regs) (e : Entry) (change : Change) → Lands A k pid sid e change (change_step (facts_of A.images) k pid regs e change) → Lands A k pid sid e change (next_of (facts_of A.images) k pid regs e change)
 next_lands A k pid sid regs e Keep l = l
 next_lands A k pid sid regs e (Resize d r) l = l
 next_lands A k pid sid regs e (Fork child) l = l
@@ -133,12 +134,12 @@ next_lands A k pid sid regs e (Reap child) l = l
 next_lands A k pid sid regs e Sleep l = l
 next_lands A k pid sid regs e (End status) l = l
 
-pub own_lands : (A : Inputs) (k : Kernel) (flat : FlatState) (pid : ℕ) (regs : Regs) (e : Entry) (q : Process) (s : Space) (change : Change) → process_of flat pid ≡ Some q → q.holding ≡ Holds s → SameTables k flat → Lands A k pid s.sid e change (next_of A.images k pid regs e change)
+pub own_lands : (A : Inputs) (k : Kernel) (flat : FlatState) (pid : ℕ) (regs : Regs) (e : Entry) (q : Process) (s : Space) (change : Change) → process_of flat pid ≡ Some q → q.holding ≡ Holds s → SameTables k flat → Lands A k pid s.sid e change (next_of (facts_of A.images) k pid regs e change)
 own_lands A k flat pid regs e q s change f h t =
     let g : Stepping k flat pid q s = stepping k flat pid q s t f h in
     next_lands A k pid s.sid regs e change
-    (subst (Lands A k pid s.sid e change) (sym (step_is A.images k pid regs e change g.proc (HoldsSpace s.sid) g.kept g.life))
-    (subst (λ (n : ℕ). Lands A k n s.sid e change (by_life A.images k (record g.proc { regs = regs }) (HoldsSpace s.sid) e change)) g.pid_is (record { place = refl; holdings = refl; journal = refl })))
+    (subst (Lands A k pid s.sid e change) (sym (step_is (facts_of A.images) k pid regs e change g.proc (HoldsSpace s.sid) g.kept g.life))
+    (subst (λ (n : ℕ). Lands A k n s.sid e change (by_life (facts_of A.images) k (record g.proc { regs = regs }) (HoldsSpace s.sid) e change)) g.pid_is (record { place = refl; holdings = refl; journal = refl })))
 
 -- All of it.
 
@@ -163,10 +164,10 @@ fit_some s (Some x) f e = absurd cc
 
 pub own_change : (A : Inputs) (flat : FlatState) (p : Placement) (hs found : Holdings) (pid : ℕ) (regs : Regs) (j : List Entry) (e : Entry) (q : Process) (s : Space) (b : Bool) (change : Change) → Changing A flat p hs found pid q s change → is_borrower flat.processes pid ≡ b → Own b change
     → SettlesFor p s.sid change → Placed A flat p hs
-    → Placed A (apply_change A.images flat pid regs change) (place_change A.images p pid s.sid b flat.next_sid (length (append j e)) change) (given_up flat (apply_change A.images flat pid regs change) pid s change found)
+    → Placed A (apply_change A.images flat pid regs change) (place_change (facts_of A.images) p pid s.sid b flat.next_sid (length (append j e)) change) (given_up flat (apply_change A.images flat pid regs change) pid s change found)
 own_change A flat p hs found pid regs j e q s b change c w o settles st =
-    subst (Placed A after (place_change A.images p pid s.sid b flat.next_sid at change)) (sym back)
-    (subst (λ (x : Placement). Placed A after x (holdings_after found p l.place pid s.sid false change)) (lands.place ∙ keeps_place A.images p pid s.sid b flat.next_sid at change o)
+    subst (Placed A after (place_change (facts_of A.images) p pid s.sid b flat.next_sid at change)) (sym back)
+    (subst (λ (x : Placement). Placed A after x (holdings_after found p l.place pid s.sid false change)) (lands.place ∙ keeps_place (facts_of A.images) p pid s.sid b flat.next_sid at change o)
     (subst (Placed A after l.place) lands.holdings
     (from_machine A after l kept.sound kept.numbered told.tables told.stands dues once parts frames)))
   where
@@ -206,14 +207,14 @@ own_change A flat p hs found pid regs j e q s b change c w o settles st =
     ready : ReadyFor k pid change
     ready = coupled_ready k flat pid q s change t c.found_process c.holds (takes_next k flat change t c.may) (may_reap k flat change t c.may) settles
 
-    pieces : place_all A.swap_blocks hs (asked A.images k pid change) ≡ Ok found
+    pieces : place_all A.swap_blocks hs (asked (facts_of A.images) k pid change) ≡ Ok found
     pieces = ap (place_all A.swap_blocks hs) (change_same A.images k flat pid q s change c.images sb.texts n c.numbers t c.found_process c.holds) ∙ c.pieces
 
     l : Kernel
-    l = next_of A.images k pid regs e change
+    l = next_of (facts_of A.images) k pid regs e change
 
     kept : Kept A l
-    kept = own_kept A k flat pid regs e q s change c.numbers c.found_process c.holds t c.may (ready_sound A.swap_blocks A.images k hs pid regs e change before n ready pieces) (flat_numbered A.images k pid regs e change (takes_next k flat change t c.may) ready.alive n)
+    kept = own_kept A k flat pid regs e q s change c.numbers c.found_process c.holds t c.may (ready_sound A.swap_blocks (facts_of A.images) k hs pid regs e change before n ready pieces) (flat_numbered (facts_of A.images) k pid regs e change (takes_next k flat change t c.may) ready.alive n)
 
     told : Told A l after
     told = own_told A k flat pid regs e q s b change c.images c.numbers c.found_process c.holds w o c.resident c.clear c.may c.execs t stands
@@ -244,19 +245,19 @@ own_change A flat p hs found pid regs j e q s b change c w o settles st =
     ow = so.owner
 
     can : CanChange p s.sid false flat.next_sid change
-    can = subst (λ (x : Life). CanChange p (space_of_life x) (gave_back x) flat.next_sid change) (ap life_of_proc g.kept ∙ g.life) (may_change A.images k pid change ow.frames n ready).can
+    can = subst (λ (x : Life). CanChange p (space_of_life x) (gave_back x) flat.next_sid change) (ap life_of_proc g.kept ∙ g.life) (may_change (facts_of A.images) k pid change ow.frames n ready).can
 
-    un : Unhanded p (place_change A.images p pid s.sid false flat.next_sid at change)
-    un = change_unhanded A.images p pid s.sid false flat.next_sid at change
+    un : Unhanded p (place_change (facts_of A.images) p pid s.sid false flat.next_sid at change)
+    un = change_unhanded (facts_of A.images) p pid s.sid false flat.next_sid at change
 
-    hands : SameHands p (place_change A.images p pid s.sid false flat.next_sid at change)
+    hands : SameHands p (place_change (facts_of A.images) p pid s.sid false flat.next_sid at change)
     hands = un.hands
 
     dues : DueStand l.place
-    dues = subst DueStand (sym lands.place) (change_due A.images p pid s.sid false flat.next_sid at change c.clear can (is_apart change))
+    dues = subst DueStand (sym lands.place) (change_due (facts_of A.images) p pid s.sid false flat.next_sid at change c.clear can (is_apart change))
 
     once : EachOnce l.place.due
-    once = subst (λ (x : Placement). EachOnce x.due) (sym lands.place) (change_once A.images p pid s.sid false flat.next_sid at change c.clear)
+    once = subst (λ (x : Placement). EachOnce x.due) (sym lands.place) (change_once (facts_of A.images) p pid s.sid false flat.next_sid at change c.clear)
 
     parts : HaveParts l.place.transfers
     parts = subst (λ (x : Placement). HaveParts x.transfers) (sym lands.place) (subst HaveParts (sym un.transfers) st.parts)

@@ -15,7 +15,7 @@ use Rattle.flat_state.specs.Journal.{append}
 use Rattle.page_model.specs.Pages.{numbered}
 use Rattle.page_model.specs.Placement.{Placement, Residence, space_number, image_of, image_in, sharers, slots_of, parts_of}
 use Rattle.page_model.specs.Moves.{touch, touch_all}
-use Rattle.page_model.specs.Place.{is_borrower, place_change, place_step, space_of_holding, space_of_process, data_count}
+use Rattle.page_model.specs.Place.{is_borrower, place_change, place_step, space_of_holding, space_of_process, data_count, facts_of}
 use Rattle.page_model.specs.Swapper.{is_out, is_settled, residence_of, names_page, is_of_space, is_of_text}
 use Rattle.page_model.specs.Conditions.{LosesPages}
 use Rattle.kernel_model.specs.Coupled.{Outline, Fits, SameTables, outline_of}
@@ -188,13 +188,13 @@ pub record Making (A : Inputs) (flat : FlatState) (p : Placement) (hs found : Ho
   pub settles : loses_pages s (is_borrower flat.processes pid) change ≡ true → is_settled p s.sid ≡ true
 
 pub step_placed : (A : Inputs) (flat : FlatState) (p : Placement) (hs found : Holdings) (pid : ℕ) (regs : Rattle.vm_facts.specs.declared.regs.Regs.Regs) (j : List Entry) (e : Entry) (q : Process) (s : Space) (ws : List ByteWrite) (written : List Page) (change : Change) → Making A flat p hs found pid q s ws change → Placed A flat p hs
-    → Placed A (apply_change A.images (apply_writes flat pid ws) pid regs change) (place_step A.images flat pid (length (append j e)) written change p) (given_up flat (apply_change A.images (apply_writes flat pid ws) pid regs change) pid s change found)
+    → Placed A (apply_change A.images (apply_writes flat pid ws) pid regs change) (place_step (facts_of A.images) flat pid (length (append j e)) written change p) (given_up flat (apply_change A.images (apply_writes flat pid ws) pid regs change) pid s change found)
 step_placed A flat p hs found pid regs j e q s ws written change m st =
-    subst (λ (n : ℕ). Placed A after (place_change A.images p1 pid n (is_borrower flat.processes pid) flat.next_sid at change) (given_up flat after pid s change found)) (sym (ap space_of_process m.found_process ∙ ap space_of_holding m.holds))
-    (subst (Placed A after (place_change A.images p1 pid s.sid (is_borrower flat.processes pid) flat.next_sid at change)) (given_written flat flat1 after pid s z change found same.sid same.image borrows)
-    (subst (λ (n : ℕ). Placed A after (place_change A.images p1 pid s.sid (is_borrower flat.processes pid) n at change) (given_up flat1 after pid z change found)) next
-    (subst (λ (n : ℕ). Placed A after (place_change A.images p1 pid n (is_borrower flat.processes pid) flat1.next_sid at change) (given_up flat1 after pid z change found)) same.sid
-    (subst (λ (b : Bool). Placed A after (place_change A.images p1 pid z.sid b flat1.next_sid at change) (given_up flat1 after pid z change found)) borrows
+    subst (λ (n : ℕ). Placed A after (place_change (facts_of A.images) p1 pid n (is_borrower flat.processes pid) flat.next_sid at change) (given_up flat after pid s change found)) (sym (ap space_of_process m.found_process ∙ ap space_of_holding m.holds))
+    (subst (Placed A after (place_change (facts_of A.images) p1 pid s.sid (is_borrower flat.processes pid) flat.next_sid at change)) (given_written flat flat1 after pid s z change found same.sid same.image borrows)
+    (subst (λ (n : ℕ). Placed A after (place_change (facts_of A.images) p1 pid s.sid (is_borrower flat.processes pid) n at change) (given_up flat1 after pid z change found)) next
+    (subst (λ (n : ℕ). Placed A after (place_change (facts_of A.images) p1 pid n (is_borrower flat.processes pid) flat1.next_sid at change) (given_up flat1 after pid z change found)) same.sid
+    (subst (λ (b : Bool). Placed A after (place_change (facts_of A.images) p1 pid z.sid b flat1.next_sid at change) (given_up flat1 after pid z change found)) borrows
     made))))
   where
     at : ℕ
@@ -280,10 +280,10 @@ step_placed A flat p hs found pid regs j e q s ws written change m st =
     settled : loses_pages z (is_borrower flat1.processes pid) change ≡ true → is_settled p1 z.sid ≡ true
     settled l = ap (is_settled p1) same.sid ∙ touched_settled written p s.sid ∙ m.settles (sym (ap (λ (b : Bool). loses_pages s b change) borrows) ∙ sym (loses change (is_borrower flat1.processes pid)) ∙ l)
 
-    go : Own (is_borrower flat1.processes pid) change ⊎ ((is_borrower flat1.processes pid ≡ true) × GivesBack change) → Placed A after (place_change A.images p1 pid z.sid (is_borrower flat1.processes pid) flat1.next_sid at change) (given_up flat1 after pid z change found)
+    go : Own (is_borrower flat1.processes pid) change ⊎ ((is_borrower flat1.processes pid ≡ true) × GivesBack change) → Placed A after (place_change (facts_of A.images) p1 pid z.sid (is_borrower flat1.processes pid) flat1.next_sid at change) (given_up flat1 after pid z change found)
     go (inl o) = own_change A flat1 p1 hs found pid regs j e q1 z (is_borrower flat1.processes pid) change c refl o (settles_for p1 z (is_borrower flat1.processes pid) change o fits1 settled) st1
-    go (inr (b, g)) = subst (λ (x : Bool). Placed A after (place_change A.images p1 pid z.sid x flat1.next_sid at change) (given_up flat1 after pid z change found)) (sym b)
+    go (inr (b, g)) = subst (λ (x : Bool). Placed A after (place_change (facts_of A.images) p1 pid z.sid x flat1.next_sid at change) (given_up flat1 after pid z change found)) (sym b)
         (back_change A flat1 p1 hs found pid regs j e q1 z change c (writes_lent flat pid ws q s m.found_process m.holds m.lenders) b g st1)
 
-    made : Placed A after (place_change A.images p1 pid z.sid (is_borrower flat1.processes pid) flat1.next_sid at change) (given_up flat1 after pid z change found)
+    made : Placed A after (place_change (facts_of A.images) p1 pid z.sid (is_borrower flat1.processes pid) flat1.next_sid at change) (given_up flat1 after pid z change found)
     made = go (own_or (is_borrower flat1.processes pid) change)

@@ -14,7 +14,7 @@ use Rattle.swap_book.specs.Placing.{Wanted}
 use Rattle.flat_state.specs.declared.spot.Spot.{Spot}
 use Rattle.flat_state.specs.declared.spot.Spot.TheVariants as spots
 use Rattle.page_model.specs.Placement.{Placement, state_of}
-use Rattle.page_model.specs.Place.{is_borrower}
+use Rattle.page_model.specs.Place.{is_borrower, facts_of}
 use Rattle.page_model.specs.Swapper.{is_out}
 use Rattle.kernel_model.specs.Kernel.{Kernel, Proc, plain_step, zero_step, copy_step, get_step, reclaim_step, push_step, done_step, write_step, note_step, out_step, in_step, image_after}
 use Rattle.kernel_model.specs.Sound.{Sound}
@@ -87,7 +87,7 @@ taken_step A s k pid = takes_step A (written_step A s k pid) (wanted_if A.images
 -- the whole step
 abbrev pub process_step : Inputs → State → Kernel → ℕ → Entry → Kernel
 process_step A s k pid e =
-    passing_change (is_borrower s.point.flat.processes pid) A.images (taken_step A s k pid) pid (step_at A s.point pid).regs e (step_at A s.point pid).change
+    passing_change (is_borrower s.point.flat.processes pid) (facts_of A.images) (taken_step A s k pid) pid (step_at A s.point pid).regs e (step_at A s.point pid).change
 
 abbrev pub ran_step : Inputs → State → Kernel → ℕ → ℕ → Kernel
 ran_step A s k pid n = ran_by (written_step A s k pid) pid (step_at A s.point pid).regs (entries.Ran pid n)

@@ -11,7 +11,7 @@ use Rattle.swap_book.specs.Holdings.{Holdings}
 use Rattle.flat_state.specs.Space.{address_in}
 use Rattle.flat_state.specs.Journal.{append, units_of}
 use Rattle.page_model.specs.Placement.{Placement, Transfer}
-use Rattle.page_model.specs.Place.{place_entry, place_step}
+use Rattle.page_model.specs.Place.{place_entry, place_step, facts_of}
 use Rattle.page_model.specs.Swapper.{Choice, In, Out, Nothing, swap_choice}
 use Rattle.run_model.specs.declared.mark.Mark.{Mark}
 use Rattle.run_model.specs.declared.mark.Mark.TheVariants as marks
@@ -92,7 +92,7 @@ place_at s e = length (append s.journal e)
 -- the placement once a process made this step
 abbrev pub place_behind : Inputs → State → ℕ → Step → Entry → Placement
 place_behind A s pid step e =
-    place_step A.images s.point.flat pid (place_at s e) (pages_written s.point.flat pid step) step.change s.place
+    place_step (facts_of A.images) s.point.flat pid (place_at s e) (pages_written s.point.flat pid step) step.change s.place
 
 -- the step of a process is complete with this entry, and so many instructions are counted now
 abbrev pub stepped : Inputs → State → ℕ → Entry → ℕ → State

@@ -1,10 +1,10 @@
 -- The state of a whole run: the flat machine, where all pages are, who holds which blocks, and the last mark.
-use Rattle.std.specs.Prelude.{ℕ, List, [], ◌∷◌, ◌++◌, map, filter_map, Option, Some, None}
+use Rattle.std.specs.Prelude.{ℕ, List, [], ◌∷◌, ◌++◌, filter_map, Option, Some, None}
 use Rattle.flat_state.specs.Flat.{Holding, Holds, Lends, Zombie, Process, FlatState, NamedImage, Inputs, image_numbered}
 use Rattle.vm_facts.specs.declared.entry.Entry.{Entry}
 use Rattle.swap_book.specs.Holdings.{Holdings}
 use Rattle.page_model.specs.Placement.{Placement, Starting, start_placement}
-use Rattle.page_model.specs.Place.{is_borrower}
+use Rattle.page_model.specs.Place.{is_borrower, facts_of}
 use Rattle.page_model.specs.Swapper.{Runner}
 use Rattle.run_model.specs.declared.mark.Mark.{Mark}
 use Rattle.run_model.specs.declared.mark.Mark.TheVariants as marks
@@ -38,7 +38,7 @@ starting images (number ∷ more) = starting_as number (image_numbered images nu
 abbrev pub start : Inputs → Holdings → State
 start A hs = record {
   point = start_point A;
-  place = start_placement (map (λ named. named.image.facts) A.images) (starting A.images A.first) A.frames;
+  place = start_placement (facts_of A.images) (starting A.images A.first) A.frames;
   holdings = hs;
   count = 0;
   lines = 0;

@@ -16,7 +16,7 @@ use Rattle.flat_state.specs.Flat.{Process, FlatState, NamedImage, Inputs, image_
 use Rattle.page_model.specs.Pages.{SpacePages, TextPages, numbered, data_in, stack_in, text_in}
 use Rattle.page_model.specs.Frames.{times}
 use Rattle.page_model.specs.Placement.{Placement, Residence, Due, Start, CopyOf, Starting, IsThere, due_at, image_number, space_number, slots_of, slot_of, state_of, filling_of, sharers, sharers_in, new_pages, spaces_from, residents_from, due_from, start_placement}
-use Rattle.page_model.specs.Place.{enter_space}
+use Rattle.page_model.specs.Place.{enter_space, facts_of}
 use Rattle.page_model.specs.Conditions.{IsNew}
 use Rattle.page_model.specs.Dues.{HasSource, IsDue, DueStand}
 use Rattle.kernel_model.specs.Kernel.{Kernel, Proc, StartBytes}
@@ -77,7 +77,7 @@ start_begins A first hs found frames number named a e =
     before = start_kernel A first hs frames
 
     facts : List Image
-    facts = map (λ (n : NamedImage). n.image.facts) A.images
+    facts = facts_of A.images
 
     after : List Process
     after = start_processes A.images 1 (A.first ++ number ∷ [])
@@ -110,8 +110,8 @@ start_begins A first hs found frames number named a e =
     starts : map start_of (held after) ≡ before.starts ++ record { page = Stack (length A.first + 1) 0; bytes = Rattle.flat_state.specs.Flat.start_page (named.name ∷ []) } ∷ []
     starts = ap (λ (ps : List Process). map start_of (held ps)) all ∙ ap (map start_of) (held-append (start_processes A.images 1 A.first) (p ∷ [])) ∙ map-append start_of (held (start_processes A.images 1 A.first)) (held (p ∷ []))
 
-pub start_none : (A : Inputs) (frames : List (List ℕ)) → A.first ≡ [] → start_kernel A [] [] frames ≡ new_kernel (map (λ (n : NamedImage). n.image.facts) A.images) A.frames frames
-start_none A frames e = ap (λ (ns : List ℕ). at_start [] frames (start_placement (map (λ (n : NamedImage). n.image.facts) A.images) [] A.frames) (map kept_of (start_processes A.images 1 ns)) (length ns + 1) (map start_of (held (start_processes A.images 1 ns)))) e
+pub start_none : (A : Inputs) (frames : List (List ℕ)) → A.first ≡ [] → start_kernel A [] [] frames ≡ new_kernel (facts_of A.images) A.frames frames
+start_none A frames e = ap (λ (ns : List ℕ). at_start [] frames (start_placement (facts_of A.images) [] A.frames) (map kept_of (start_processes A.images 1 ns)) (length ns + 1) (map start_of (held (start_processes A.images 1 ns)))) e
 
 pub starting_more : (A : Inputs) (first : List Starting) (number : ℕ) (named : NamedImage) → AreStarting A.images A.first first → image_numbered A.images number ≡ Some named
     → AreStarting A.images (A.first ++ number ∷ []) (first ++ starting_in number named ∷ [])

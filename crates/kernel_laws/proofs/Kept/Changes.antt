@@ -15,7 +15,7 @@ use Rattle.flat_state.specs.declared.change.Change.{Change}
 use Rattle.flat_state.specs.declared.change.Change.TheVariants.{Keep, Resize, Fork, Lend, Exec, Reap, Sleep, End}
 use Rattle.page_model.specs.Pages.{numbered}
 use Rattle.page_model.specs.Placement.{Placement}
-use Rattle.page_model.specs.Place.{is_borrower, place_change}
+use Rattle.page_model.specs.Place.{is_borrower, place_change, facts_of}
 use Rattle.page_model.specs.Conditions.{HaveParts, CanChange, MayForget, ApartFrom}
 use Rattle.page_model.specs.Dues.{DueStand}
 use Rattle.page_model.specs.Ownership.{OneOwner}
@@ -72,7 +72,7 @@ record Prepared (size : ℕ) (images : List NamedImage) (k : Kernel) (before : H
 record Names (size : ℕ) (images : List NamedImage) (k : Kernel) (before : Holdings) (flat : FlatState) (pid : ℕ) (change : Change) : Type 0 where
   pub child : NamesChild flat change
   pub enters : EntersImage images change
-  pub pieces : place_all size before (asked images k pid change) ≡ Ok k.holdings
+  pub pieces : place_all size before (asked (facts_of images) k pid change) ≡ Ok k.holdings
 
 -- by whether the process borrowed its space: it doesn't give it back
 abbrev pub KeepsSpace : Bool → Change → Type 0
@@ -146,7 +146,7 @@ none_found size hs found e = go e
 
 -- where a change lands in the placement
 record LandsAt (images : List NamedImage) (k : Kernel) (pid sid : ℕ) (b : Bool) (e : Entry) (change : Change) (l : Kernel) : Type 0 where
-  pub place : l.place ≡ place_change images k.place pid sid b k.next_sid (length (append k.journal e)) change
+  pub place : l.place ≡ place_change (facts_of images) k.place pid sid b k.next_sid (length (append k.journal e)) change
 
 record Rests (p : Placement) : Type 0 where
   pub dues : DueStand p
@@ -155,38 +155,38 @@ record Rests (p : Placement) : Type 0 where
 rests : (images : List NamedImage) (k l : Kernel) (pid sid : ℕ) (b : Bool) (e : Entry) (change : Change) → LandsAt images k pid sid b e change l → k.place.due ≡ [] → HaveParts k.place.transfers
     → CanChange k.place sid b k.next_sid change → ApartFrom sid b k.next_sid change → Rests l.place
 rests images k l pid sid b e change at clear parts can apart = subst Rests (sym at.place) (
-    let u : Unhanded k.place (place_change images k.place pid sid b k.next_sid (length (append k.journal e)) change) = change_unhanded images k.place pid sid b k.next_sid (length (append k.journal e)) change in
+    let u : Unhanded k.place (place_change (facts_of images) k.place pid sid b k.next_sid (length (append k.journal e)) change) = change_unhanded (facts_of images) k.place pid sid b k.next_sid (length (append k.journal e)) change in
     record {
-      dues = change_due images k.place pid sid b k.next_sid (length (append k.journal e)) change clear can apart;
+      dues = change_due (facts_of images) k.place pid sid b k.next_sid (length (append k.journal e)) change clear can apart;
       parts = subst HaveParts (sym u.transfers) parts;
     })
 
 -- Who keeps its space, or has one of its own.
 
 own_stands : (images : List NamedImage) (k : Kernel) (flat : FlatState) (pid : ℕ) (regs : Regs) (e : Entry) (q : Process) (s : Space) (change : Change) → Acts k flat pid q s → k.place.due ≡ [] → NamesChild flat change → EntersImage images change → SameTables k flat → Stands images k flat
-    → Stands images (keeps_step images k pid regs e change) (apply_change images flat pid regs change)
+    → Stands images (keeps_step (facts_of images) k pid regs e change) (apply_change images flat pid regs change)
 own_stands images k flat pid regs e q s Keep a due m x t st = keep_stands images k flat pid regs e q s t a.here a.holds a.resident st
 own_stands images k flat pid regs e q s (Resize d r) a due m x t st = resize_stands images k flat pid regs e d r q s t a.here a.holds a.resident st
 own_stands images k flat pid regs e q s (Fork child) a due m x t st =
-    subst (λ (c : ℕ). Stands images (keeps_step images k pid regs e (Fork c)) (apply_change images flat pid regs (Fork c))) (sym m) (fork_stands images k flat pid regs e q s t due a.here a.holds a.resident st)
+    subst (λ (c : ℕ). Stands images (keeps_step (facts_of images) k pid regs e (Fork c)) (apply_change images flat pid regs (Fork c))) (sym m) (fork_stands images k flat pid regs e q s t due a.here a.holds a.resident st)
 own_stands images k flat pid regs e q s (Lend child) a due m x t st =
-    subst (λ (c : ℕ). Stands images (keeps_step images k pid regs e (Lend c)) (apply_change images flat pid regs (Lend c))) (sym m) (lend_stands images k flat pid regs e q s t a.here a.holds a.resident st)
+    subst (λ (c : ℕ). Stands images (keeps_step (facts_of images) k pid regs e (Lend c)) (apply_change images flat pid regs (Lend c))) (sym m) (lend_stands images k flat pid regs e q s t a.here a.holds a.resident st)
 own_stands images k flat pid regs e q s (Exec number top) a due m (named, im, whole) t st = exec_stands images k flat pid regs e number top named q s t due a.here a.holds a.resident im st
 own_stands images k flat pid regs e q s (Reap child) a due (z, status, fz, hz) x t st = reap_stands images k flat pid regs e child status q z s t a.here a.holds a.resident fz hz st
 own_stands images k flat pid regs e q s Sleep a due m x t st = sleep_stands images k flat pid regs e q s t a.here a.holds a.resident st
 own_stands images k flat pid regs e q s (End status) a due m x t st = end_stands images k flat pid regs e status q s t a.here a.holds st
 
 own_coupled : (size : ℕ) (images : List NamedImage) (k : Kernel) (before : Holdings) (image : List ℕ) (flat : FlatState) (pid : ℕ) (regs : Regs) (e : Entry) (q : Process) (s : Space) (b : Bool) (change : Change) → is_borrower flat.processes pid ≡ b → KeepsSpace b change
-    → Prepared size images k before image flat → Names size images k before flat pid change → Acts k flat pid q s → SettlesFor k.place s.sid change → MayForget images k.place s.sid false k.next_sid change
-    → Coupled (keeps_step images k pid regs e change) images image (apply_change images flat pid regs change)
+    → Prepared size images k before image flat → Names size images k before flat pid change → Acts k flat pid q s → SettlesFor k.place s.sid change → MayForget (facts_of images) k.place s.sid false k.next_sid change
+    → Coupled (keeps_step (facts_of images) k pid regs e change) images image (apply_change images flat pid regs change)
 own_coupled size images k before image flat pid regs e q s b Keep w o x n a z y = keep_coupled k images image flat pid regs e q s x.numbers a.here a.holds a.resident x.coupled
 own_coupled size images k before image flat pid regs e q s b (Resize d r) w o x n a z y = let st : Stands images k flat = x.stands in
     resize_coupled_step k images image flat pid regs e d r q s x.numbers st.out x.clear a.here a.holds a.resident x.coupled
 own_coupled size images k before image flat pid regs e q s b (Fork child) w o x n a z y = let st : Stands images k flat = x.stands in
-    subst (λ (c : ℕ). Coupled (keeps_step images k pid regs e (Fork c)) images image (apply_change images flat pid regs (Fork c))) (sym n.child)
+    subst (λ (c : ℕ). Coupled (keeps_step (facts_of images) k pid regs e (Fork c)) images image (apply_change images flat pid regs (Fork c))) (sym n.child)
     (fork_coupled_step k images image flat pid regs e q s x.numbers st.out x.clear a.here a.holds a.resident x.coupled)
 own_coupled size images k before image flat pid regs e q s b (Lend child) w o x n a z y = let st : Stands images k flat = x.stands in
-    subst (λ (c : ℕ). Coupled (keeps_step images k pid regs e (Lend c)) images image (apply_change images flat pid regs (Lend c))) (sym n.child)
+    subst (λ (c : ℕ). Coupled (keeps_step (facts_of images) k pid regs e (Lend c)) images image (apply_change images flat pid regs (Lend c))) (sym n.child)
     (lend_coupled_step k images image flat pid regs e q s x.numbers st.out a.here a.holds a.resident x.coupled)
 own_coupled size images k before image flat pid regs e q s b (Exec number top) w o x n a z y =
     let st : Stands images k flat = x.stands in
@@ -205,9 +205,9 @@ own_coupled size images k before image flat pid regs e q s b (End status) w o x 
 
 -- parent and child live before the space passes
 pub lend_lives : (images : List NamedImage) (k : Kernel) (flat : FlatState) (pid : ℕ) (regs : Regs) (e : Entry) (q : Process) (s : Space) → IsNumbered flat → process_of flat pid ≡ Some q → q.holding ≡ Holds s → SameTables k flat
-    → (lives (change_step images k pid regs e (Lend flat.next_pid)).processes pid ≡ true) × (lives (change_step images k pid regs e (Lend flat.next_pid)).processes flat.next_pid ≡ true)
+    → (lives (change_step (facts_of images) k pid regs e (Lend flat.next_pid)).processes pid ≡ true) × (lives (change_step (facts_of images) k pid regs e (Lend flat.next_pid)).processes flat.next_pid ≡ true)
 lend_lives images k flat pid regs e q s nums f h t =
-    subst (λ (x : Kernel). (lives x.processes pid ≡ true) × (lives x.processes flat.next_pid ≡ true)) (sym (step_is images k pid regs e (Lend flat.next_pid) g.proc (HoldsSpace s.sid) g.kept g.life))
+    subst (λ (x : Kernel). (lives x.processes pid ≡ true) × (lives x.processes flat.next_pid ≡ true)) (sym (step_is (facts_of images) k pid regs e (Lend flat.next_pid) g.proc (HoldsSpace s.sid) g.kept g.life))
     (ap lives_in parent_kept ∙ ap has_life g.life, ap lives_in child_kept)
   where
     g : Stepping k flat pid q s
@@ -238,16 +238,16 @@ record Passed (size : ℕ) (images : List NamedImage) (k : Kernel) (pid sid : �
   pub lands : LandsAt images k pid sid b e change l
 
 own_passed : (size : ℕ) (images : List NamedImage) (k : Kernel) (flat : FlatState) (pid : ℕ) (regs : Regs) (e : Entry) (q : Process) (s : Space) (change : Change) → IsNumbered flat → process_of flat pid ≡ Some q → q.holding ≡ Holds s → SameTables k flat → NamesChild flat change
-    → Passed size images k pid s.sid false e change (change_step images k pid regs e change) → Passed size images k pid s.sid false e change (keeps_step images k pid regs e change)
+    → Passed size images k pid s.sid false e change (change_step (facts_of images) k pid regs e change) → Passed size images k pid s.sid false e change (keeps_step (facts_of images) k pid regs e change)
 own_passed size images k flat pid regs e q s Keep nums f h t m x = x
 own_passed size images k flat pid regs e q s (Resize d r) nums f h t m x = x
 own_passed size images k flat pid regs e q s (Fork child) nums f h t m x = x
 own_passed size images k flat pid regs e q s (Lend child) nums f h t m x =
-    let l = subst (λ (c : ℕ). (lives (change_step images k pid regs e (Lend c)).processes pid ≡ true) × (lives (change_step images k pid regs e (Lend c)).processes c ≡ true)) (sym m) (lend_lives images k flat pid regs e q s nums f h t) in
-    let at : LandsAt images k pid s.sid false e (Lend child) (change_step images k pid regs e (Lend child)) = x.lands in
+    let l = subst (λ (c : ℕ). (lives (change_step (facts_of images) k pid regs e (Lend c)).processes pid ≡ true) × (lives (change_step (facts_of images) k pid regs e (Lend c)).processes c ≡ true)) (sym m) (lend_lives images k flat pid regs e q s nums f h t) in
+    let at : LandsAt images k pid s.sid false e (Lend child) (change_step (facts_of images) k pid regs e (Lend child)) = x.lands in
     record {
-      sound = pass_sound size (change_step images k pid regs e (Lend child)) pid child l.0 l.1 x.sound;
-      numbered = pass_numbered (change_step images k pid regs e (Lend child)) pid child l.0 l.1 x.numbered;
+      sound = pass_sound size (change_step (facts_of images) k pid regs e (Lend child)) pid child l.0 l.1 x.sound;
+      numbered = pass_numbered (change_step (facts_of images) k pid regs e (Lend child)) pid child l.0 l.1 x.numbered;
       lands = record { place = at.place };
     }
 own_passed size images k flat pid regs e q s (Exec image top) nums f h t m x = x
@@ -255,10 +255,10 @@ own_passed size images k flat pid regs e q s (Reap child) nums f h t m x = x
 own_passed size images k flat pid regs e q s Sleep nums f h t m x = x
 own_passed size images k flat pid regs e q s (End status) nums f h t m x = x
 
-own_lands : (images : List NamedImage) (k : Kernel) (flat : FlatState) (pid : ℕ) (regs : Regs) (e : Entry) (q : Process) (s : Space) (change : Change) → Stepping k flat pid q s → LandsAt images k pid s.sid false e change (change_step images k pid regs e change)
+own_lands : (images : List NamedImage) (k : Kernel) (flat : FlatState) (pid : ℕ) (regs : Regs) (e : Entry) (q : Process) (s : Space) (change : Change) → Stepping k flat pid q s → LandsAt images k pid s.sid false e change (change_step (facts_of images) k pid regs e change)
 own_lands images k flat pid regs e q s change g =
-    subst (LandsAt images k pid s.sid false e change) (sym (step_is images k pid regs e change g.proc (HoldsSpace s.sid) g.kept g.life))
-    (subst (λ (n : ℕ). LandsAt images k n s.sid false e change (by_life images k (record g.proc { regs = regs }) (HoldsSpace s.sid) e change)) g.pid_is (record { place = refl }))
+    subst (LandsAt images k pid s.sid false e change) (sym (step_is (facts_of images) k pid regs e change g.proc (HoldsSpace s.sid) g.kept g.life))
+    (subst (λ (n : ℕ). LandsAt images k n s.sid false e change (by_life (facts_of images) k (record g.proc { regs = regs }) (HoldsSpace s.sid) e change)) g.pid_is (record { place = refl }))
 
 -- all that is so behind a change
 record Stood (size : ℕ) (images : List NamedImage) (image : List ℕ) (after : FlatState) (l : Kernel) : Type 0 where
@@ -271,18 +271,18 @@ record Stood (size : ℕ) (images : List NamedImage) (image : List ℕ) (after :
 -- what the placement allows of a process with a space of its own
 record OwnAllows (images : List NamedImage) (k : Kernel) (sid : ℕ) (change : Change) : Type 0 where
   pub can : CanChange k.place sid false k.next_sid change
-  pub forgets : MayForget images k.place sid false k.next_sid change
+  pub forgets : MayForget (facts_of images) k.place sid false k.next_sid change
   pub apart : ApartFrom sid false k.next_sid change
 
 own_stood : (size : ℕ) (images : List NamedImage) (k : Kernel) (before : Holdings) (image : List ℕ) (flat : FlatState) (pid : ℕ) (regs : Regs) (e : Entry) (q : Process) (s : Space) (b : Bool) (change : Change) → is_borrower flat.processes pid ≡ b → KeepsSpace b change
     → Prepared size images k before image flat → Names size images k before flat pid change → Acts k flat pid q s → ReadySpace k.place s.sid b change → HaveParts k.place.transfers
-    → Stood size images image (apply_change images flat pid regs change) (keeps_step images k pid regs e change)
+    → Stood size images image (apply_change images flat pid regs change) (keeps_step (facts_of images) k pid regs e change)
 own_stood size images k before image flat pid regs e q s b change w o x n a ready parts = record {
   sound = passed.sound;
   numbered = passed.numbered;
   coupled = own_coupled size images k before image flat pid regs e q s b change w o x n a settled held.forgets;
   stands = own_stands images k flat pid regs e q s change a x.clear n.child n.enters t x.stands;
-  rests = rests images k (keeps_step images k pid regs e change) pid s.sid false e change passed.lands x.clear parts held.can held.apart;
+  rests = rests images k (keeps_step (facts_of images) k pid regs e change) pid s.sid false e change passed.lands x.clear parts held.can held.apart;
 }
   where
     c : Coupled k images image flat
@@ -306,15 +306,15 @@ own_stood size images k before image flat pid regs e q s b change w o x n a read
     ow : OneOwner size (lives k.processes) k.place before
     ow = so.owner
 
-    passed : Passed size images k pid s.sid false e change (keeps_step images k pid regs e change)
+    passed : Passed size images k pid s.sid false e change (keeps_step (facts_of images) k pid regs e change)
     passed = own_passed size images k flat pid regs e q s change x.numbers a.here a.holds t n.child (record {
-      sound = ready_sound size images k before pid regs e change so x.numbered is_ready n.pieces;
-      numbered = flat_numbered images k pid regs e change (takes_next k flat change t n.child) is_ready.alive x.numbered;
+      sound = ready_sound size (facts_of images) k before pid regs e change so x.numbered is_ready n.pieces;
+      numbered = flat_numbered (facts_of images) k pid regs e change (takes_next k flat change t n.child) is_ready.alive x.numbered;
       lands = own_lands images k flat pid regs e q s change g;
     })
 
-    may : MayChange images k pid change
-    may = may_change images k pid change ow.frames x.numbered is_ready
+    may : MayChange (facts_of images) k pid change
+    may = may_change (facts_of images) k pid change ow.frames x.numbered is_ready
 
     wants : WantsThese k pid change
     wants = wants_these k pid change x.numbered is_ready
@@ -325,7 +325,7 @@ own_stood size images k before image flat pid regs e q s b change w o x n a read
     held : OwnAllows images k s.sid change
     held = record {
       can = subst (λ (y : Life). CanChange k.place (space_of_life y) (gave_back y) k.next_sid change) life may.can;
-      forgets = subst (λ (y : Life). MayForget images k.place (space_of_life y) (gave_back y) k.next_sid change) life may.forgets;
+      forgets = subst (λ (y : Life). MayForget (facts_of images) k.place (space_of_life y) (gave_back y) k.next_sid change) life may.forgets;
       apart = apart_from k.place k.processes s.sid false k.next_sid change (subst (λ (y : Life). MayAsk k.place k.processes (space_of_life y) (gave_back y) k.next_sid change) life wants.may);
     }
 
@@ -352,20 +352,20 @@ back_ready k flat pid q m s change a gb =
     by (End status) gb = record { alive = alive; next = tt; reaps = tt; space = λ z. absurd cc }
     by _ gb = absurd gb
 
-asks_same : (images : List NamedImage) (k : Kernel) (pid from to : ℕ) (change : Change) → GivesBack change → asked images (pass_step k from to) pid change ≡ asked images k pid change
+asks_same : (images : List NamedImage) (k : Kernel) (pid from to : ℕ) (change : Change) → GivesBack change → asked (facts_of images) (pass_step k from to) pid change ≡ asked (facts_of images) k pid change
 asks_same images k pid from to (Exec image top) gb = refl
 asks_same images k pid from to (End status) gb = refl
 asks_same images k pid from to _ gb = absurd gb
 
 back_stands : (images : List NamedImage) (k : Kernel) (flat : FlatState) (pid : ℕ) (regs : Regs) (e : Entry) (q m : Process) (s : Space) (change : Change) → GivesBack change → Acts k flat pid q s → IsLender flat pid s.sid m → k.place.due ≡ [] → EntersImage images change → SameTables k flat → Stands images k flat
-    → Stands images (change_step images (pass_step k pid m.pid) pid regs e change) (apply_change images flat pid regs change)
+    → Stands images (change_step (facts_of images) (pass_step k pid m.pid) pid regs e change) (apply_change images flat pid regs change)
 back_stands images k flat pid regs e q m s (Exec number top) gb a is due (named, im, whole) t st = exec_back_stands images k flat pid regs e number top named q m s t due a.here a.holds is a.resident im st
 back_stands images k flat pid regs e q m s (End status) gb a is due x t st = end_back_stands images k flat pid regs e status q m s t a.here a.holds is st
 back_stands images k flat pid regs e q m s _ gb a is due x t st = absurd gb
 
 back_coupled : (size : ℕ) (images : List NamedImage) (k : Kernel) (before : Holdings) (image : List ℕ) (flat : FlatState) (pid : ℕ) (regs : Regs) (e : Entry) (q m : Process) (s : Space) (change : Change) → GivesBack change → IsLender flat pid s.sid m
     → Prepared size images k before image flat → Names size images k before flat pid change → Acts k flat pid q s
-    → Coupled (change_step images (pass_step k pid m.pid) pid regs e change) images image (apply_change images flat pid regs change)
+    → Coupled (change_step (facts_of images) (pass_step k pid m.pid) pid regs e change) images image (apply_change images flat pid regs change)
 back_coupled size images k before image flat pid regs e q m s (Exec number top) gb is x n a =
     let st : Stands images k flat = x.stands in
     let i : ImageFits n.enters.0 = x.fits number n.enters.0 n.enters.1 in
@@ -376,9 +376,9 @@ back_coupled size images k before image flat pid regs e q m s (End status) gb is
     end_back size k images image flat pid regs e status q m s so x.numbers st.out x.clear a.here a.holds is x.coupled
 back_coupled size images k before image flat pid regs e q m s _ gb is x n a = absurd gb
 
-back_is : (images : List NamedImage) (k : Kernel) (pid n : ℕ) (regs : Regs) (e : Entry) (change : Change) → GivesBack change → lender_among k.processes pid ≡ n → back_step images k pid regs e change ≡ change_step images (pass_step k pid n) pid regs e change
-back_is images k pid n regs e (Exec number top) gb i = ap (λ (m : ℕ). change_step images (pass_step k pid m) pid regs e (Exec number top)) i
-back_is images k pid n regs e (End status) gb i = ap (λ (m : ℕ). change_step images (pass_step k pid m) pid regs e (End status)) i
+back_is : (images : List NamedImage) (k : Kernel) (pid n : ℕ) (regs : Regs) (e : Entry) (change : Change) → GivesBack change → lender_among k.processes pid ≡ n → back_step (facts_of images) k pid regs e change ≡ change_step (facts_of images) (pass_step k pid n) pid regs e change
+back_is images k pid n regs e (Exec number top) gb i = ap (λ (m : ℕ). change_step (facts_of images) (pass_step k pid m) pid regs e (Exec number top)) i
+back_is images k pid n regs e (End status) gb i = ap (λ (m : ℕ). change_step (facts_of images) (pass_step k pid m) pid regs e (End status)) i
 back_is images k pid n regs e _ gb i = absurd gb
 
 -- with any number of a space, which is not looked at
@@ -387,25 +387,25 @@ lands_any images k pid sid e (Exec image top) l gb x = record { place = x.place 
 lands_any images k pid sid e (End status) l gb x = record { place = x.place }
 lands_any images k pid sid e _ l gb x = absurd gb
 
-back_lands : (images : List NamedImage) (k : Kernel) (flat : FlatState) (pid : ℕ) (regs : Regs) (e : Entry) (q m : Process) (s : Space) (change : Change) (a : Borrowing k flat pid q m s) → GivesBack change → LandsAt images k pid s.sid true e change (change_step images (pass_step k pid m.pid) pid regs e change)
+back_lands : (images : List NamedImage) (k : Kernel) (flat : FlatState) (pid : ℕ) (regs : Regs) (e : Entry) (q m : Process) (s : Space) (change : Change) (a : Borrowing k flat pid q m s) → GivesBack change → LandsAt images k pid s.sid true e change (change_step (facts_of images) (pass_step k pid m.pid) pid regs e change)
 back_lands images k flat pid regs e q m s change a gb =
     let g : Stepping k flat pid q s = a.step in
     let k1 : Kernel = record k { processes = map (passes s.sid pid m.pid) k.processes } in
-    lands_any images k pid s.sid e change (change_step images (pass_step k pid m.pid) pid regs e change) gb
-    (subst (λ (x : Kernel). LandsAt images k pid 0 true e change (change_step images x pid regs e change)) (sym (back_kernel k flat pid q m s a))
-    (subst (LandsAt images k pid 0 true e change) (sym (step_is images k1 pid regs e change (record g.proc { life = New }) New (back_proc k flat pid q m s a) refl))
-    (subst (λ (n : ℕ). LandsAt images k n 0 true e change (by_life images k1 (record g.proc { regs = regs; life = New }) New e change)) g.pid_is (record { place = refl }))))
+    lands_any images k pid s.sid e change (change_step (facts_of images) (pass_step k pid m.pid) pid regs e change) gb
+    (subst (λ (x : Kernel). LandsAt images k pid 0 true e change (change_step (facts_of images) x pid regs e change)) (sym (back_kernel k flat pid q m s a))
+    (subst (LandsAt images k pid 0 true e change) (sym (step_is (facts_of images) k1 pid regs e change (record g.proc { life = New }) New (back_proc k flat pid q m s a) refl))
+    (subst (λ (n : ℕ). LandsAt images k n 0 true e change (by_life (facts_of images) k1 (record g.proc { regs = regs; life = New }) New e change)) g.pid_is (record { place = refl }))))
 
 back_stood : (size : ℕ) (images : List NamedImage) (k : Kernel) (before : Holdings) (image : List ℕ) (flat : FlatState) (pid : ℕ) (regs : Regs) (e : Entry) (q m : Process) (s : Space) (change : Change) → GivesBack change → IsLender flat pid s.sid m
     → Prepared size images k before image flat → Names size images k before flat pid change → Acts k flat pid q s → HaveParts k.place.transfers
-    → Stood size images image (apply_change images flat pid regs change) (back_step images k pid regs e change)
+    → Stood size images image (apply_change images flat pid regs change) (back_step (facts_of images) k pid regs e change)
 back_stood size images k before image flat pid regs e q m s change gb is x n a parts =
     subst (Stood size images image (apply_change images flat pid regs change)) (sym (back_is images k pid m.pid regs e change gb (lender_is k flat pid s.sid m t x.numbers is))) (record {
-      sound = ready_sound size images k1 before pid regs e change sound1 n1 ready pieces;
-      numbered = flat_numbered images k1 pid regs e change (takes_none k1 change gb) ready.alive n1;
+      sound = ready_sound size (facts_of images) k1 before pid regs e change sound1 n1 ready pieces;
+      numbered = flat_numbered (facts_of images) k1 pid regs e change (takes_none k1 change gb) ready.alive n1;
       coupled = back_coupled size images k before image flat pid regs e q m s change gb is x n a;
       stands = back_stands images k flat pid regs e q m s change gb a is x.clear n.enters t x.stands;
-      rests = rests images k (change_step images k1 pid regs e change) pid s.sid true e change (back_lands images k flat pid regs e q m s change b gb) x.clear parts (can change gb can0) (apart change gb);
+      rests = rests images k (change_step (facts_of images) k1 pid regs e change) pid s.sid true e change (back_lands images k flat pid regs e q m s change b gb) x.clear parts (can change gb can0) (apart change gb);
     })
   where
     c : Coupled k images image flat
@@ -432,7 +432,7 @@ back_stood size images k before image flat pid regs e q m s change gb is x n a p
     ready : ReadyFor k1 pid change
     ready = back_ready k flat pid q m s change b gb
 
-    pieces : place_all size before (asked images k1 pid change) ≡ Ok k.holdings
+    pieces : place_all size before (asked (facts_of images) k1 pid change) ≡ Ok k.holdings
     pieces = ap (place_all size before) (asks_same images k pid pid m.pid change gb) ∙ n.pieces
 
     so : Sound size (record k1 { holdings = before })
@@ -441,8 +441,8 @@ back_stood size images k before image flat pid regs e q m s change gb is x n a p
     ow : OneOwner size (lives k1.processes) k.place before
     ow = so.owner
 
-    may : MayChange images k1 pid change
-    may = may_change images k1 pid change ow.frames n1 ready
+    may : MayChange (facts_of images) k1 pid change
+    may = may_change (facts_of images) k1 pid change ow.frames n1 ready
 
     life : life_of_proc (numbered (λ (p : Proc). p.pid) pid k1.processes) ≡ New
     life = ap (λ (y : Kernel). life_of_proc (numbered (λ (p : Proc). p.pid) pid y.processes)) (back_kernel k flat pid q m s b) ∙ ap life_of_proc (back_proc k flat pid q m s b)
@@ -464,7 +464,7 @@ back_stood size images k before image flat pid regs e q m s change gb is x n a p
 
 either_stood : (size : ℕ) (images : List NamedImage) (k : Kernel) (before : Holdings) (image : List ℕ) (flat : FlatState) (pid : ℕ) (regs : Regs) (e : Entry) (q : Process) (s : Space) (b : Bool) (change : Change) → is_borrower flat.processes pid ≡ b → (b ≡ true → (m : Process) × IsLender flat pid s.sid m)
     → Prepared size images k before image flat → Names size images k before flat pid change → Acts k flat pid q s → ReadySpace k.place s.sid b change → HaveParts k.place.transfers
-    → Stood size images image (apply_change images flat pid regs change) (passing_change b images k pid regs e change)
+    → Stood size images image (apply_change images flat pid regs change) (passing_change b (facts_of images) k pid regs e change)
 either_stood size images k before image flat pid regs e q s false change w lend x n a ready parts = own_stood size images k before image flat pid regs e q s false change w (own change) x n a ready parts
   where
     own : (y : Change) → KeepsSpace false y
@@ -545,7 +545,7 @@ change_kept size images m pid regs e change fits i may = record {
     borrows = sym (borrows_is m.kernel m.flat pid c.tables)
 
     l : Kernel
-    l = passing_change b images k pid regs e change
+    l = passing_change b (facts_of images) k pid regs e change
 
     stood : Stood size images m.image (apply_change images m.flat pid regs change) l
     stood = either_stood size images k m.kernel.holdings m.image m.flat pid regs e may.process may.space b change borrows

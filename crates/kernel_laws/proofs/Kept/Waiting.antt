@@ -7,7 +7,7 @@ use Rattle.swap_book.specs.declared.Owner.TheVariants as owners
 use Rattle.swap_book.specs.Holdings.{Holdings}
 use Rattle.swap_book.specs.Owners.{u_pieces}
 use Rattle.swap_book.specs.Placing.{Wanted, wanted, place_all}
-use Rattle.flat_state.specs.Flat.{NamedImage, image_numbered}
+use Rattle.flat_state.specs.Flat.{NamedImage}
 use Rattle.flat_state.specs.PageNames.{number_of}
 use Rattle.flat_state.specs.declared.change.Change.{Change}
 use Rattle.flat_state.specs.declared.change.Change.TheVariants.{Keep, Resize, Fork, Lend, Exec, Reap, Sleep, End}
@@ -27,6 +27,8 @@ use Rattle.kernel_laws.proofs.Kept.Pages.{done_kept, find_kept}
 use Rattle.kernel_laws.proofs.Machine.Done.{oldest_store}
 use Rattle.kernel_laws.proofs.Machine.Images.{CanStore, AllStore}
 use Rattle.kernel_laws.proofs.Machine.Takes.{still_found, takes_coupled}
+use Rattle.page_model.specs.Place.{facts_of, facts_numbered}
+use Rattle.aout_image.specs.declared.Image.{Image}
 
 -- The kernel with the pieces that wait.
 
@@ -66,29 +68,29 @@ waits_image size images m i = go k.place.transfers refl
 
 -- What a change asks.
 
-asks_steady : (images : List NamedImage) (p q : Placement) (sid next : ℕ) (change : Change) → Steady p q → change_asks images q sid next change ≡ change_asks images p sid next change
+asks_steady : (images : List Image) (p q : Placement) (sid next : ℕ) (change : Change) → Steady p q → change_asks images q sid next change ≡ change_asks images p sid next change
 asks_steady images p q sid next Keep s = refl
 asks_steady images p q sid next (Resize d t) s = ap₂ (λ (a b : ℕ). further (owners.Data sid) a d ++ further (owners.Stack sid) b t) (s.sizes (Data sid 0)) (s.sizes (Stack sid 0))
 asks_steady images p q sid next (Fork child) s =
     ap₂ (λ (a b : ℕ). wanted (owners.Data next) (pieces (2 * a)) ++ (wanted (owners.Stack next) (pieces (2 * b)) ++ wanted (owners.U child) (u_pieces 2))) (s.sizes (Data sid 0)) (s.sizes (Stack sid 0))
 asks_steady images p q sid next (Lend child) s = refl
-asks_steady images p q sid next (Exec image top) s = by (image_numbered images image)
+asks_steady images p q sid next (Exec image top) s = by (facts_numbered images image)
   where
-    by : (o : Option NamedImage) → image_asked q next image o ≡ image_asked p next image o
+    by : (o : Option Image) → image_asked q next image o ≡ image_asked p next image o
     by None = refl
-    by (Some named) = ap₂ (λ (a b : ℕ). text_asked a image (2 * b) ++ (wanted (owners.Data next) (pieces (2 * data_pages_of named.image.facts)) ++ wanted (owners.Stack next) (pieces 2))) (s.sharing image) (s.sizes (Text image 0))
+    by (Some facts) = ap₂ (λ (a b : ℕ). text_asked a image (2 * b) ++ (wanted (owners.Data next) (pieces (2 * data_pages_of facts)) ++ wanted (owners.Stack next) (pieces 2))) (s.sharing image) (s.sizes (Text image 0))
 asks_steady images p q sid next (Reap child) s = refl
 asks_steady images p q sid next Sleep s = refl
 asks_steady images p q sid next (End status) s = refl
 
 -- the end of a transfer changes nothing of what a change asks
-done_asks : (size : ℕ) (images : List NamedImage) (k : Kernel) (read : List (List ℕ)) (pid : ℕ) (change : Change) → Sound size k → asked images (done_step k read) pid change ≡ asked images k pid change
+done_asks : (size : ℕ) (images : List NamedImage) (k : Kernel) (read : List (List ℕ)) (pid : ℕ) (change : Change) → Sound size k → asked (facts_of images) (done_step k read) pid change ≡ asked (facts_of images) k pid change
 done_asks size images k read pid change so =
     let o : OneOwner size (lives k.processes) k.place k.holdings = so.owner in
-    asks_steady images k.place (done k.place) _ k.next_sid change (done_steady k.place o.frames)
+    asks_steady (facts_of images) k.place (done k.place) _ k.next_sid change (done_steady k.place o.frames)
 
-pub finds_wait : (size : ℕ) (images : List NamedImage) (m : KernelState) (found : Holdings) (pid : ℕ) (change : Change) → Invariant size images m → place_all size m.kernel.holdings (asked images m.kernel pid change) ≡ Ok found → Waits size images (state_after images m (FindUnit found)) pid change
-finds_wait size images m found pid change i e = record { invariant = find_kept size images m found i (record { pieces = asked images m.kernel pid change; placed = e }); pieces = e }
+pub finds_wait : (size : ℕ) (images : List NamedImage) (m : KernelState) (found : Holdings) (pid : ℕ) (change : Change) → Invariant size images m → place_all size m.kernel.holdings (asked (facts_of images) m.kernel pid change) ≡ Ok found → Waits size images (state_after images m (FindUnit found)) pid change
+finds_wait size images m found pid change i e = record { invariant = find_kept size images m found i (record { pieces = asked (facts_of images) m.kernel pid change; placed = e }); pieces = e }
 
 pub dones_wait : (size : ℕ) (images : List NamedImage) (reads : List (List (List ℕ))) (m : KernelState) (pid : ℕ) (change : Change) → Waits size images m pid change → MayAll size images m (map DoneUnit reads) → Waits size images (states_after images m (map DoneUnit reads)) pid change
 dones_wait size images [] m pid change w may = w

@@ -25,7 +25,7 @@ use Rattle.page_model.specs.Pages.{SpacePages, numbered, data_in, stack_in}
 use Rattle.flat_state.specs.PageNames.{number_of}
 use Rattle.page_model.specs.Placement.{Placement, Residence, space_number, slots_of, image_in, image_of, IsThere}
 use Rattle.page_model.specs.Moves.{drop_all}
-use Rattle.page_model.specs.Place.{resize}
+use Rattle.page_model.specs.Place.{resize, facts_of}
 use Rattle.page_model.specs.Swapper.{is_out, residence_of}
 use Rattle.page_model.specs.Ownership.{block_of}
 use Rattle.page_model.specs.PageBytes.{zeros, SameBytes}
@@ -132,9 +132,9 @@ fit_cut s (Some x) d t f = record {
 
 -- Growth and break.
 pub resize_coupled_step : (k : Kernel) (images : List NamedImage) (image : List ℕ) (flat : FlatState) (pid : ℕ) (regs : Regs) (e : Entry) (d t : ℕ) (q : Process) (s : Space) → IsNumbered flat → OutHold k.place flat → k.place.due ≡ []
-    → process_of flat pid ≡ Some q → q.holding ≡ Holds s → is_out k.place pid ≡ false → Coupled k images image flat → Coupled (change_step images k pid regs e (Resize d t)) images image (apply_change images flat pid regs (Resize d t))
+    → process_of flat pid ≡ Some q → q.holding ≡ Holds s → is_out k.place pid ≡ false → Coupled k images image flat → Coupled (change_step (facts_of images) k pid regs e (Resize d t)) images image (apply_change images flat pid regs (Resize d t))
 resize_coupled_step k images image flat pid regs e d t q s nums outs due f h out c =
-    subst (λ (x : Kernel). Coupled x images image (apply_change images flat pid regs (Resize d t))) (sym (step_is images k pid regs e (Resize d t) g.proc (HoldsSpace s.sid) g.kept g.life))
+    subst (λ (x : Kernel). Coupled x images image (apply_change images flat pid regs (Resize d t))) (sym (step_is (facts_of images) k pid regs e (Resize d t) g.proc (HoldsSpace s.sid) g.kept g.life))
     (subst (Coupled l images image) (sym (applied images flat pid regs (Resize d t) q s f h))
     (coupled_of l images image after (tables_of l after (with_replaced k.processes flat.processes kp fp c.tables.processes nums.pids outline) c.tables.next_pid c.tables.next_sid fits)
     (resize_coupled k.place s.sid d t (beside_kernel k images image flat) (beside_kernel l images image after) c.pages due same new (λ i v. refl)) regs_now))
@@ -155,7 +155,7 @@ resize_coupled_step k images image flat pid regs e d t q s nums outs due f h out
     after = with_process flat fp
 
     l : Kernel
-    l = by_life images k kp (HoldsSpace s.sid) e (Resize d t)
+    l = by_life (facts_of images) k kp (HoldsSpace s.sid) e (Resize d t)
 
     found : numbered pid_of fp.pid flat.processes ≡ Some q
     found = ap (λ (n : ℕ). numbered pid_of n flat.processes) g.pid_was ∙ g.found

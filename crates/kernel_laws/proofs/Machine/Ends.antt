@@ -15,7 +15,7 @@ use Rattle.flat_state.specs.Change.{with_process, replaced, returned, is_zombie,
 use Rattle.flat_state.specs.Journal.{append}
 use Rattle.page_model.specs.Pages.{numbered}
 use Rattle.page_model.specs.Placement.{Placement, Residence, Due, due_at, space_number, image_of, sharers, IsThere}
-use Rattle.page_model.specs.Place.{give_up_unless, end_residence, space_of_holding, is_borrower}
+use Rattle.page_model.specs.Place.{give_up_unless, end_residence, space_of_holding, is_borrower, facts_of}
 use Rattle.page_model.specs.Swapper.{is_out, residence_of}
 use Rattle.page_model.specs.Conditions.{IsSettled, MayForget}
 use Rattle.page_model.specs.Ownership.{OwnsFrames, OneOwner, TextAside, owner_of}
@@ -416,11 +416,11 @@ left_is false F pid parent = refl
 
 -- A process that holds its own space ends.
 pub end_coupled_step : (size : ℕ) (k : Kernel) (images : List NamedImage) (image : List ℕ) (flat : FlatState) (pid : ℕ) (regs : Regs) (e : Entry) (status : ℕ) (q : Process) (s : Space) → Sound size k → IsNumbered flat → OutHold k.place flat → k.place.due ≡ []
-    → process_of flat pid ≡ Some q → q.holding ≡ Holds s → is_borrower flat.processes pid ≡ false → IsSettled k.place s.sid → MayForget images k.place s.sid false k.next_sid (End status) → Coupled k images image flat
-    → Coupled (change_step images k pid regs e (End status)) images image (apply_change images flat pid regs (End status))
+    → process_of flat pid ≡ Some q → q.holding ≡ Holds s → is_borrower flat.processes pid ≡ false → IsSettled k.place s.sid → MayForget (facts_of images) k.place s.sid false k.next_sid (End status) → Coupled k images image flat
+    → Coupled (change_step (facts_of images) k pid regs e (End status)) images image (apply_change images flat pid regs (End status))
 end_coupled_step size k images image flat pid regs e status q s so nums outs due f h own_space settled forget c =
-    subst (λ (x : Kernel). Coupled x images image (apply_change images flat pid regs (End status))) (sym (step_is images k pid regs e (End status) g.proc (HoldsSpace s.sid) g.kept g.life))
-    (subst (Coupled (by_life images k kp (HoldsSpace s.sid) e (End status)) images image) (sym (applied images flat pid regs (End status) q s f h))
+    subst (λ (x : Kernel). Coupled x images image (apply_change images flat pid regs (End status))) (sym (step_is (facts_of images) k pid regs e (End status) g.proc (HoldsSpace s.sid) g.kept g.life))
+    (subst (Coupled (by_life (facts_of images) k kp (HoldsSpace s.sid) e (End status)) images image) (sym (applied images flat pid regs (End status) q s f h))
     (subst (Coupled l images image) (sym (left_is (q.parent == 0) (orphaned (Rattle.flat_state.specs.Change.given_back (with_process flat fp) q.pid s) q.pid) q.pid q.parent))
     (subst (λ (xs : List Process). Coupled l images image (record flat { processes = left_flat (q.parent == 0) (orphans q.pid xs) q.pid q.parent }))
     (sym (returned_none (replaced flat.processes fp) q.pid s (borrower_replaced flat.processes fp q.pid refl (ap (is_borrower flat.processes) g.pid_was ∙ own_space))))
@@ -488,7 +488,7 @@ end_coupled_step size k images image flat pid regs e status q s so nums outs due
       frames = o.frames;
       due = due;
       settled = λ i. settled;
-      aside = place_change_aside images k.place kp.pid s.sid false k.next_sid 0 (End status) o.aside forget;
+      aside = place_change_aside (facts_of images) k.place kp.pid s.sid false k.next_sid 0 (End status) o.aside forget;
       other = λ m d. ap (numbered sid_of m) spaces ∙ held_other flat.processes fp s m held_here (d refl) refl;
       gone = λ i. ap (numbered sid_of s.sid) spaces ∙ held_now flat.processes fp s held_here;
     }

@@ -19,7 +19,7 @@ use Rattle.flat_state.specs.Journal.{append}
 use Rattle.page_model.specs.Pages.{Zeros, OfImage, SpacePages, numbered, data_in, stack_in}
 use Rattle.flat_state.specs.PageNames.{same_page}
 use Rattle.page_model.specs.Placement.{Placement, Residence, Due, Start, due_at, space_number, slots_of, image_in, image_of, sharers, data_filling, new_pages, IsThere}
-use Rattle.page_model.specs.Place.{enter_space, enter_image, give_up_unless, place_change, is_borrower}
+use Rattle.page_model.specs.Place.{enter_space, enter_image, give_up_unless, place_change, is_borrower, facts_of}
 use Rattle.page_model.specs.Swapper.{is_out, residence_of}
 use Rattle.page_model.specs.Conditions.{IsNew, IsSettled, MayForget}
 use Rattle.page_model.specs.Ownership.{OwnsFrames, OneOwner, TextAside}
@@ -46,6 +46,7 @@ use Rattle.kernel_laws.proofs.Machine.Still.{outline_is}
 use Rattle.kernel_laws.proofs.Machine.Forks.{next_new, next_sid_none}
 use Rattle.kernel_laws.proofs.Machine.Gone.{Gone, gone_unless, gone_data, gone_stack, unless_coupled, unless_blocks, unless_u, OtherBytes, other_coupled}
 use Rattle.kernel_laws.proofs.Machine.Processes.{with_at, with_not, with_replaced, other_space, holds_there, Stepping, stepping, by_life, step_is, regs_carried, regs_in_record}
+use Rattle.kernel_laws.proofs.Machine.Images.{facts_found, image_known}
 
 -- What is kept for a new stack page.
 
@@ -62,7 +63,7 @@ start_new (x ∷ ss) s e = go (same_page x.page s.page) e (start_new ss s)
     go false h ih = ih h
 
 -- the machine in which a process entered a new image, and gave up its space unless it had borrowed that
-abbrev pub exec_kernel : Kernel → ℕ → ℕ → Bool → ℕ → Option NamedImage → List ℕ → List Proc → List Entry → Kernel
+abbrev pub exec_kernel : Kernel → ℕ → ℕ → Bool → ℕ → Option Image → List ℕ → List Proc → List Entry → Kernel
 exec_kernel k next sid borrowed number o top ps journal =
     let place = give_up_unless borrowed (enter_image k.place next number o) sid in
     record k {
@@ -83,7 +84,7 @@ pub record Entering (k : Kernel) (images : List NamedImage) (flat after : FlatSt
   pub flat_new : numbered sid_of next (spaces_of flat) ≡ None
   pub apart : borrowed ≡ false → next ≢ sid
   pub settled : borrowed ≡ false → IsSettled k.place sid
-  pub aside : TextAside (give_up_unless borrowed (enter_image k.place next number (Some named)) sid)
+  pub aside : TextAside (give_up_unless borrowed (enter_image k.place next number (Some named.image.facts)) sid)
   pub image : image_numbered images number ≡ Some named
   pub fits : DataFits named.image
   pub whole : length top ≡ 1024
@@ -93,12 +94,12 @@ pub record Entering (k : Kernel) (images : List NamedImage) (flat after : FlatSt
 
 pub exec_core : (k : Kernel) (images : List NamedImage) (image : List ℕ) (flat after : FlatState) (next sid number : ℕ) (borrowed : Bool) (named : NamedImage) (top : List ℕ) (ps : List Proc) (journal : List Entry) → Entering k images flat after next sid number borrowed named top
     → AllFit flat k.place → CouplesPages k.place (beside_kernel k images image flat)
-    → AllFit after (exec_kernel k next sid borrowed number (Some named) top ps journal).place
-    × CouplesPages (exec_kernel k next sid borrowed number (Some named) top ps journal).place (beside_kernel (exec_kernel k next sid borrowed number (Some named) top ps journal) images image after)
+    → AllFit after (exec_kernel k next sid borrowed number (Some named.image.facts) top ps journal).place
+    × CouplesPages (exec_kernel k next sid borrowed number (Some named.image.facts) top ps journal).place (beside_kernel (exec_kernel k next sid borrowed number (Some named.image.facts) top ps journal) images image after)
 exec_core k images image flat after next sid number borrowed named top ps journal a all pages = (fits, coupled)
   where
     l : Kernel
-    l = exec_kernel k next sid borrowed number (Some named) top ps journal
+    l = exec_kernel k next sid borrowed number (Some named.image.facts) top ps journal
 
     facts : Image
     facts = named.image.facts
@@ -191,7 +192,7 @@ exec_core k images image flat after next sid number borrowed named top ps journa
 
     -- without the old space
     left_pages : CouplesPages l.place c1
-    left_pages = unless_coupled borrowed p1 sid c1 (enter_image_owner k.place next number (Some named) a.frames a.new) (λ e. enter_settled k.place next number sid (Some named) a.frames a.new (a.settled e)) entered_pages
+    left_pages = unless_coupled borrowed p1 sid c1 (enter_image_owner k.place next number (Some named.image.facts) a.frames a.new) (λ e. enter_settled k.place next number sid (Some named.image.facts) a.frames a.new (a.settled e)) entered_pages
 
     no_copy : (w : Page) → NoCopy (due_at l.place.due w)
     no_copy w = subst (λ (ds : List Due). NoCopy (due_at ds w)) (sym g.due) (go (same_page (Stack next 0) w))
@@ -294,13 +295,13 @@ borrower_replaced (q ∷ ps) p pid h e = go (q.pid == p.pid) (borrower_replaced 
 
 -- A process that holds its own space enters an image.
 pub exec_coupled_step : (size : ℕ) (before : Holdings) (k : Kernel) (images : List NamedImage) (image : List ℕ) (flat : FlatState) (pid : ℕ) (regs : Regs) (e : Entry) (number : ℕ) (top : List ℕ) (named : NamedImage) (q : Process) (s : Space) → Sound size (record k { holdings = before }) → IsNumbered flat → OutHold k.place flat
-    → k.place.due ≡ [] → KeepsStarts k → process_of flat pid ≡ Some q → q.holding ≡ Holds s → is_borrower flat.processes pid ≡ false → is_out k.place pid ≡ false → IsSettled k.place s.sid → MayForget images k.place s.sid false k.next_sid (Exec number top)
-    → image_numbered images number ≡ Some named → DataFits named.image → length top ≡ 1024 → Coupled k images image flat → Coupled (change_step images k pid regs e (Exec number top)) images image (apply_change images flat pid regs (Exec number top))
+    → k.place.due ≡ [] → KeepsStarts k → process_of flat pid ≡ Some q → q.holding ≡ Holds s → is_borrower flat.processes pid ≡ false → is_out k.place pid ≡ false → IsSettled k.place s.sid → MayForget (facts_of images) k.place s.sid false k.next_sid (Exec number top)
+    → image_numbered images number ≡ Some named → DataFits named.image → length top ≡ 1024 → Coupled k images image flat → Coupled (change_step (facts_of images) k pid regs e (Exec number top)) images image (apply_change images flat pid regs (Exec number top))
 exec_coupled_step size before k images image flat pid regs e number top named q s so nums outs due starts f h own_space out settled forget im fit whole c =
-    subst (λ (x : Kernel). Coupled x images image (apply_change images flat pid regs (Exec number top))) (sym (step_is images k pid regs e (Exec number top) g.proc (HoldsSpace s.sid) g.kept g.life))
-    (subst (Coupled (by_life images k (record g.proc { regs = regs }) (HoldsSpace s.sid) e (Exec number top)) images image) (sym (applied images flat pid regs (Exec number top) q s f h))
-    (subst (λ (o : Option NamedImage). Coupled (exec_kernel k k.next_sid s.sid false number o top (with_proc k.processes (record g.proc { regs = regs; life = HoldsSpace k.next_sid })) (append k.journal e)) images image (entered flat (record q { regs = regs }) s number o top)) (sym im)
-    (subst (λ (m : ℕ). Coupled (exec_kernel k m s.sid false number (Some named) top (with_proc k.processes (record g.proc { regs = regs; life = HoldsSpace m })) (append k.journal e)) images image (entered flat (record q { regs = regs }) s number (Some named) top)) (sym c.tables.next_sid)
+    subst (λ (x : Kernel). Coupled x images image (apply_change images flat pid regs (Exec number top))) (sym (step_is (facts_of images) k pid regs e (Exec number top) g.proc (HoldsSpace s.sid) g.kept g.life))
+    (subst (Coupled (by_life (facts_of images) k (record g.proc { regs = regs }) (HoldsSpace s.sid) e (Exec number top)) images image) (sym (applied images flat pid regs (Exec number top) q s f h))
+    (image_known images number named (λ (f : Option Image) (o : Option NamedImage). Coupled (exec_kernel k k.next_sid s.sid false number f top (with_proc k.processes (record g.proc { regs = regs; life = HoldsSpace k.next_sid })) (append k.journal e)) images image (entered flat (record q { regs = regs }) s number o top)) im
+    (subst (λ (m : ℕ). Coupled (exec_kernel k m s.sid false number (Some named.image.facts) top (with_proc k.processes (record g.proc { regs = regs; life = HoldsSpace m })) (append k.journal e)) images image (entered flat (record q { regs = regs }) s number (Some named) top)) (sym c.tables.next_sid)
     (subst (λ (xs : List Process). Coupled l images image (record flat { processes = xs; next_sid = n + 1 })) (sym (returned_none (replaced flat.processes fp) q.pid s (borrower_replaced flat.processes fp q.pid refl (ap (is_borrower flat.processes) g.pid_was ∙ own_space))))
     (coupled_of l images image after (tables_of l after outlines c.tables.next_pid refl core.0) core.1 regs_now)))))
   where
@@ -323,7 +324,7 @@ exec_coupled_step size before k images image flat pid regs e number top named q 
     after = record flat { processes = replaced flat.processes fp; next_sid = n + 1 }
 
     l : Kernel
-    l = exec_kernel k n s.sid false number (Some named) top (with_proc k.processes kp) (append k.journal e)
+    l = exec_kernel k n s.sid false number (Some named.image.facts) top (with_proc k.processes kp) (append k.journal e)
 
     pids : kp.pid ≡ fp.pid
     pids = g.pid_is ∙ sym g.pid_was
@@ -355,8 +356,8 @@ exec_coupled_step size before k images image flat pid regs e number top named q 
       flat_new = next_sid_none flat nums;
       apart = λ i. apart;
       settled = λ i. settled;
-      aside = subst (λ (x : Option NamedImage). TextAside (give_up_unless false (enter_image k.place n number x) s.sid)) im
-          (subst (λ (m : ℕ). TextAside (place_change images k.place pid s.sid false m 0 (Exec number top))) c.tables.next_sid (place_change_aside images k.place pid s.sid false k.next_sid 0 (Exec number top) o.aside forget));
+      aside = subst (λ (x : Option Image). TextAside (give_up_unless false (enter_image k.place n number x) s.sid)) (facts_found images number named im)
+          (subst (λ (m : ℕ). TextAside (place_change (facts_of images) k.place pid s.sid false m 0 (Exec number top))) c.tables.next_sid (place_change_aside (facts_of images) k.place pid s.sid false k.next_sid 0 (Exec number top) o.aside forget));
       image = im;
       fits = fit;
       whole = whole;

@@ -13,7 +13,7 @@ use Rattle.flat_state.specs.Change.{replaced, with_results, child_of, forked, ap
 use Rattle.flat_state.specs.Journal.{append}
 use Rattle.page_model.specs.Pages.{SpacePages, numbered, data_in, stack_in}
 use Rattle.page_model.specs.Placement.{Placement, Residence, space_number, slots_of, image_in, image_of, IsThere}
-use Rattle.page_model.specs.Place.{child_slot, fork_space, begin_residence}
+use Rattle.page_model.specs.Place.{child_slot, fork_space, begin_residence, facts_of}
 use Rattle.page_model.specs.Swapper.{is_out, residence_of}
 use Rattle.page_model.specs.Conditions.{IsNew}
 use Rattle.page_model.specs.PageBytes.{SameBytes, Copies}
@@ -93,10 +93,10 @@ forked_kernel k p sid child next e = record k {
 }
 
 pub fork_coupled_step : (k : Kernel) (images : List NamedImage) (image : List ℕ) (flat : FlatState) (pid : ℕ) (regs : Regs) (e : Entry) (q : Process) (s : Space) → IsNumbered flat → OutHold k.place flat → k.place.due ≡ []
-    → process_of flat pid ≡ Some q → q.holding ≡ Holds s → is_out k.place pid ≡ false → Coupled k images image flat → Coupled (change_step images k pid regs e (Fork flat.next_pid)) images image (apply_change images flat pid regs (Fork flat.next_pid))
+    → process_of flat pid ≡ Some q → q.holding ≡ Holds s → is_out k.place pid ≡ false → Coupled k images image flat → Coupled (change_step (facts_of images) k pid regs e (Fork flat.next_pid)) images image (apply_change images flat pid regs (Fork flat.next_pid))
 fork_coupled_step k images image flat pid regs e q s nums outs due f h out c =
-    subst (λ (x : Kernel). Coupled x images image (apply_change images flat pid regs (Fork flat.next_pid))) (sym (step_is images k pid regs e (Fork flat.next_pid) g.proc (HoldsSpace s.sid) g.kept g.life))
-    (subst (Coupled (by_life images k kp (HoldsSpace s.sid) e (Fork flat.next_pid)) images image) (sym (applied images flat pid regs (Fork flat.next_pid) q s f h))
+    subst (λ (x : Kernel). Coupled x images image (apply_change images flat pid regs (Fork flat.next_pid))) (sym (step_is (facts_of images) k pid regs e (Fork flat.next_pid) g.proc (HoldsSpace s.sid) g.kept g.life))
+    (subst (Coupled (by_life (facts_of images) k kp (HoldsSpace s.sid) e (Fork flat.next_pid)) images image) (sym (applied images flat pid regs (Fork flat.next_pid) q s f h))
     (subst (λ (m : ℕ). Coupled (forked_kernel k kp s.sid flat.next_pid m e) images image after) (sym c.tables.next_sid)
     (coupled_of l images image after (tables_of l after outlines (ap (λ (m : ℕ). m + 1) c.tables.next_pid) refl fits)
     (still_coupled (fork_space k.place s.sid n) l.place (beside_kernel l images image after) (λ w. refl) refl refl

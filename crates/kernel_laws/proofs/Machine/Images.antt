@@ -1,6 +1,9 @@
 -- What the end of a transfer does to the swap image and to the frames is what the laws of coupling ask.
-use Rattle.std.proofs.Common.{◌≡◌, ℕ, ◌*◌, ◌≤◌, List, [], ◌∷◌, length, map, Option, Some, refl, ap, ◌∙◌, arith}
-use Rattle.flat_state.specs.Flat.{FlatState, NamedImage}
+use Rattle.std.proofs.Common.{◌≡◌, ℕ, zero, suc, ◌*◌, ◌≤◌, List, [], ◌∷◌, length, map, Option, Some, None, refl, sym, ap, ◌∙◌, subst, arith}
+use Rattle.std.specs.Prelude.{slice_get}
+use Rattle.flat_state.specs.Flat.{FlatState, NamedImage, image_numbered}
+use Rattle.aout_image.specs.declared.Image.{Image}
+use Rattle.page_model.specs.Place.{facts_of, facts_numbered}
 use Rattle.swap_book.specs.Book.{IsBook}
 use Rattle.page_model.specs.Placement.{Part, Source, FromSwap, FromFile}
 use Rattle.page_model.specs.Ownership.{block_of}
@@ -43,3 +46,25 @@ pub read_bytes : (source : Source) (xs : List Part) (b : Bytes) → bytes_read b
 read_bytes source [] b = refl
 read_bytes FromSwap (x ∷ xs) b = read_bytes FromSwap xs (Rattle.page_model.specs.PageBytes.with_frame b x.frame (b.swap x.page))
 read_bytes FromFile (x ∷ xs) b = read_bytes FromFile xs (Rattle.page_model.specs.PageBytes.with_frame b x.frame (b.file x.page))
+
+-- The facts of an image.
+
+abbrev pub facts_in : Option NamedImage → Option Image
+facts_in None = None
+facts_in (Some named) = Some named.image.facts
+
+slice_facts : (images : List NamedImage) (place : ℕ) → slice_get (facts_of images) place ≡ facts_in (slice_get images place)
+slice_facts [] place = refl
+slice_facts (named ∷ images) zero = refl
+slice_facts (named ∷ images) (suc place) = slice_facts images place
+
+pub facts_same : (images : List NamedImage) (number : ℕ) → facts_numbered (facts_of images) number ≡ facts_in (image_numbered images number)
+facts_same images zero = refl
+facts_same images (suc place) = slice_facts images place
+
+pub facts_found : (images : List NamedImage) (number : ℕ) (named : NamedImage) → image_numbered images number ≡ Some named → facts_numbered (facts_of images) number ≡ Some named.image.facts
+facts_found images number named e = facts_same images number ∙ ap facts_in e
+
+-- something is so of an image that is there
+pub image_known : (images : List NamedImage) (number : ℕ) (named : NamedImage) (P : Option Image → Option NamedImage → Type 0) → image_numbered images number ≡ Some named → P (Some named.image.facts) (Some named) → P (facts_numbered (facts_of images) number) (image_numbered images number)
+image_known images number named P e h = subst (λ (o : Option Image). P o (image_numbered images number)) (sym (facts_found images number named e)) (subst (P (Some named.image.facts)) (sym e) h)

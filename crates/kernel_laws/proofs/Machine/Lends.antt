@@ -28,6 +28,7 @@ use Rattle.kernel_laws.proofs.Machine.Swaps.{applied, memory_same}
 use Rattle.kernel_laws.proofs.Machine.Still.{outline_is}
 use Rattle.kernel_laws.proofs.Machine.Forks.{next_pid_none, next_in, kept_none, out_begun}
 use Rattle.kernel_laws.proofs.Machine.Processes.{with_at, with_not, with_replaced, Stepping, stepping, by_life, step_is, regs_carried, regs_in_record}
+use Rattle.page_model.specs.Place.{facts_of}
 
 -- what passing a space makes of one process
 abbrev pub passed : ℕ → ℕ → ℕ → Life → Proc → Proc
@@ -56,9 +57,9 @@ passed_child p sid to d = ap (λ (b : Bool). let y : Proc = record (child_proc p
     ∙ ap (λ (b : Bool). let y : Proc = record (child_proc p to New) { life = cond b (HoldsSpace sid) New } in y) (eq_self to)
 
 pub lend_coupled_step : (k : Kernel) (images : List NamedImage) (image : List ℕ) (flat : FlatState) (pid : ℕ) (regs : Regs) (e : Entry) (q : Process) (s : Space) → IsNumbered flat → OutHold k.place flat → process_of flat pid ≡ Some q → q.holding ≡ Holds s
-    → is_out k.place pid ≡ false → Coupled k images image flat → Coupled (pass_step (change_step images k pid regs e (Lend flat.next_pid)) pid flat.next_pid) images image (apply_change images flat pid regs (Lend flat.next_pid))
+    → is_out k.place pid ≡ false → Coupled k images image flat → Coupled (pass_step (change_step (facts_of images) k pid regs e (Lend flat.next_pid)) pid flat.next_pid) images image (apply_change images flat pid regs (Lend flat.next_pid))
 lend_coupled_step k images image flat pid regs e q s nums outs f h out c =
-    subst (λ (x : Kernel). Coupled (pass_step x pid flat.next_pid) images image (apply_change images flat pid regs (Lend flat.next_pid))) (sym (step_is images k pid regs e (Lend flat.next_pid) g.proc (HoldsSpace s.sid) g.kept g.life))
+    subst (λ (x : Kernel). Coupled (pass_step x pid flat.next_pid) images image (apply_change images flat pid regs (Lend flat.next_pid))) (sym (step_is (facts_of images) k pid regs e (Lend flat.next_pid) g.proc (HoldsSpace s.sid) g.kept g.life))
     (subst (Coupled (pass_step k1 pid flat.next_pid) images image) (sym (applied images flat pid regs (Lend flat.next_pid) q s f h))
     (subst (λ (x : Kernel). Coupled x images image after) (sym (pass_is k1 pid flat.next_pid kp kn (HoldsSpace s.sid) New parent_kept g.life child_kept refl))
     (subst (λ (xs : List Proc). Coupled (record k1 { processes = xs }) images image after) (sym processes)
@@ -95,7 +96,7 @@ lend_coupled_step k images image flat pid regs e q s nums outs f h out c =
     after = lent flat (record q { regs = regs }) s child
 
     k1 : Kernel
-    k1 = by_life images k kp (HoldsSpace s.sid) e (Lend child)
+    k1 = by_life (facts_of images) k kp (HoldsSpace s.sid) e (Lend child)
 
     l : Kernel
     l = record k1 { processes = with_proc k.processes kl ++ kc ∷ [] }

@@ -25,6 +25,7 @@ use Rattle.kernel_laws.proofs.Flat.Lists.{pid_of, sid_of, held, found_is, held_a
 use Rattle.kernel_laws.proofs.Machine.Tables.{kept_pid, kept_at, outline_at, RegsAt, regs_at, regs_carry}
 use Rattle.kernel_laws.proofs.Machine.Moves.{u_stored}
 use Rattle.kernel_laws.proofs.Machine.Swaps.{found_at}
+use Rattle.aout_image.specs.declared.Image.{Image}
 
 -- One process of the machine gives way to another.
 
@@ -204,7 +205,7 @@ stepping k flat pid q s t e h =
     }
 
 -- the step, by what the process has
-abbrev pub by_life : List NamedImage → Kernel → Proc → Life → Entry → Change → Kernel
+abbrev pub by_life : List Image → Kernel → Proc → Life → Entry → Change → Kernel
 by_life images k p life e change =
     let place = place_change images k.place p.pid (space_of_life life) (gave_back life) k.next_sid (Rattle.std.specs.Prelude.length (append k.journal e)) change in
     record k {
@@ -217,7 +218,7 @@ by_life images k p life e change =
       journal = append k.journal e;
     }
 
-pub step_is : (images : List NamedImage) (k : Kernel) (pid : ℕ) (regs : Regs) (e : Entry) (change : Change) (p : Proc) (life : Life) → numbered kept_pid pid k.processes ≡ Some p → p.life ≡ life
+pub step_is : (images : List Image) (k : Kernel) (pid : ℕ) (regs : Regs) (e : Entry) (change : Change) (p : Proc) (life : Life) → numbered kept_pid pid k.processes ≡ Some p → p.life ≡ life
     → change_step images k pid regs e change ≡ by_life images k (record p { regs = regs }) life e change
 step_is images k pid regs e change p life h l = ap (change_if images k regs e change) h ∙ ap (λ (x : Life). by_life images k (record p { regs = regs }) x e change) l
 

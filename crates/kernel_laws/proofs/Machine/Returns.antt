@@ -12,7 +12,7 @@ use Rattle.flat_state.specs.Change.{with_process, replaced, replaced_by, returne
 use Rattle.flat_state.specs.Journal.{append}
 use Rattle.page_model.specs.Pages.{SpacePages, numbered, data_in, stack_in}
 use Rattle.page_model.specs.Placement.{space_number, new_pages}
-use Rattle.page_model.specs.Place.{enter_image, give_up_unless, space_of_holding}
+use Rattle.page_model.specs.Place.{enter_image, give_up_unless, space_of_holding, facts_of}
 use Rattle.page_model.specs.Swapper.{is_out}
 use Rattle.page_model.specs.Ownership.{OneOwner, TextAside}
 use Rattle.page_model.specs.PageBytes.{CouplesPages}
@@ -39,6 +39,8 @@ use Rattle.kernel_laws.proofs.Machine.Lends.{pass_is}
 use Rattle.kernel_laws.proofs.Machine.Execs.{exec_kernel, Entering, exec_core}
 use Rattle.kernel_laws.proofs.Machine.Ends.{WasFlat, WasKept, end_was, end_kept, end_held, end_kernel, Leaving, end_core, left_flat, left_is, orphans, ended_outlines, out_ended, out_gone}
 use Rattle.kernel_laws.proofs.Machine.Processes.{not_own_parent, with_at, with_not, with_replaced, pids_same, holds_there, Stepping, stepping, by_life, step_is, regs_carried, regs_in_record}
+use Rattle.kernel_laws.proofs.Machine.Images.{facts_found, image_known}
+use Rattle.aout_image.specs.declared.Image.{Image}
 
 -- The lender has the space again.
 
@@ -197,13 +199,13 @@ kept_passed ks sid from to n b e =
 -- A process that borrowed its space enters an image.
 pub exec_back : (size : ℕ) (before : Holdings) (k : Kernel) (images : List NamedImage) (image : List ℕ) (flat : FlatState) (pid : ℕ) (regs : Regs) (e : Entry) (number : ℕ) (top : List ℕ) (named : NamedImage) (q m : Process) (s : Space) → Sound size (record k { holdings = before }) → IsNumbered flat → OutHold k.place flat
     → k.place.due ≡ [] → KeepsStarts k → process_of flat pid ≡ Some q → q.holding ≡ Holds s → IsLender flat pid s.sid m → is_out k.place pid ≡ false → image_numbered images number ≡ Some named → DataFits named.image → length top ≡ 1024
-    → Coupled k images image flat → Coupled (change_step images (pass_step k pid m.pid) pid regs e (Exec number top)) images image (apply_change images flat pid regs (Exec number top))
+    → Coupled k images image flat → Coupled (change_step (facts_of images) (pass_step k pid m.pid) pid regs e (Exec number top)) images image (apply_change images flat pid regs (Exec number top))
 exec_back size before k images image flat pid regs e number top named q m s so nums outs due starts f h is out im fit whole c =
-    subst (λ (x : Kernel). Coupled (change_step images x pid regs e (Exec number top)) images image (apply_change images flat pid regs (Exec number top))) (sym (back_kernel k flat pid q m s a))
-    (subst (λ (x : Kernel). Coupled x images image (apply_change images flat pid regs (Exec number top))) (sym (step_is images k1 pid regs e (Exec number top) (record g.proc { life = New }) New (back_proc k flat pid q m s a) refl))
-    (subst (Coupled (by_life images k1 (record g.proc { regs = regs; life = New }) New e (Exec number top)) images image) (sym (applied images flat pid regs (Exec number top) q s f h))
-    (subst (λ (o : Option NamedImage). Coupled (exec_kernel k k.next_sid 0 true number o top (with_proc k1.processes (record g.proc { regs = regs; life = HoldsSpace k.next_sid })) (append k.journal e)) images image (entered flat (record q { regs = regs }) s number o top)) (sym im)
-    (subst (λ (y : ℕ). Coupled (exec_kernel k y 0 true number (Some named) top (with_proc k1.processes (record g.proc { regs = regs; life = HoldsSpace y })) (append k.journal e)) images image (entered flat (record q { regs = regs }) s number (Some named) top)) (sym c.tables.next_sid)
+    subst (λ (x : Kernel). Coupled (change_step (facts_of images) x pid regs e (Exec number top)) images image (apply_change images flat pid regs (Exec number top))) (sym (back_kernel k flat pid q m s a))
+    (subst (λ (x : Kernel). Coupled x images image (apply_change images flat pid regs (Exec number top))) (sym (step_is (facts_of images) k1 pid regs e (Exec number top) (record g.proc { life = New }) New (back_proc k flat pid q m s a) refl))
+    (subst (Coupled (by_life (facts_of images) k1 (record g.proc { regs = regs; life = New }) New e (Exec number top)) images image) (sym (applied images flat pid regs (Exec number top) q s f h))
+    (image_known images number named (λ (f : Option Image) (o : Option NamedImage). Coupled (exec_kernel k k.next_sid 0 true number f top (with_proc k1.processes (record g.proc { regs = regs; life = HoldsSpace k.next_sid })) (append k.journal e)) images image (entered flat (record q { regs = regs }) s number o top)) im
+    (subst (λ (y : ℕ). Coupled (exec_kernel k y 0 true number (Some named.image.facts) top (with_proc k1.processes (record g.proc { regs = regs; life = HoldsSpace y })) (append k.journal e)) images image (entered flat (record q { regs = regs }) s number (Some named) top)) (sym c.tables.next_sid)
     (subst (λ (xs : List Process). Coupled l images image (record flat { processes = xs; next_sid = n + 1 })) (sym b.returned)
     (coupled_of l images image after (tables_of l after b.outlines c.tables.next_pid refl core.0) core.1 regs_now))))))
   where
@@ -244,7 +246,7 @@ exec_back size before k images image flat pid regs e number top named q m s so n
     after = record flat { processes = replaced r1 mp; next_sid = n + 1 }
 
     l : Kernel
-    l = exec_kernel k n 0 true number (Some named) top (with_proc k1.processes kp) (append k.journal e)
+    l = exec_kernel k n 0 true number (Some named.image.facts) top (with_proc k1.processes kp) (append k.journal e)
 
     pids : kp.pid ≡ fp.pid
     pids = g.pid_is ∙ sym g.pid_was
@@ -273,7 +275,7 @@ exec_back size before k images image flat pid regs e number top named q m s so n
       flat_new = next_sid_none flat nums;
       apart = λ i. absurd cc;
       settled = λ i. absurd cc;
-      aside = subst (λ (x : Option NamedImage). TextAside (give_up_unless true (enter_image k.place n number x) 0)) im (place_change_aside images k.place pid 0 true n 0 (Exec number top) o.aside (λ i. absurd cc));
+      aside = subst (λ (x : Option Image). TextAside (give_up_unless true (enter_image k.place n number x) 0)) (facts_found images number named im) (place_change_aside (facts_of images) k.place pid 0 true n 0 (Exec number top) o.aside (λ i. absurd cc));
       image = im;
       fits = fit;
       whole = whole;
@@ -311,11 +313,11 @@ exec_back size before k images image flat pid regs e number top named q m s so n
 -- A process that borrowed its space ends.
 pub end_back : (size : ℕ) (k : Kernel) (images : List NamedImage) (image : List ℕ) (flat : FlatState) (pid : ℕ) (regs : Regs) (e : Entry) (status : ℕ) (q m : Process) (s : Space) → Sound size k → IsNumbered flat → OutHold k.place flat → k.place.due ≡ []
     → process_of flat pid ≡ Some q → q.holding ≡ Holds s → IsLender flat pid s.sid m → Coupled k images image flat
-    → Coupled (change_step images (pass_step k pid m.pid) pid regs e (End status)) images image (apply_change images flat pid regs (End status))
+    → Coupled (change_step (facts_of images) (pass_step k pid m.pid) pid regs e (End status)) images image (apply_change images flat pid regs (End status))
 end_back size k images image flat pid regs e status q m s so nums outs due f h is c =
-    subst (λ (x : Kernel). Coupled (change_step images x pid regs e (End status)) images image (apply_change images flat pid regs (End status))) (sym (back_kernel k flat pid q m s a))
-    (subst (λ (x : Kernel). Coupled x images image (apply_change images flat pid regs (End status))) (sym (step_is images k1 pid regs e (End status) (record g.proc { life = New }) New (back_proc k flat pid q m s a) refl))
-    (subst (Coupled (by_life images k1 kp New e (End status)) images image) (sym (applied images flat pid regs (End status) q s f h))
+    subst (λ (x : Kernel). Coupled (change_step (facts_of images) x pid regs e (End status)) images image (apply_change images flat pid regs (End status))) (sym (back_kernel k flat pid q m s a))
+    (subst (λ (x : Kernel). Coupled x images image (apply_change images flat pid regs (End status))) (sym (step_is (facts_of images) k1 pid regs e (End status) (record g.proc { life = New }) New (back_proc k flat pid q m s a) refl))
+    (subst (Coupled (by_life (facts_of images) k1 kp New e (End status)) images image) (sym (applied images flat pid regs (End status) q s f h))
     (subst (Coupled l images image) (sym (left_is (q.parent == 0) (orphaned (Rattle.flat_state.specs.Change.given_back (with_process flat fp) q.pid s) q.pid) q.pid q.parent))
     (subst (λ (xs : List Process). Coupled l images image (record flat { processes = left_flat (q.parent == 0) (orphans q.pid xs) q.pid q.parent })) (sym b.returned)
     (coupled_of l images image after (tables_of l after outlines c.tables.next_pid c.tables.next_sid core.0) core.1 regs_now)))))
@@ -399,7 +401,7 @@ end_back size k images image flat pid regs e status q m s so nums outs due f h i
       frames = o.frames;
       due = due;
       settled = λ i. absurd cc;
-      aside = place_change_aside images k.place kp.pid 0 true k.next_sid 0 (End status) o.aside (λ i. absurd cc);
+      aside = place_change_aside (facts_of images) k.place kp.pid 0 true k.next_sid 0 (End status) o.aside (λ i. absurd cc);
       other = λ y _. ap (numbered sid_of y) spaces ∙ elim (cases_eq y s.sid) [
         | inl i ↦ ap (λ (x : ℕ). numbered sid_of x (held rs)) i ∙ gain.0 ∙ sym (held_own flat.processes fp s held_here) ∙ ap (λ (x : ℕ). numbered sid_of x (spaces_of flat)) (sym i)
         | inr j ↦ gain.1 y j ∙ held_other flat.processes fp s y held_here j refl

@@ -10,7 +10,7 @@ use Rattle.flat_state.specs.Change.{with_process, without_process, replaced, app
 use Rattle.flat_state.specs.Journal.{append}
 use Rattle.page_model.specs.Pages.{numbered}
 use Rattle.page_model.specs.Placement.{space_number}
-use Rattle.page_model.specs.Place.{space_of_holding}
+use Rattle.page_model.specs.Place.{space_of_holding, facts_of}
 use Rattle.page_model.specs.Swapper.{is_out}
 use Rattle.flat_state.specs.Numbers.{AllDistinct, IsNumbered}
 use Rattle.kernel_model.specs.Coupled.{Fits, Outline, Coupled, SameTables, KeepsRegs, outline_kept, outline_of, beside_kernel}
@@ -102,11 +102,11 @@ outline_is a b c d x y s t e f g h = cc
 
 -- An entry of a process that changes nothing else.
 pub keep_coupled : (k : Kernel) (images : List NamedImage) (image : List ℕ) (flat : FlatState) (pid : ℕ) (regs : Regs) (e : Entry) (q : Process) (s : Space) → IsNumbered flat → process_of flat pid ≡ Some q → q.holding ≡ Holds s → is_out k.place pid ≡ false
-    → Coupled k images image flat → Coupled (change_step images k pid regs e Keep) images image (apply_change images flat pid regs Keep)
+    → Coupled k images image flat → Coupled (change_step (facts_of images) k pid regs e Keep) images image (apply_change images flat pid regs Keep)
 keep_coupled k images image flat pid regs e q s nums f h out c =
     let g : Stepping k flat pid q s = stepping k flat pid q s c.tables f h in
-    subst (λ (x : Kernel). Coupled x images image (apply_change images flat pid regs Keep)) (sym (step_is images k pid regs e Keep g.proc (HoldsSpace s.sid) g.kept g.life))
-    (subst (Coupled (by_life images k (record g.proc { regs = regs }) (HoldsSpace s.sid) e Keep) images image) (sym (applied images flat pid regs Keep q s f h))
+    subst (λ (x : Kernel). Coupled x images image (apply_change images flat pid regs Keep)) (sym (step_is (facts_of images) k pid regs e Keep g.proc (HoldsSpace s.sid) g.kept g.life))
+    (subst (Coupled (by_life (facts_of images) k (record g.proc { regs = regs }) (HoldsSpace s.sid) e Keep) images image) (sym (applied images flat pid regs Keep q s f h))
     (stay_coupled k images image flat q (record q { regs = regs }) g.proc (record g.proc { regs = regs }) (append k.journal e) nums.pids
     (ap (λ (n : ℕ). numbered pid_of n flat.processes) g.pid_was ∙ g.found) (ap (λ (n : ℕ). numbered kept_pid n k.processes) g.pid_is ∙ g.kept) refl
     (outline_is g.proc.pid q.pid g.proc.parent q.parent g.proc.life (life_of q.holding) g.proc.asleep q.asleep (g.pid_is ∙ sym g.pid_was) g.parent (g.life ∙ sym (ap life_of h)) g.asleep) refl
@@ -114,11 +114,11 @@ keep_coupled k images image flat pid regs e q s nums f h out c =
 
 -- A process falls asleep.
 pub sleep_coupled : (k : Kernel) (images : List NamedImage) (image : List ℕ) (flat : FlatState) (pid : ℕ) (regs : Regs) (e : Entry) (q : Process) (s : Space) → IsNumbered flat → process_of flat pid ≡ Some q → q.holding ≡ Holds s → is_out k.place pid ≡ false
-    → Coupled k images image flat → Coupled (change_step images k pid regs e Sleep) images image (apply_change images flat pid regs Sleep)
+    → Coupled k images image flat → Coupled (change_step (facts_of images) k pid regs e Sleep) images image (apply_change images flat pid regs Sleep)
 sleep_coupled k images image flat pid regs e q s nums f h out c =
     let g : Stepping k flat pid q s = stepping k flat pid q s c.tables f h in
-    subst (λ (x : Kernel). Coupled x images image (apply_change images flat pid regs Sleep)) (sym (step_is images k pid regs e Sleep g.proc (HoldsSpace s.sid) g.kept g.life))
-    (subst (Coupled (by_life images k (record g.proc { regs = regs }) (HoldsSpace s.sid) e Sleep) images image) (sym (applied images flat pid regs Sleep q s f h))
+    subst (λ (x : Kernel). Coupled x images image (apply_change images flat pid regs Sleep)) (sym (step_is (facts_of images) k pid regs e Sleep g.proc (HoldsSpace s.sid) g.kept g.life))
+    (subst (Coupled (by_life (facts_of images) k (record g.proc { regs = regs }) (HoldsSpace s.sid) e Sleep) images image) (sym (applied images flat pid regs Sleep q s f h))
     (stay_coupled k images image flat q (record q { regs = regs; asleep = true }) g.proc (record g.proc { regs = regs; asleep = true }) (append k.journal e) nums.pids
     (ap (λ (n : ℕ). numbered pid_of n flat.processes) g.pid_was ∙ g.found) (ap (λ (n : ℕ). numbered kept_pid n k.processes) g.pid_is ∙ g.kept) refl
     (outline_is g.proc.pid q.pid g.proc.parent q.parent g.proc.life (life_of q.holding) true true (g.pid_is ∙ sym g.pid_was) g.parent (g.life ∙ sym (ap life_of h)) refl) refl
@@ -126,13 +126,13 @@ sleep_coupled k images image flat pid regs e q s nums f h out c =
 
 -- A zombie child goes.
 pub reap_coupled : (k : Kernel) (images : List NamedImage) (image : List ℕ) (flat : FlatState) (pid : ℕ) (regs : Regs) (e : Entry) (child status : ℕ) (q z : Process) (s : Space) → IsNumbered flat → process_of flat pid ≡ Some q → q.holding ≡ Holds s → is_out k.place pid ≡ false
-    → process_of flat child ≡ Some z → z.holding ≡ Zombie status → Coupled k images image flat → Coupled (change_step images k pid regs e (Reap child)) images image (apply_change images flat pid regs (Reap child))
+    → process_of flat child ≡ Some z → z.holding ≡ Zombie status → Coupled k images image flat → Coupled (change_step (facts_of images) k pid regs e (Reap child)) images image (apply_change images flat pid regs (Reap child))
 reap_coupled k images image flat pid regs e child status q z s nums f h out fz hz c =
     let g : Stepping k flat pid q s = stepping k flat pid q s c.tables f h in
     let at : numbered pid_of child flat.processes ≡ Some z = sym (Rattle.kernel_laws.proofs.Flat.Lists.found_is flat.processes child) ∙ fz in
     let other : pid ≢ child = λ i. holder (some_is q z (sym g.found ∙ ap (λ (n : ℕ). numbered pid_of n flat.processes) i ∙ at)) in
-    subst (λ (x : Kernel). Coupled x images image (apply_change images flat pid regs (Reap child))) (sym (step_is images k pid regs e (Reap child) g.proc (HoldsSpace s.sid) g.kept g.life))
-    (subst (Coupled (by_life images k (record g.proc { regs = regs }) (HoldsSpace s.sid) e (Reap child)) images image) (sym (applied images flat pid regs (Reap child) q s f h))
+    subst (λ (x : Kernel). Coupled x images image (apply_change images flat pid regs (Reap child))) (sym (step_is (facts_of images) k pid regs e (Reap child) g.proc (HoldsSpace s.sid) g.kept g.life))
+    (subst (Coupled (by_life (facts_of images) k (record g.proc { regs = regs }) (HoldsSpace s.sid) e (Reap child)) images image) (sym (applied images flat pid regs (Reap child) q s f h))
     (stay_coupled (record k { processes = without_proc k.processes child }) images image (without_process flat child) q (record q { regs = regs }) g.proc (record g.proc { regs = regs }) (append k.journal e)
     (distinct_filter pid_of (λ (x : Process). not (x.pid == child)) flat.processes nums.pids)
     (removed_not pid_of q.pid child flat.processes (λ i. other (sym g.pid_was ∙ i)) ∙ ap (λ (n : ℕ). numbered pid_of n flat.processes) g.pid_was ∙ g.found)

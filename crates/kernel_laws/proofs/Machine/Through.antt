@@ -12,7 +12,7 @@ use Rattle.flat_state.specs.Change.{replaced, with_results, child_of, forked, ap
 use Rattle.flat_state.specs.Journal.{append}
 use Rattle.page_model.specs.Pages.{SpacePages, numbered}
 use Rattle.page_model.specs.Placement.{Placement, space_number, slots_of, image_of, new_pages}
-use Rattle.page_model.specs.Place.{child_slot, enter_space, give_up_unless, is_borrower}
+use Rattle.page_model.specs.Place.{child_slot, enter_space, give_up_unless, is_borrower, facts_of}
 use Rattle.page_model.specs.Conditions.{IsNew}
 use Rattle.flat_state.specs.Numbers.{IsNumbered, AllDistinct}
 use Rattle.flat_state.specs.Lenders.{IsLender}
@@ -40,12 +40,13 @@ use Rattle.kernel_laws.proofs.Machine.Execs.{returned_none, borrower_replaced, e
 use Rattle.kernel_laws.proofs.Machine.Lends.{pass_is, passed, passed_list, passed_child}
 use Rattle.kernel_laws.proofs.Machine.Ends.{end_held, with_pids, end_kernel, left_flat, left_is, orphans, ended_outlines}
 use Rattle.kernel_laws.proofs.Machine.Returns.{passes, Borrowing, borrowing, back_kernel, back_proc, Back, back}
+use Rattle.kernel_laws.proofs.Machine.Images.{image_known}
 
 -- Growth and break.
 pub resize_tables : (k : Kernel) (images : List NamedImage) (flat : FlatState) (pid : ℕ) (regs : Regs) (e : Entry) (d t : ℕ) (q : Process) (s : Space) → IsNumbered flat → process_of flat pid ≡ Some q → q.holding ≡ Holds s → SameTables k flat
-    → SameTables (change_step images k pid regs e (Resize d t)) (apply_change images flat pid regs (Resize d t))
+    → SameTables (change_step (facts_of images) k pid regs e (Resize d t)) (apply_change images flat pid regs (Resize d t))
 resize_tables k images flat pid regs e d t q s nums f h c =
-    subst (λ (x : Kernel). SameTables x (apply_change images flat pid regs (Resize d t))) (sym (step_is images k pid regs e (Resize d t) g.proc (HoldsSpace s.sid) g.kept g.life))
+    subst (λ (x : Kernel). SameTables x (apply_change images flat pid regs (Resize d t))) (sym (step_is (facts_of images) k pid regs e (Resize d t) g.proc (HoldsSpace s.sid) g.kept g.life))
     (subst (SameTables l) (sym (applied images flat pid regs (Resize d t) q s f h))
     (tables_of l after (with_replaced k.processes flat.processes kp fp c.processes nums.pids outline) c.next_pid c.next_sid fits))
   where
@@ -65,7 +66,7 @@ resize_tables k images flat pid regs e d t q s nums f h c =
     after = with_process flat fp
 
     l : Kernel
-    l = by_life images k kp (HoldsSpace s.sid) e (Resize d t)
+    l = by_life (facts_of images) k kp (HoldsSpace s.sid) e (Resize d t)
 
     found : numbered pid_of fp.pid flat.processes ≡ Some q
     found = ap (λ (n : ℕ). numbered pid_of n flat.processes) g.pid_was ∙ g.found
@@ -108,10 +109,10 @@ resize_tables k images flat pid regs e d t q s nums f h c =
 
 -- Fork.
 pub fork_tables : (k : Kernel) (images : List NamedImage) (flat : FlatState) (pid : ℕ) (regs : Regs) (e : Entry) (q : Process) (s : Space) → IsNumbered flat → process_of flat pid ≡ Some q → q.holding ≡ Holds s → SameTables k flat
-    → SameTables (change_step images k pid regs e (Fork flat.next_pid)) (apply_change images flat pid regs (Fork flat.next_pid))
+    → SameTables (change_step (facts_of images) k pid regs e (Fork flat.next_pid)) (apply_change images flat pid regs (Fork flat.next_pid))
 fork_tables k images flat pid regs e q s nums f h c =
-    subst (λ (x : Kernel). SameTables x (apply_change images flat pid regs (Fork flat.next_pid))) (sym (step_is images k pid regs e (Fork flat.next_pid) g.proc (HoldsSpace s.sid) g.kept g.life))
-    (subst (SameTables (by_life images k kp (HoldsSpace s.sid) e (Fork flat.next_pid))) (sym (applied images flat pid regs (Fork flat.next_pid) q s f h))
+    subst (λ (x : Kernel). SameTables x (apply_change images flat pid regs (Fork flat.next_pid))) (sym (step_is (facts_of images) k pid regs e (Fork flat.next_pid) g.proc (HoldsSpace s.sid) g.kept g.life))
+    (subst (SameTables (by_life (facts_of images) k kp (HoldsSpace s.sid) e (Fork flat.next_pid))) (sym (applied images flat pid regs (Fork flat.next_pid) q s f h))
     (subst (λ (m : ℕ). SameTables (forked_kernel k kp s.sid flat.next_pid m e) after) (sym c.next_sid)
     (tables_of l after outlines (ap (λ (m : ℕ). m + 1) c.next_pid) refl fits)))
   where
@@ -204,9 +205,9 @@ fork_tables k images flat pid regs e q s nums f h c =
 
 -- Vfork, with the space that passes.
 pub lend_tables : (k : Kernel) (images : List NamedImage) (flat : FlatState) (pid : ℕ) (regs : Regs) (e : Entry) (q : Process) (s : Space) → IsNumbered flat → process_of flat pid ≡ Some q → q.holding ≡ Holds s → SameTables k flat
-    → SameTables (pass_step (change_step images k pid regs e (Lend flat.next_pid)) pid flat.next_pid) (apply_change images flat pid regs (Lend flat.next_pid))
+    → SameTables (pass_step (change_step (facts_of images) k pid regs e (Lend flat.next_pid)) pid flat.next_pid) (apply_change images flat pid regs (Lend flat.next_pid))
 lend_tables k images flat pid regs e q s nums f h c =
-    subst (λ (x : Kernel). SameTables (pass_step x pid flat.next_pid) (apply_change images flat pid regs (Lend flat.next_pid))) (sym (step_is images k pid regs e (Lend flat.next_pid) g.proc (HoldsSpace s.sid) g.kept g.life))
+    subst (λ (x : Kernel). SameTables (pass_step x pid flat.next_pid) (apply_change images flat pid regs (Lend flat.next_pid))) (sym (step_is (facts_of images) k pid regs e (Lend flat.next_pid) g.proc (HoldsSpace s.sid) g.kept g.life))
     (subst (SameTables (pass_step k1 pid flat.next_pid)) (sym (applied images flat pid regs (Lend flat.next_pid) q s f h))
     (subst (λ (x : Kernel). SameTables x after) (sym (pass_is k1 pid flat.next_pid kp kn (HoldsSpace s.sid) New parent_kept g.life child_kept refl))
     (subst (λ (xs : List Proc). SameTables (record k1 { processes = xs }) after) (sym processes)
@@ -240,7 +241,7 @@ lend_tables k images flat pid regs e q s nums f h c =
     after = lent flat (record q { regs = regs }) s child
 
     k1 : Kernel
-    k1 = by_life images k kp (HoldsSpace s.sid) e (Lend child)
+    k1 = by_life (facts_of images) k kp (HoldsSpace s.sid) e (Lend child)
 
     l : Kernel
     l = record k1 { processes = with_proc k.processes kl ++ kc ∷ [] }
@@ -309,11 +310,11 @@ pub record EntersTables (k : Kernel) (flat after : FlatState) (next sid number :
 
 -- A new image, where the old space goes unless it was borrowed.
 enter_fits : (k : Kernel) (flat after : FlatState) (next sid number : ℕ) (borrowed : Bool) (named : NamedImage) (top : List ℕ) (ps : List Proc) (journal : List Entry) → EntersTables k flat after next sid number borrowed named top → AllFit flat k.place
-    → AllFit after (exec_kernel k next sid borrowed number (Some named) top ps journal).place
+    → AllFit after (exec_kernel k next sid borrowed number (Some named.image.facts) top ps journal).place
 enter_fits k flat after next sid number borrowed named top ps journal a all = fits
   where
     l : Kernel
-    l = exec_kernel k next sid borrowed number (Some named) top ps journal
+    l = exec_kernel k next sid borrowed number (Some named.image.facts) top ps journal
 
     facts : Image
     facts = named.image.facts
@@ -369,12 +370,12 @@ enter_fits k flat after next sid number borrowed named top ps journal a all = fi
 
 -- Execve of a process that holds its own space.
 pub exec_tables : (k : Kernel) (images : List NamedImage) (flat : FlatState) (pid : ℕ) (regs : Regs) (e : Entry) (number : ℕ) (top : List ℕ) (named : NamedImage) (q : Process) (s : Space) → IsNumbered flat → process_of flat pid ≡ Some q → q.holding ≡ Holds s → is_borrower flat.processes pid ≡ false
-    → image_numbered images number ≡ Some named → DataFits named.image → length top ≡ 1024 → SameTables k flat → SameTables (change_step images k pid regs e (Exec number top)) (apply_change images flat pid regs (Exec number top))
+    → image_numbered images number ≡ Some named → DataFits named.image → length top ≡ 1024 → SameTables k flat → SameTables (change_step (facts_of images) k pid regs e (Exec number top)) (apply_change images flat pid regs (Exec number top))
 exec_tables k images flat pid regs e number top named q s nums f h own_space im fit whole c =
-    subst (λ (x : Kernel). SameTables x (apply_change images flat pid regs (Exec number top))) (sym (step_is images k pid regs e (Exec number top) g.proc (HoldsSpace s.sid) g.kept g.life))
-    (subst (SameTables (by_life images k (record g.proc { regs = regs }) (HoldsSpace s.sid) e (Exec number top))) (sym (applied images flat pid regs (Exec number top) q s f h))
-    (subst (λ (o : Option NamedImage). SameTables (exec_kernel k k.next_sid s.sid false number o top (with_proc k.processes (record g.proc { regs = regs; life = HoldsSpace k.next_sid })) (append k.journal e)) (entered flat (record q { regs = regs }) s number o top)) (sym im)
-    (subst (λ (m : ℕ). SameTables (exec_kernel k m s.sid false number (Some named) top (with_proc k.processes (record g.proc { regs = regs; life = HoldsSpace m })) (append k.journal e)) (entered flat (record q { regs = regs }) s number (Some named) top)) (sym c.next_sid)
+    subst (λ (x : Kernel). SameTables x (apply_change images flat pid regs (Exec number top))) (sym (step_is (facts_of images) k pid regs e (Exec number top) g.proc (HoldsSpace s.sid) g.kept g.life))
+    (subst (SameTables (by_life (facts_of images) k (record g.proc { regs = regs }) (HoldsSpace s.sid) e (Exec number top))) (sym (applied images flat pid regs (Exec number top) q s f h))
+    (image_known images number named (λ (f : Option Image) (o : Option NamedImage). SameTables (exec_kernel k k.next_sid s.sid false number f top (with_proc k.processes (record g.proc { regs = regs; life = HoldsSpace k.next_sid })) (append k.journal e)) (entered flat (record q { regs = regs }) s number o top)) im
+    (subst (λ (m : ℕ). SameTables (exec_kernel k m s.sid false number (Some named.image.facts) top (with_proc k.processes (record g.proc { regs = regs; life = HoldsSpace m })) (append k.journal e)) (entered flat (record q { regs = regs }) s number (Some named) top)) (sym c.next_sid)
     (subst (λ (xs : List Process). SameTables l (record flat { processes = xs; next_sid = n + 1 })) (sym (returned_none (replaced flat.processes fp) q.pid s (borrower_replaced flat.processes fp q.pid refl (ap (is_borrower flat.processes) g.pid_was ∙ own_space))))
     (tables_of l after outlines c.next_pid refl (enter_fits k flat after n s.sid number false named top (with_proc k.processes kp) (append k.journal e) enters c.spaces))))))
   where
@@ -397,7 +398,7 @@ exec_tables k images flat pid regs e number top named q s nums f h own_space im 
     after = record flat { processes = replaced flat.processes fp; next_sid = n + 1 }
 
     l : Kernel
-    l = exec_kernel k n s.sid false number (Some named) top (with_proc k.processes kp) (append k.journal e)
+    l = exec_kernel k n s.sid false number (Some named.image.facts) top (with_proc k.processes kp) (append k.journal e)
 
     pids : kp.pid ≡ fp.pid
     pids = g.pid_is ∙ sym g.pid_was
@@ -459,10 +460,10 @@ leave_fits k flat after pid sid borrowed ps journal a all = fits
 
 -- The end of a process that holds its own space.
 pub end_tables : (k : Kernel) (images : List NamedImage) (flat : FlatState) (pid : ℕ) (regs : Regs) (e : Entry) (status : ℕ) (q : Process) (s : Space) → IsNumbered flat → process_of flat pid ≡ Some q → q.holding ≡ Holds s → is_borrower flat.processes pid ≡ false → SameTables k flat
-    → SameTables (change_step images k pid regs e (End status)) (apply_change images flat pid regs (End status))
+    → SameTables (change_step (facts_of images) k pid regs e (End status)) (apply_change images flat pid regs (End status))
 end_tables k images flat pid regs e status q s nums f h own_space c =
-    subst (λ (x : Kernel). SameTables x (apply_change images flat pid regs (End status))) (sym (step_is images k pid regs e (End status) g.proc (HoldsSpace s.sid) g.kept g.life))
-    (subst (SameTables (by_life images k kp (HoldsSpace s.sid) e (End status))) (sym (applied images flat pid regs (End status) q s f h))
+    subst (λ (x : Kernel). SameTables x (apply_change images flat pid regs (End status))) (sym (step_is (facts_of images) k pid regs e (End status) g.proc (HoldsSpace s.sid) g.kept g.life))
+    (subst (SameTables (by_life (facts_of images) k kp (HoldsSpace s.sid) e (End status))) (sym (applied images flat pid regs (End status) q s f h))
     (subst (SameTables l) (sym (left_is (q.parent == 0) (orphaned (Rattle.flat_state.specs.Change.given_back (with_process flat fp) q.pid s) q.pid) q.pid q.parent))
     (subst (λ (xs : List Process). SameTables l (record flat { processes = left_flat (q.parent == 0) (orphans q.pid xs) q.pid q.parent }))
     (sym (returned_none (replaced flat.processes fp) q.pid s (borrower_replaced flat.processes fp q.pid refl (ap (is_borrower flat.processes) g.pid_was ∙ own_space))))
@@ -529,13 +530,13 @@ end_tables k images flat pid regs e status q s nums f h own_space c =
 
 -- Execve of a borrower.
 pub exec_back_tables : (k : Kernel) (images : List NamedImage) (flat : FlatState) (pid : ℕ) (regs : Regs) (e : Entry) (number : ℕ) (top : List ℕ) (named : NamedImage) (q m : Process) (s : Space) → IsNumbered flat → process_of flat pid ≡ Some q → q.holding ≡ Holds s → IsLender flat pid s.sid m
-    → image_numbered images number ≡ Some named → DataFits named.image → length top ≡ 1024 → SameTables k flat → SameTables (change_step images (pass_step k pid m.pid) pid regs e (Exec number top)) (apply_change images flat pid regs (Exec number top))
+    → image_numbered images number ≡ Some named → DataFits named.image → length top ≡ 1024 → SameTables k flat → SameTables (change_step (facts_of images) (pass_step k pid m.pid) pid regs e (Exec number top)) (apply_change images flat pid regs (Exec number top))
 exec_back_tables k images flat pid regs e number top named q m s nums f h is im fit whole c =
-    subst (λ (x : Kernel). SameTables (change_step images x pid regs e (Exec number top)) (apply_change images flat pid regs (Exec number top))) (sym (back_kernel k flat pid q m s a))
-    (subst (λ (x : Kernel). SameTables x (apply_change images flat pid regs (Exec number top))) (sym (step_is images k1 pid regs e (Exec number top) (record g.proc { life = New }) New (back_proc k flat pid q m s a) refl))
-    (subst (SameTables (by_life images k1 (record g.proc { regs = regs; life = New }) New e (Exec number top))) (sym (applied images flat pid regs (Exec number top) q s f h))
-    (subst (λ (o : Option NamedImage). SameTables (exec_kernel k k.next_sid 0 true number o top (with_proc k1.processes (record g.proc { regs = regs; life = HoldsSpace k.next_sid })) (append k.journal e)) (entered flat (record q { regs = regs }) s number o top)) (sym im)
-    (subst (λ (y : ℕ). SameTables (exec_kernel k y 0 true number (Some named) top (with_proc k1.processes (record g.proc { regs = regs; life = HoldsSpace y })) (append k.journal e)) (entered flat (record q { regs = regs }) s number (Some named) top)) (sym c.next_sid)
+    subst (λ (x : Kernel). SameTables (change_step (facts_of images) x pid regs e (Exec number top)) (apply_change images flat pid regs (Exec number top))) (sym (back_kernel k flat pid q m s a))
+    (subst (λ (x : Kernel). SameTables x (apply_change images flat pid regs (Exec number top))) (sym (step_is (facts_of images) k1 pid regs e (Exec number top) (record g.proc { life = New }) New (back_proc k flat pid q m s a) refl))
+    (subst (SameTables (by_life (facts_of images) k1 (record g.proc { regs = regs; life = New }) New e (Exec number top))) (sym (applied images flat pid regs (Exec number top) q s f h))
+    (image_known images number named (λ (f : Option Image) (o : Option NamedImage). SameTables (exec_kernel k k.next_sid 0 true number f top (with_proc k1.processes (record g.proc { regs = regs; life = HoldsSpace k.next_sid })) (append k.journal e)) (entered flat (record q { regs = regs }) s number o top)) im
+    (subst (λ (y : ℕ). SameTables (exec_kernel k y 0 true number (Some named.image.facts) top (with_proc k1.processes (record g.proc { regs = regs; life = HoldsSpace y })) (append k.journal e)) (entered flat (record q { regs = regs }) s number (Some named) top)) (sym c.next_sid)
     (subst (λ (xs : List Process). SameTables l (record flat { processes = xs; next_sid = n + 1 })) (sym b.returned)
     (tables_of l after b.outlines c.next_pid refl (enter_fits k flat after n 0 number true named top (with_proc k1.processes kp) (append k.journal e) enters c.spaces)))))))
   where
@@ -576,7 +577,7 @@ exec_back_tables k images flat pid regs e number top named q m s nums f h is im 
     after = record flat { processes = replaced r1 mp; next_sid = n + 1 }
 
     l : Kernel
-    l = exec_kernel k n 0 true number (Some named) top (with_proc k1.processes kp) (append k.journal e)
+    l = exec_kernel k n 0 true number (Some named.image.facts) top (with_proc k1.processes kp) (append k.journal e)
 
     pids : kp.pid ≡ fp.pid
     pids = g.pid_is ∙ sym g.pid_was
@@ -609,11 +610,11 @@ exec_back_tables k images flat pid regs e number top named q m s nums f h is im 
 
 -- The end of a borrower.
 pub end_back_tables : (k : Kernel) (images : List NamedImage) (flat : FlatState) (pid : ℕ) (regs : Regs) (e : Entry) (status : ℕ) (q m : Process) (s : Space) → IsNumbered flat → process_of flat pid ≡ Some q → q.holding ≡ Holds s → IsLender flat pid s.sid m → SameTables k flat
-    → SameTables (change_step images (pass_step k pid m.pid) pid regs e (End status)) (apply_change images flat pid regs (End status))
+    → SameTables (change_step (facts_of images) (pass_step k pid m.pid) pid regs e (End status)) (apply_change images flat pid regs (End status))
 end_back_tables k images flat pid regs e status q m s nums f h is c =
-    subst (λ (x : Kernel). SameTables (change_step images x pid regs e (End status)) (apply_change images flat pid regs (End status))) (sym (back_kernel k flat pid q m s a))
-    (subst (λ (x : Kernel). SameTables x (apply_change images flat pid regs (End status))) (sym (step_is images k1 pid regs e (End status) (record g.proc { life = New }) New (back_proc k flat pid q m s a) refl))
-    (subst (SameTables (by_life images k1 kp New e (End status))) (sym (applied images flat pid regs (End status) q s f h))
+    subst (λ (x : Kernel). SameTables (change_step (facts_of images) x pid regs e (End status)) (apply_change images flat pid regs (End status))) (sym (back_kernel k flat pid q m s a))
+    (subst (λ (x : Kernel). SameTables x (apply_change images flat pid regs (End status))) (sym (step_is (facts_of images) k1 pid regs e (End status) (record g.proc { life = New }) New (back_proc k flat pid q m s a) refl))
+    (subst (SameTables (by_life (facts_of images) k1 kp New e (End status))) (sym (applied images flat pid regs (End status) q s f h))
     (subst (SameTables l) (sym (left_is (q.parent == 0) (orphaned (Rattle.flat_state.specs.Change.given_back (with_process flat fp) q.pid s) q.pid) q.pid q.parent))
     (subst (λ (xs : List Process). SameTables l (record flat { processes = left_flat (q.parent == 0) (orphans q.pid xs) q.pid q.parent })) (sym b.returned)
     (tables_of l after outlines c.next_pid c.next_sid (leave_fits k flat after kp.pid 0 true (left_procs (kp.parent == 0) (orphaned_procs k1.processes kp.pid) kp status) (append k.journal e) leaves c.spaces))))))
@@ -705,32 +706,32 @@ stay_tables k flat q fp kp journal d f h o t = tables_of (record k { processes =
     (λ sid. subst (λ (xs : List Space). Fits (numbered sid_of sid xs) (numbered space_number sid k.place.spaces)) (sym (same_held flat.processes q fp f h)) (all_fit k flat t sid))
 
 -- An entry that changes nothing else.
-pub keep_tables : (k : Kernel) (images : List NamedImage) (flat : FlatState) (pid : ℕ) (regs : Regs) (e : Entry) (q : Process) (s : Space) → IsNumbered flat → process_of flat pid ≡ Some q → q.holding ≡ Holds s → SameTables k flat → SameTables (change_step images k pid regs e Keep) (apply_change images flat pid regs Keep)
+pub keep_tables : (k : Kernel) (images : List NamedImage) (flat : FlatState) (pid : ℕ) (regs : Regs) (e : Entry) (q : Process) (s : Space) → IsNumbered flat → process_of flat pid ≡ Some q → q.holding ≡ Holds s → SameTables k flat → SameTables (change_step (facts_of images) k pid regs e Keep) (apply_change images flat pid regs Keep)
 keep_tables k images flat pid regs e q s nums f h c =
     let g : Stepping k flat pid q s = stepping k flat pid q s c f h in
-    subst (λ (x : Kernel). SameTables x (apply_change images flat pid regs Keep)) (sym (step_is images k pid regs e Keep g.proc (HoldsSpace s.sid) g.kept g.life))
-    (subst (SameTables (by_life images k (record g.proc { regs = regs }) (HoldsSpace s.sid) e Keep)) (sym (applied images flat pid regs Keep q s f h))
+    subst (λ (x : Kernel). SameTables x (apply_change images flat pid regs Keep)) (sym (step_is (facts_of images) k pid regs e Keep g.proc (HoldsSpace s.sid) g.kept g.life))
+    (subst (SameTables (by_life (facts_of images) k (record g.proc { regs = regs }) (HoldsSpace s.sid) e Keep)) (sym (applied images flat pid regs Keep q s f h))
     (stay_tables k flat q (record q { regs = regs }) (record g.proc { regs = regs }) (append k.journal e) nums.pids (ap (λ (n : ℕ). numbered pid_of n flat.processes) g.pid_was ∙ g.found) refl
     (outline_is g.proc.pid q.pid g.proc.parent q.parent g.proc.life (life_of q.holding) g.proc.asleep q.asleep (g.pid_is ∙ sym g.pid_was) g.parent (g.life ∙ sym (ap life_of h)) g.asleep) c))
 
 -- A process falls asleep.
-pub sleep_tables : (k : Kernel) (images : List NamedImage) (flat : FlatState) (pid : ℕ) (regs : Regs) (e : Entry) (q : Process) (s : Space) → IsNumbered flat → process_of flat pid ≡ Some q → q.holding ≡ Holds s → SameTables k flat → SameTables (change_step images k pid regs e Sleep) (apply_change images flat pid regs Sleep)
+pub sleep_tables : (k : Kernel) (images : List NamedImage) (flat : FlatState) (pid : ℕ) (regs : Regs) (e : Entry) (q : Process) (s : Space) → IsNumbered flat → process_of flat pid ≡ Some q → q.holding ≡ Holds s → SameTables k flat → SameTables (change_step (facts_of images) k pid regs e Sleep) (apply_change images flat pid regs Sleep)
 sleep_tables k images flat pid regs e q s nums f h c =
     let g : Stepping k flat pid q s = stepping k flat pid q s c f h in
-    subst (λ (x : Kernel). SameTables x (apply_change images flat pid regs Sleep)) (sym (step_is images k pid regs e Sleep g.proc (HoldsSpace s.sid) g.kept g.life))
-    (subst (SameTables (by_life images k (record g.proc { regs = regs }) (HoldsSpace s.sid) e Sleep)) (sym (applied images flat pid regs Sleep q s f h))
+    subst (λ (x : Kernel). SameTables x (apply_change images flat pid regs Sleep)) (sym (step_is (facts_of images) k pid regs e Sleep g.proc (HoldsSpace s.sid) g.kept g.life))
+    (subst (SameTables (by_life (facts_of images) k (record g.proc { regs = regs }) (HoldsSpace s.sid) e Sleep)) (sym (applied images flat pid regs Sleep q s f h))
     (stay_tables k flat q (record q { regs = regs; asleep = true }) (record g.proc { regs = regs; asleep = true }) (append k.journal e) nums.pids (ap (λ (n : ℕ). numbered pid_of n flat.processes) g.pid_was ∙ g.found) refl
     (outline_is g.proc.pid q.pid g.proc.parent q.parent g.proc.life (life_of q.holding) true true (g.pid_is ∙ sym g.pid_was) g.parent (g.life ∙ sym (ap life_of h)) refl) c))
 
 -- A zombie child goes.
 pub reap_tables : (k : Kernel) (images : List NamedImage) (flat : FlatState) (pid : ℕ) (regs : Regs) (e : Entry) (child status : ℕ) (q z : Process) (s : Space) → IsNumbered flat → process_of flat pid ≡ Some q → q.holding ≡ Holds s → process_of flat child ≡ Some z → z.holding ≡ Zombie status → SameTables k flat
-    → SameTables (change_step images k pid regs e (Reap child)) (apply_change images flat pid regs (Reap child))
+    → SameTables (change_step (facts_of images) k pid regs e (Reap child)) (apply_change images flat pid regs (Reap child))
 reap_tables k images flat pid regs e child status q z s nums f h fz hz c =
     let g : Stepping k flat pid q s = stepping k flat pid q s c f h in
     let at : numbered pid_of child flat.processes ≡ Some z = sym (found_is flat.processes child) ∙ fz in
     let other : pid ≢ child = λ i. holder (some_is q z (sym g.found ∙ ap (λ (n : ℕ). numbered pid_of n flat.processes) i ∙ at)) in
-    subst (λ (x : Kernel). SameTables x (apply_change images flat pid regs (Reap child))) (sym (step_is images k pid regs e (Reap child) g.proc (HoldsSpace s.sid) g.kept g.life))
-    (subst (SameTables (by_life images k (record g.proc { regs = regs }) (HoldsSpace s.sid) e (Reap child))) (sym (applied images flat pid regs (Reap child) q s f h))
+    subst (λ (x : Kernel). SameTables x (apply_change images flat pid regs (Reap child))) (sym (step_is (facts_of images) k pid regs e (Reap child) g.proc (HoldsSpace s.sid) g.kept g.life))
+    (subst (SameTables (by_life (facts_of images) k (record g.proc { regs = regs }) (HoldsSpace s.sid) e (Reap child))) (sym (applied images flat pid regs (Reap child) q s f h))
     (stay_tables (record k { processes = without_proc k.processes child }) (without_process flat child) q (record q { regs = regs }) (record g.proc { regs = regs }) (append k.journal e)
     (distinct_filter pid_of (λ (x : Process). not (x.pid == child)) flat.processes nums.pids)
     (removed_not pid_of q.pid child flat.processes (λ i. other (sym g.pid_was ∙ i)) ∙ ap (λ (n : ℕ). numbered pid_of n flat.processes) g.pid_was ∙ g.found) refl

@@ -18,7 +18,6 @@ use Rattle.swap_book.proofs.OwnerLaws.{IsWhole, pieces_whole, same_owner_itself}
 use Rattle.swap_book.proofs.BookLaws.{fit_even, fit_apart, fit_within}
 use Rattle.swap_book.proofs.GrowthLaws.{wanted_as, Added, place_all_adds, lengths-append}
 use Rattle.flat_state.specs.declared.change.Change.{Change}
-use Rattle.flat_state.specs.Flat.{NamedImage}
 use Rattle.page_model.specs.Pages.{numbered}
 use Rattle.page_model.specs.Placement.{slots_of, sharers}
 use Rattle.page_model.specs.Place.{data_count, stack_count}
@@ -31,6 +30,7 @@ use Rattle.kernel_model.specs.Taken.{needed, wanted_lengths, AsksFor, MayChange}
 use Rattle.kernel_laws.proofs.Pieces.GivenBack.{AreApart, both_pieces, both_while, both_u, while_of}
 use Rattle.kernel_laws.proofs.Pieces.Sizes.{change_texts}
 use Rattle.kernel_laws.proofs.Sound.Changes.{HasTaken, flat_sound}
+use Rattle.aout_image.specs.declared.Image.{Image}
 
 -- Pieces that are added are apart.
 
@@ -161,7 +161,7 @@ found_taken size k next before ws o t e a =
     taken owner = found_lengths size before k.holdings ws owner e ∙ ap₂ (λ (xs ys : List ℕ). xs ++ ys) (held_before size k before owner o) (a owner)
 
 -- A change keeps every text as long as it was.
-step_texts : (images : List NamedImage) (k : Kernel) (pid : ℕ) (regs : Regs) (e : Entry) (change : Change) → SameTexts k (change_step images k pid regs e change)
+step_texts : (images : List Image) (k : Kernel) (pid : ℕ) (regs : Regs) (e : Entry) (change : Change) → SameTexts k (change_step images k pid regs e change)
 step_texts images k pid regs e change i = go (numbered (λ (p : Proc). p.pid) pid k.processes)
   where
     go : (o : Option Proc) → length (slots_of (change_if images k regs e change o).place (Text i 0)) ≡ length (slots_of k.place (Text i 0))
@@ -169,7 +169,7 @@ step_texts images k pid regs e change i = go (numbered (λ (p : Proc). p.pid) pi
     go (Some p) = change_texts images k.place p.pid (space_of_life p.life) (gave_back p.life) k.next_sid (length (append k.journal e)) change i
 
 -- A machine whose holdings have got the pieces that a change wants is sound behind it.
-pub found_sound : (size : ℕ) (images : List NamedImage) (k : Kernel) (before : Holdings) (ws : List Wanted) (pid : ℕ) (regs : Regs) (e : Entry) (change : Change)
+pub found_sound : (size : ℕ) (images : List Image) (k : Kernel) (before : Holdings) (ws : List Wanted) (pid : ℕ) (regs : Regs) (e : Entry) (change : Change)
     → Sound size (record k { holdings = before }) → place_all size before ws ≡ Ok k.holdings → AsksFor k (change_step images k pid regs e change) ws → MayChange images k pid change → Sound size (change_step images k pid regs e change)
 found_sound size images k before ws pid regs e change s f a m =
     let o : OneOwner size (lives k.processes) k.place before = s.owner in

@@ -5,11 +5,10 @@ use Rattle.vm_facts.specs.declared.page.Page.TheVariants.{Data, Stack, Text}
 use Rattle.swap_book.specs.Holdings.{Holdings}
 use Rattle.flat_state.specs.declared.change.Change.{Change}
 use Rattle.flat_state.specs.declared.change.Change.TheVariants.{Keep, Resize, Fork, Lend, Exec, Reap, Sleep, End}
-use Rattle.flat_state.specs.Flat.{NamedImage, image_numbered}
 use Rattle.page_model.specs.Pages.{SpacePages, numbered, changed, data_in, stack_in}
 use Rattle.page_model.specs.Placement.{Placement, Due, space_number, slots_of, sharers, sharers_in, image_of, image_in, new_pages}
 use Rattle.page_model.specs.Moves.{drop_all}
-use Rattle.page_model.specs.Place.{sized, resize, child_slot, fork_space, enter_space, enter_image, remove_space, pages_of_space, pages_of_text, leave_text, leave_text_by, give_up, give_up_unless, place_change}
+use Rattle.page_model.specs.Place.{sized, resize, child_slot, fork_space, enter_space, enter_image, remove_space, pages_of_space, pages_of_text, leave_text, leave_text_by, give_up, give_up_unless, place_change, facts_numbered}
 use Rattle.page_model.specs.Conditions.{IsNew, CanChange, HasImage, CanForget, MayForget}
 use Rattle.kernel_model.specs.ChangeStep.{holdings_after, given_back_unless}
 use Rattle.page_laws.proofs.Lists.Pages.{mapped, changed_same, changed_other, sharers_changed}
@@ -18,6 +17,7 @@ use Rattle.page_laws.proofs.Ownership.Changes.{dropped_pages, added_other, remov
 use Rattle.page_laws.proofs.Blocks.Changes.{leave_text_length, leave_all_sharers, removed_sharers, drop_all_sharers, rest_of, rest_drop_all, sharers-append}
 use Rattle.page_laws.proofs.Bytes.Changes.{length_sized}
 use Rattle.kernel_laws.proofs.Pieces.GivenBack.{Fits, FitsBoth, Grows, Loses, Resizes, grows_fits, loses_fits, resizes_fits, less_u}
+use Rattle.aout_image.specs.declared.Image.{Image}
 
 -- Growth and break.
 
@@ -95,9 +95,9 @@ fork_grows p parent child =
     }) (fork_space p parent child).due in
     record { of_data = g.of_data; of_stack = g.of_stack; texts = g.texts; sharing = g.sharing }
 
-pub enter_grows : (p : Placement) (sid image : ℕ) (named : Option NamedImage) → Grows p (enter_image p sid image named)
+pub enter_grows : (p : Placement) (sid image : ℕ) (facts : Option Image) → Grows p (enter_image p sid image facts)
 enter_grows p sid image None = grows_self p
-enter_grows p sid image (Some named) = add_grows p (new_pages sid image named.image.facts) (enter_space p sid image named.image.facts).due
+enter_grows p sid image (Some facts) = add_grows p (new_pages sid image facts) (enter_space p sid image facts).due
 
 -- A space that goes.
 
@@ -161,9 +161,9 @@ others_rest sid j (s ∷ ss) rs e = go (s.sid == sid) e (others_rest sid j ss rs
     go true k ih = absurd cc
     go false k ih = let h = ih k in omega arith
 
-pub exec_loses : (p : Placement) (next image sid : ℕ) (named : Option NamedImage) → IsNew p next → CanForget (enter_image p next image named) sid → Loses sid (image_of p sid) p (give_up (enter_image p next image named) sid)
+pub exec_loses : (p : Placement) (next image sid : ℕ) (facts : Option Image) → IsNew p next → CanForget (enter_image p next image facts) sid → Loses sid (image_of p sid) p (give_up (enter_image p next image facts) sid)
 exec_loses p next image sid None new c = give_up_loses p sid c
-exec_loses p next image sid (Some named) new c = gone_loses p q sid (image_of p sid) grows (elim (cases_eq sid next) [
+exec_loses p next image sid (Some facts) new c = gone_loses p q sid (image_of p sid) grows (elim (cases_eq sid next) [
   | inl e ↦ λ j n l.
       let h = give_up_rest q sid j in
       let k = others_rest sid j p.spaces (x ∷ []) (subst (IsNew p) (sym e) new) in
@@ -173,10 +173,10 @@ exec_loses p next image sid (Some named) new c = gone_loses p q sid (image_of p 
 ])
   where
     x : SpacePages
-    x = new_pages next image named.image.facts
+    x = new_pages next image facts
 
     q : Placement
-    q = enter_space p next image named.image.facts
+    q = enter_space p next image facts
 
     grows : Grows p q
     grows = add_grows p x q.due
@@ -192,16 +192,16 @@ exec_grows : (borrowed : Bool) (p r : Placement) (sid : ℕ) → Grows p r → b
 exec_grows true p r sid g e = g
 exec_grows false p r sid g e = absurd cc
 
-exec_lost : (borrowed : Bool) (p : Placement) (next image sid : ℕ) (named : Option NamedImage) → IsNew p next → (borrowed ≡ false → CanForget (enter_image p next image named) sid) → borrowed ≡ false
-    → Loses sid (image_of p sid) p (give_up_unless borrowed (enter_image p next image named) sid)
-exec_lost true p next image sid named new c e = absurd cc
-exec_lost false p next image sid named new c e = exec_loses p next image sid named new (c refl)
+exec_lost : (borrowed : Bool) (p : Placement) (next image sid : ℕ) (facts : Option Image) → IsNew p next → (borrowed ≡ false → CanForget (enter_image p next image facts) sid) → borrowed ≡ false
+    → Loses sid (image_of p sid) p (give_up_unless borrowed (enter_image p next image facts) sid)
+exec_lost true p next image sid facts new c e = absurd cc
+exec_lost false p next image sid facts new c e = exec_loses p next image sid facts new (c refl)
 
 end_lost : (borrowed : Bool) (p : Placement) (sid : ℕ) → (borrowed ≡ false → CanForget p sid) → borrowed ≡ false → Loses sid (image_of p sid) p (give_up_unless borrowed p sid)
 end_lost true p sid c e = absurd cc
 end_lost false p sid c e = give_up_loses p sid (c refl)
 
-pub change_fits : (images : List NamedImage) (p : Placement) (pid sid : ℕ) (borrowed : Bool) (next at : ℕ) (change : Change) (hs : Holdings) → CanChange p sid borrowed next change → MayForget images p sid borrowed next change
+pub change_fits : (images : List Image) (p : Placement) (pid sid : ℕ) (borrowed : Bool) (next at : ℕ) (change : Change) (hs : Holdings) → CanChange p sid borrowed next change → MayForget images p sid borrowed next change
     → FitsBoth p (place_change images p pid sid borrowed next at change) hs
     → Fits (place_change images p pid sid borrowed next at change) (holdings_after hs p (place_change images p pid sid borrowed next at change) pid sid borrowed change)
 change_fits images p pid sid borrowed next at Keep hs c m f = grows_fits p p hs (grows_self p) f
@@ -212,9 +212,9 @@ change_fits images p pid sid borrowed next at (Fork child) hs c m f =
 change_fits images p pid sid borrowed next at (Lend child) hs c m f =
     let g = grows_self p in
     grows_fits p (place_change images p pid sid borrowed next at (Lend child)) hs (record { of_data = g.of_data; of_stack = g.of_stack; texts = g.texts; sharing = g.sharing }) f
-change_fits images p pid sid borrowed next at (Exec image top) hs c m f = unless_fits borrowed p (enter_image p next image (image_numbered images image)) sid hs
-    (exec_grows borrowed p (enter_image p next image (image_numbered images image)) sid (enter_grows p next image (image_numbered images image)))
-    (exec_lost borrowed p next image sid (image_numbered images image) c.0 m) f
+change_fits images p pid sid borrowed next at (Exec image top) hs c m f = unless_fits borrowed p (enter_image p next image (facts_numbered images image)) sid hs
+    (exec_grows borrowed p (enter_image p next image (facts_numbered images image)) sid (enter_grows p next image (facts_numbered images image)))
+    (exec_lost borrowed p next image sid (facts_numbered images image) c.0 m) f
 change_fits images p pid sid borrowed next at (Reap child) hs c m f = grows_fits p p hs (grows_self p) f
 change_fits images p pid sid borrowed next at Sleep hs c m f = grows_fits p p hs (grows_self p) f
 change_fits images p pid sid borrowed next at (End status) hs c m f =
@@ -228,16 +228,16 @@ unless_texts : (borrowed : Bool) (p : Placement) (sid i : ℕ) → length (slots
 unless_texts true p sid i = refl
 unless_texts false p sid i = leave_text_length (remove_space (drop_all p (pages_of_space p sid)) sid) (image_of p sid) (Text i 0) ∙ drop_all_length (pages_of_space p sid) p (Text i 0)
 
-enter_texts : (p : Placement) (sid image : ℕ) (named : Option NamedImage) (i : ℕ) → length (slots_of (enter_image p sid image named) (Text i 0)) ≡ length (slots_of p (Text i 0))
+enter_texts : (p : Placement) (sid image : ℕ) (facts : Option Image) (i : ℕ) → length (slots_of (enter_image p sid image facts) (Text i 0)) ≡ length (slots_of p (Text i 0))
 enter_texts p sid image None i = refl
-enter_texts p sid image (Some named) i = refl
+enter_texts p sid image (Some facts) i = refl
 
-pub change_texts : (images : List NamedImage) (p : Placement) (pid sid : ℕ) (borrowed : Bool) (next at : ℕ) (change : Change) (i : ℕ) → length (slots_of (place_change images p pid sid borrowed next at change) (Text i 0)) ≡ length (slots_of p (Text i 0))
+pub change_texts : (images : List Image) (p : Placement) (pid sid : ℕ) (borrowed : Bool) (next at : ℕ) (change : Change) (i : ℕ) → length (slots_of (place_change images p pid sid borrowed next at change) (Text i 0)) ≡ length (slots_of p (Text i 0))
 change_texts images p pid sid borrowed next at Keep i = refl
 change_texts images p pid sid borrowed next at (Resize d s) i = drop_all_length (dropped_pages p sid d s) p (Text i 0)
 change_texts images p pid sid borrowed next at (Fork child) i = refl
 change_texts images p pid sid borrowed next at (Lend child) i = refl
-change_texts images p pid sid borrowed next at (Exec image top) i = unless_texts borrowed (enter_image p next image (image_numbered images image)) sid i ∙ enter_texts p next image (image_numbered images image) i
+change_texts images p pid sid borrowed next at (Exec image top) i = unless_texts borrowed (enter_image p next image (facts_numbered images image)) sid i ∙ enter_texts p next image (facts_numbered images image) i
 change_texts images p pid sid borrowed next at (Reap child) i = refl
 change_texts images p pid sid borrowed next at Sleep i = refl
 change_texts images p pid sid borrowed next at (End status) i = unless_texts borrowed p sid i

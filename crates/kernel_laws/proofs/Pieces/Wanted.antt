@@ -18,11 +18,10 @@ use Rattle.swap_book.specs.Placing.{Wanted, wanted}
 use Rattle.swap_book.proofs.OwnerLaws.{same_owner_itself}
 use Rattle.flat_state.specs.declared.change.Change.{Change}
 use Rattle.flat_state.specs.declared.change.Change.TheVariants.{Keep, Resize, Fork, Lend, Exec, Reap, Sleep, End}
-use Rattle.flat_state.specs.Flat.{NamedImage, image_numbered}
 use Rattle.page_model.specs.Pages.{Slot, SpacePages, numbered, changed, data_in, stack_in, with_data, with_stack, frame_of}
 use Rattle.page_model.specs.Placement.{Placement, Due, space_number, slots_of, state_of, put, sharers, sharers_in, image_of, image_in, new_pages}
 use Rattle.page_model.specs.Moves.{drop_at, drop_page, drop_all}
-use Rattle.page_model.specs.Place.{data_count, stack_count, sized, child_slot, resize, fork_space, enter_space, enter_image, give_up, give_up_unless, place_change}
+use Rattle.page_model.specs.Place.{data_count, stack_count, sized, child_slot, resize, fork_space, enter_space, enter_image, give_up, give_up_unless, place_change, facts_numbered}
 use Rattle.page_model.specs.Conditions.{IsNew, CanChange}
 use Rattle.page_model.specs.Ownership.{text_pieces_while, u_blocks}
 use Rattle.flat_state.specs.Journal.{append}
@@ -41,6 +40,7 @@ use Rattle.kernel_laws.proofs.Pieces.Sizes.{resize_sizes, change_texts, give_up_
 use Rattle.page_laws.proofs.Due.Changes.{give_up_length}
 use Rattle.kernel_laws.proofs.Sound.Steps.{eq_is, proc_number}
 use Rattle.kernel_laws.proofs.Sound.Changes.{find, differs, same_is, map_lives, with_number, without_dead, woken_lives, left_dead}
+use Rattle.aout_image.specs.declared.Image.{Image}
 
 -- Lengths among what is wanted.
 
@@ -514,18 +514,18 @@ text_own zero zero image blocks m l e = absurd (omega arith)
 text_own zero (suc b) image blocks m l e = lengths_own (owners.Text image) (text_pieces blocks) ∙ ap text_pieces (sym e) ∙ sym (whole (text_pieces m))
 text_own (suc n) b image blocks m l e = none_text (suc n) b blocks m (λ h. omega arith) e
 
-pub exec_asks : (k next : Kernel) (image ns sid : ℕ) (borrowed : Bool) (named : NamedImage) → IsNew k.place ns → (borrowed ≡ false → ns ≢ sid) → next.place ≡ give_up_unless borrowed (enter_space k.place ns image named.image.facts) sid
-    → ((i : ℕ) → length (slots_of next.place (Text i 0)) ≡ length (slots_of k.place (Text i 0))) → Living k next → AsksFor k next (image_asked k.place ns image (Some named))
-exec_asks k next image ns sid borrowed named new apart e texts l = by
+pub exec_asks : (k next : Kernel) (image ns sid : ℕ) (borrowed : Bool) (facts : Image) → IsNew k.place ns → (borrowed ≡ false → ns ≢ sid) → next.place ≡ give_up_unless borrowed (enter_space k.place ns image facts) sid
+    → ((i : ℕ) → length (slots_of next.place (Text i 0)) ≡ length (slots_of k.place (Text i 0))) → Living k next → AsksFor k next (image_asked k.place ns image (Some facts))
+exec_asks k next image ns sid borrowed facts new apart e texts l = by
   where
     p : Placement
     p = k.place
 
     x : SpacePages
-    x = new_pages ns image named.image.facts
+    x = new_pages ns image facts
 
     r : Placement
-    r = enter_space p ns image named.image.facts
+    r = enter_space p ns image facts
 
     blocks : ℕ
     blocks = 2 * length (slots_of p (Text image 0))
@@ -534,13 +534,13 @@ exec_asks k next image ns sid borrowed named new apart e texts l = by
     t = text_asked (sharers p image) image blocks
 
     d : List ℕ
-    d = pieces (2 * data_pages_of named.image.facts)
+    d = pieces (2 * data_pages_of facts)
 
     s : List ℕ
     s = pieces 2
 
     all : List Wanted
-    all = image_asked p ns image (Some named)
+    all = image_asked p ns image (Some facts)
 
     parts : (owner : Owner) → wanted_lengths owner all ≡ wanted_lengths owner t ++ (wanted_lengths owner (wanted (owners.Data ns) d) ++ wanted_lengths owner (wanted (owners.Stack ns) s))
     parts owner = lengths_both owner t (wanted (owners.Data ns) d ++ wanted (owners.Stack ns) s) ∙ ap (λ (xs : List ℕ). wanted_lengths owner t ++ xs) (lengths_both owner (wanted (owners.Data ns) d) (wanted (owners.Stack ns) s))
@@ -562,8 +562,8 @@ exec_asks k next image ns sid borrowed named new apart e texts l = by
         (nothing_with (wanted_lengths (owners.Text image) (wanted (owners.Data ns) d)) (wanted_lengths (owners.Text image) (wanted (owners.Stack ns) s)) (lengths_other (owners.Data ns) (owners.Text image) d refl) (lengths_other (owners.Stack ns) (owners.Text image) s refl))
         ∙ append-nil (wanted_lengths (owners.Text image) t)
 
-    new_data : data_count next.place ns ≡ data_pages_of named.image.facts
-    new_data = ap (λ (q : Placement). data_count q ns) e ∙ unless_data_same borrowed r sid ns apart ∙ ap (λ (o : Option SpacePages). length (data_in o)) (added_same ns p.spaces x refl new) ∙ unfilled_length named.image.facts 0 (data_pages_of named.image.facts)
+    new_data : data_count next.place ns ≡ data_pages_of facts
+    new_data = ap (λ (q : Placement). data_count q ns) e ∙ unless_data_same borrowed r sid ns apart ∙ ap (λ (o : Option SpacePages). length (data_in o)) (added_same ns p.spaces x refl new) ∙ unfilled_length facts 0 (data_pages_of facts)
 
     new_stack : stack_count next.place ns ≡ 1
     new_stack = ap (λ (q : Placement). stack_count q ns) e ∙ unless_stack_same borrowed r sid ns apart ∙ ap (λ (o : Option SpacePages). length (stack_in o)) (added_same ns p.spaces x refl new)
@@ -613,7 +613,7 @@ exec_asks k next image ns sid borrowed named new apart e texts l = by
 most_self : (p : Placement) → AtMost p p
 most_self p = record { of_data = λ t. omega arith; of_stack = λ t. omega arith; texts = λ i. refl; sharing = λ i l. l }
 
-change_asked : (images : List NamedImage) (k : Kernel) (x : Proc) (e : Entry) (change : Change) → lives k.processes x.pid ≡ true → CanChange k.place (space_of_life x.life) (gave_back x.life) k.next_sid change
+change_asked : (images : List Image) (k : Kernel) (x : Proc) (e : Entry) (change : Change) → lives k.processes x.pid ≡ true → CanChange k.place (space_of_life x.life) (gave_back x.life) k.next_sid change
     → MayAsk k.place k.processes (space_of_life x.life) (gave_back x.life) k.next_sid change → AsksFor k (change_by images k x e change) (change_asks images k.place (space_of_life x.life) k.next_sid change)
 change_asked images k x e change a c m = go change c m
   where
@@ -652,28 +652,28 @@ change_asked images k x e change a c m = go change c m
     born : (child : ℕ) (life : Life) → IsUnused k.processes child → has_life life ≡ true → lives (with_proc k.processes x ++ child_proc x child life ∷ []) child ≡ true
     born child life u h = last_lives (with_proc k.processes x) (child_proc x child life) (unused_with k.processes x child u) h
 
-    image : (number : ℕ) (top : List ℕ) (o : Option NamedImage) → image_numbered images number ≡ o → IsNew k.place k.next_sid → (borrowed ≡ false → k.next_sid ≢ sid) → AsksFor k (change_by images k x e (Exec number top)) (image_asked k.place k.next_sid number o)
-    image number top None f new apart = nothing_asked k (change_by images k x e (Exec number top)) (subst (AtMost k.place) (sym (ap (λ (o : Option NamedImage). give_up_unless borrowed (enter_image k.place k.next_sid number o) sid) f)) (record {
+    image : (number : ℕ) (top : List ℕ) (o : Option Image) → facts_numbered images number ≡ o → IsNew k.place k.next_sid → (borrowed ≡ false → k.next_sid ≢ sid) → AsksFor k (change_by images k x e (Exec number top)) (image_asked k.place k.next_sid number o)
+    image number top None f new apart = nothing_asked k (change_by images k x e (Exec number top)) (subst (AtMost k.place) (sym (ap (λ (o : Option Image). give_up_unless borrowed (enter_image k.place k.next_sid number o) sid) f)) (record {
       of_data = unless_data borrowed k.place sid;
       of_stack = unless_stack borrowed k.place sid;
       texts = unless_most.texts;
       sharing = λ i l. (let h = unless_sharers borrowed k.place sid i in omega arith);
     })) (living (Exec number top) apart (λ n h. h))
-    image number top (Some named) f new apart = exec_asks k (change_by images k x e (Exec number top)) number k.next_sid sid borrowed named new apart
-        (ap (λ (o : Option NamedImage). give_up_unless borrowed (enter_image k.place k.next_sid number o) sid) f) (texts (Exec number top)) (living (Exec number top) apart (λ n h. h))
+    image number top (Some facts) f new apart = exec_asks k (change_by images k x e (Exec number top)) number k.next_sid sid borrowed facts new apart
+        (ap (λ (o : Option Image). give_up_unless borrowed (enter_image k.place k.next_sid number o) sid) f) (texts (Exec number top)) (living (Exec number top) apart (λ n h. h))
 
     go : (change : Change) → CanChange k.place sid borrowed k.next_sid change → MayAsk k.place k.processes sid borrowed k.next_sid change → AsksFor k (change_by images k x e change) (change_asks images k.place sid k.next_sid change)
     go Keep c m = nothing_asked k (change_by images k x e Keep) (most_self k.place) (living Keep m (λ n h. h))
     go (Resize d s) c m = resize_asks k (change_by images k x e (Resize d s)) sid d s m refl (living (Resize d s) m (λ n h. h))
     go (Fork child) c m = fork_asks k (change_by images k x e (Fork child)) sid k.next_sid child c m.0 refl refl (dead child m.1) (born child (HoldsSpace k.next_sid) m.1 refl) (λ n h l. back (Fork child) m n h l)
     go (Lend child) c m = lend_asks k (change_by images k x e (Lend child)) sid k.next_sid child (lent_most child) (dead child m) (born child New m refl) (λ n h l. back (Lend child) m n h l)
-    go (Exec number top) c m = image number top (image_numbered images number) refl c.0 m
+    go (Exec number top) c m = image number top (facts_numbered images number) refl c.0 m
     go (Reap child) c m = nothing_asked k (change_by images k x e (Reap child)) (most_self k.place) (living (Reap child) m (λ n h. h))
     go Sleep c m = nothing_asked k (change_by images k x e Sleep) (most_self k.place) (living Sleep m (λ n h. h))
     go (End status) c m = nothing_asked k (change_by images k x e (End status)) (record { of_data = unless_most.of_data; of_stack = unless_most.of_stack; texts = unless_most.texts; sharing = unless_most.sharing }) (living (End status) m (λ n h. h))
 
 -- The pieces that are asked for are those that a change takes.
-pub asked_for : (images : List NamedImage) (k : Kernel) (pid : ℕ) (regs : Regs) (e : Entry) (change : Change) → MayChange images k pid change → WantsThese k pid change → AsksFor k (change_step images k pid regs e change) (asked images k pid change)
+pub asked_for : (images : List Image) (k : Kernel) (pid : ℕ) (regs : Regs) (e : Entry) (change : Change) → MayChange images k pid change → WantsThese k pid change → AsksFor k (change_step images k pid regs e change) (asked images k pid change)
 asked_for images k pid regs e change c w = go (find pid k.processes) refl c.can w.may
   where
     go : (o : Option Proc) → find pid k.processes ≡ o → CanChange k.place (space_of_life (life_of_proc o)) (gave_back (life_of_proc o)) k.next_sid change

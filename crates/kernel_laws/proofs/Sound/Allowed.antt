@@ -9,10 +9,9 @@ use Rattle.swap_book.specs.Holdings.{Holdings}
 use Rattle.swap_book.specs.Placing.{place_all}
 use Rattle.flat_state.specs.declared.change.Change.{Change}
 use Rattle.flat_state.specs.declared.change.Change.TheVariants.{Keep, Resize, Fork, Lend, Exec, Reap, Sleep, End}
-use Rattle.flat_state.specs.Flat.{NamedImage, image_numbered}
 use Rattle.page_model.specs.Pages.{SpacePages, numbered}
 use Rattle.page_model.specs.Placement.{Placement, Starting, space_number, spaces_from, state_of, sharers, sharers_in, image_of, image_in, parts_of, new_pages, start_placement}
-use Rattle.page_model.specs.Place.{enter_space, enter_image}
+use Rattle.page_model.specs.Place.{enter_space, enter_image, facts_numbered}
 use Rattle.page_model.specs.Conditions.{AtRest, IsNew, CanChange, HasImage, CanForget, MayForget}
 use Rattle.page_model.specs.Ownership.{OwnsFrames, OneOwner}
 use Rattle.page_model.specs.Swapper.{is_of_space, is_of_text, names_page, is_settled}
@@ -114,18 +113,18 @@ rest_more sid j (s ∷ ss) rs = go (s.sid == sid) (rest_more sid j ss rs)
     go false l = omega arith
 
 -- and so once a new space is there
-exec_forgets : (p : Placement) (next image sid : ℕ) (named : Option NamedImage) → OwnsFrames p → AllDistinct (map space_number p.spaces) → AllDistinct (map space_number (enter_image p next image named).spaces) → HasSpace p sid → next ≢ sid → is_settled p sid ≡ true → CanForget (enter_image p next image named) sid
+exec_forgets : (p : Placement) (next image sid : ℕ) (facts : Option Image) → OwnsFrames p → AllDistinct (map space_number p.spaces) → AllDistinct (map space_number (enter_image p next image facts).spaces) → HasSpace p sid → next ≢ sid → is_settled p sid ≡ true → CanForget (enter_image p next image facts) sid
 exec_forgets p next image sid None o d f h n e = forgets p sid o d h e
-exec_forgets p next image sid (Some named) o d f h n e = record {
+exec_forgets p next image sid (Some facts) o d f h n e = record {
   image = has_image sid q.spaces f;
   text_rests = λ z v. subst (λ (i : ℕ). AtRest (state_of p (Text i v))) (sym same) (settled_text p sid o d h e (none (subst (λ (i : ℕ). sharers_in i (rest_of sid q.spaces) ≡ 0) same z)) v);
 }
   where
     x : SpacePages
-    x = new_pages next image named.image.facts
+    x = new_pages next image facts
 
     q : Placement
-    q = enter_space p next image named.image.facts
+    q = enter_space p next image facts
 
     same : image_of q sid ≡ image_of p sid
     same = ap image_in (added_other sid p.spaces x n)
@@ -151,14 +150,14 @@ can_by k sid borrowed (Reap child) o n r = tt
 can_by k sid borrowed Sleep o n r = tt
 can_by k sid borrowed (End status) o n r = λ e. settled_rests k.place sid o (r e).1
 
-forget_by : (images : List NamedImage) (k : Kernel) (sid : ℕ) (borrowed : Bool) (change : Change) → OwnsFrames k.place → Numbered k → ReadySpace k.place sid borrowed change → MayForget images k.place sid borrowed k.next_sid change
+forget_by : (images : List Image) (k : Kernel) (sid : ℕ) (borrowed : Bool) (change : Change) → OwnsFrames k.place → Numbered k → ReadySpace k.place sid borrowed change → MayForget images k.place sid borrowed k.next_sid change
 forget_by images k sid borrowed Keep o n r = tt
 forget_by images k sid borrowed (Resize d s) o n r = tt
 forget_by images k sid borrowed (Fork child) o n r = tt
 forget_by images k sid borrowed (Lend child) o n r = tt
 forget_by images k sid borrowed (Exec image top) o n r = λ e.
-    let f : Fine (k.next_sid + 1) (map space_number (enter_image k.place k.next_sid image (image_numbered images image)).spaces) = enter_fine k.next_sid k.place image (image_numbered images image) (fine_spaces k n) in
-    exec_forgets k.place k.next_sid image sid (image_numbered images image) o n.spaces_differ f.differ (r e).0 (next_apart k sid n (r e).0) (r e).1
+    let f : Fine (k.next_sid + 1) (map space_number (enter_image k.place k.next_sid image (facts_numbered images image)).spaces) = enter_fine k.next_sid k.place image (facts_numbered images image) (fine_spaces k n) in
+    exec_forgets k.place k.next_sid image sid (facts_numbered images image) o n.spaces_differ f.differ (r e).0 (next_apart k sid n (r e).0) (r e).1
 forget_by images k sid borrowed (Reap child) o n r = tt
 forget_by images k sid borrowed Sleep o n r = tt
 forget_by images k sid borrowed (End status) o n r = λ e. forgets k.place sid o n.spaces_differ (r e).0 (r e).1
@@ -176,7 +175,7 @@ ask_by k sid borrowed (Reap child) n t r = tt
 ask_by k sid borrowed Sleep n t r = tt
 ask_by k sid borrowed (End status) n t r = one_each k.processes n.pids_differ
 
-pub may_change : (images : List NamedImage) (k : Kernel) (pid : ℕ) (change : Change) → OwnsFrames k.place → Numbered k → ReadyFor k pid change → MayChange images k pid change
+pub may_change : (images : List Image) (k : Kernel) (pid : ℕ) (change : Change) → OwnsFrames k.place → Numbered k → ReadyFor k pid change → MayChange images k pid change
 may_change images k pid change o n r =
     let life = life_of_proc (numbered (λ (p : Proc). p.pid) pid k.processes) in
     record { can = can_by k (space_of_life life) (gave_back life) change o n r.space; forgets = forget_by images k (space_of_life life) (gave_back life) change o n r.space; reaps = r.reaps }
@@ -187,7 +186,7 @@ wants_these k pid change n r =
     record { alive = r.alive; may = ask_by k (space_of_life life) (gave_back life) change n r.next r.space }
 
 -- A sound machine, a process that is ready, and pieces that were found: the machine is sound behind the change.
-pub ready_sound : (size : ℕ) (images : List NamedImage) (k : Kernel) (before : Holdings) (pid : ℕ) (regs : Regs) (e : Entry) (change : Change)
+pub ready_sound : (size : ℕ) (images : List Image) (k : Kernel) (before : Holdings) (pid : ℕ) (regs : Regs) (e : Entry) (change : Change)
     → Sound size (record k { holdings = before }) → Numbered k → ReadyFor k pid change → place_all size before (asked images k pid change) ≡ Ok k.holdings → Sound size (change_step images k pid regs e change)
 ready_sound size images k before pid regs e change s n r f =
     let o : OneOwner size (lives k.processes) k.place before = s.owner in

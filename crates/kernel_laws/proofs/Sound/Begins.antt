@@ -9,7 +9,6 @@ use Rattle.swap_book.specs.declared.Owner.TheVariants as owners
 use Rattle.swap_book.specs.Owners.{same_owner, u_pieces}
 use Rattle.swap_book.specs.Holdings.{Holdings}
 use Rattle.swap_book.specs.Placing.{wanted, place_all}
-use Rattle.flat_state.specs.Flat.{NamedImage}
 use Rattle.page_model.specs.Placement.{new_pages}
 use Rattle.page_model.specs.Place.{enter_space}
 use Rattle.page_model.specs.Conditions.{IsNew}
@@ -44,15 +43,12 @@ begin_asked k found image name facts new unused = by
     l : Kernel
     l = begin_step k found image name facts
 
-    named : NamedImage
-    named = record { name = name; image = record { facts = facts; text = []; «data» = [] } }
-
     -- the same spaces, and the processes from before
     spaces : Kernel
     spaces = record k { place = enter_space k.place pid image facts }
 
     own : AsksFor k spaces (image_pieces k.place pid image facts)
-    own = exec_asks k spaces image pid 0 true named new (λ z. absurd cc) refl (λ i. refl) (λ n a. a)
+    own = exec_asks k spaces image pid 0 true facts new (λ z. absurd cc) refl (λ i. refl) (λ n a. a)
 
     both : (owner : Owner) → wanted_lengths owner (begin_asks k.place pid image facts) ≡ wanted_lengths owner (image_pieces k.place pid image facts) ++ wanted_lengths owner (wanted (owners.U pid) (u_pieces 2))
     both owner = lengths_both owner (image_pieces k.place pid image facts) (wanted (owners.U pid) (u_pieces 2))

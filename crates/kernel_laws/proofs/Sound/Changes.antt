@@ -16,11 +16,10 @@ use Rattle.swap_dmap.specs.Chunks.{pieces}
 use Rattle.swap_book.specs.Holdings.{Holdings, lengths, kept}
 use Rattle.flat_state.specs.declared.change.Change.{Change}
 use Rattle.flat_state.specs.declared.change.Change.TheVariants.{Keep, Resize, Fork, Lend, Exec, Reap, Sleep, End}
-use Rattle.flat_state.specs.Flat.{NamedImage, image_numbered}
 use Rattle.page_model.specs.Pages.{numbered, frame_of}
 use Rattle.page_model.specs.Placement.{Placement, Transfer, slots_of, state_of, sharers, image_of}
 use Rattle.page_model.specs.Moves.{drop_at, drop_page, drop_all, leave_by, leave_page, leave_all, listed}
-use Rattle.page_model.specs.Place.{data_count, stack_count, resize, enter_image, remove_space, pages_of_space, pages_of_text, leave_text, leave_text_by, give_up, give_up_unless, place_change}
+use Rattle.page_model.specs.Place.{data_count, stack_count, resize, enter_image, remove_space, pages_of_space, pages_of_text, leave_text, leave_text_by, give_up, give_up_unless, place_change, facts_numbered}
 use Rattle.page_model.specs.Conditions.{CanChange, MayForget}
 use Rattle.page_model.specs.Ownership.{OneOwner, u_blocks}
 use Rattle.flat_state.specs.Journal.{append}
@@ -36,6 +35,7 @@ use Rattle.page_laws.proofs.Ends.Hands.{SameHands, hands_self, hands_both, hands
 use Rattle.kernel_laws.proofs.Sound.Steps.{eq_is, proc_number}
 use Rattle.kernel_laws.proofs.Pieces.GivenBack.{after_apart, FitsBoth, grows_fits, owns_from, own_left, other_left, unless_u, u_some, both_pieces, both_while, both_u}
 use Rattle.kernel_laws.proofs.Pieces.Sizes.{change_fits, change_texts, grows_self}
+use Rattle.aout_image.specs.declared.Image.{Image}
 
 -- Who lives.
 
@@ -252,17 +252,17 @@ unless_unhanded : (borrowed : Bool) (p : Placement) (sid : ℕ) → Unhanded p (
 unless_unhanded true p sid = unhanded_self p
 unless_unhanded false p sid = give_up_unhanded p sid
 
-enter_unhanded : (p : Placement) (sid image : ℕ) (named : Option NamedImage) → Unhanded p (enter_image p sid image named)
+enter_unhanded : (p : Placement) (sid image : ℕ) (facts : Option Image) → Unhanded p (enter_image p sid image facts)
 enter_unhanded p sid image None = unhanded_self p
-enter_unhanded p sid image (Some named) = record { hands = record { front = refl; back = refl; frames = refl }; transfers = refl }
+enter_unhanded p sid image (Some facts) = record { hands = record { front = refl; back = refl; frames = refl }; transfers = refl }
 
-pub change_unhanded : (images : List NamedImage) (p : Placement) (pid sid : ℕ) (borrowed : Bool) (next at : ℕ) (change : Change) → Unhanded p (place_change images p pid sid borrowed next at change)
+pub change_unhanded : (images : List Image) (p : Placement) (pid sid : ℕ) (borrowed : Bool) (next at : ℕ) (change : Change) → Unhanded p (place_change images p pid sid borrowed next at change)
 change_unhanded images p pid sid borrowed next at Keep = unhanded_self p
 change_unhanded images p pid sid borrowed next at (Resize d s) = resize_unhanded p sid d s
 change_unhanded images p pid sid borrowed next at (Fork child) = record { hands = record { front = refl; back = refl; frames = refl }; transfers = refl }
 change_unhanded images p pid sid borrowed next at (Lend child) = record { hands = record { front = refl; back = refl; frames = refl }; transfers = refl }
-change_unhanded images p pid sid borrowed next at (Exec image top) = unhanded_both p (enter_image p next image (image_numbered images image)) (place_change images p pid sid borrowed next at (Exec image top))
-    (enter_unhanded p next image (image_numbered images image)) (unless_unhanded borrowed (enter_image p next image (image_numbered images image)) sid)
+change_unhanded images p pid sid borrowed next at (Exec image top) = unhanded_both p (enter_image p next image (facts_numbered images image)) (place_change images p pid sid borrowed next at (Exec image top))
+    (enter_unhanded p next image (facts_numbered images image)) (unless_unhanded borrowed (enter_image p next image (facts_numbered images image)) sid)
 change_unhanded images p pid sid borrowed next at (Reap child) = unhanded_self p
 change_unhanded images p pid sid borrowed next at Sleep = unhanded_self p
 change_unhanded images p pid sid borrowed next at (End status) =
@@ -288,7 +288,7 @@ taken_fits size k next t e = record {
 pub taken_u : (size : ℕ) (k next : Kernel) (n : ℕ) → HasTaken size k next → lengths (owners.U n) k.holdings ≡ u_pieces (u_blocks (lives k.processes n || lives next.processes n))
 taken_u size k next n t = t.taken (owners.U n) ∙ both_u (lives k.processes n) (lives next.processes n)
 
-change_sound : (size : ℕ) (images : List NamedImage) (k : Kernel) (before : Holdings) (x : Proc) (e : Entry) (change : Change) → ((n : ℕ) → x.pid ≡ n → lives k.processes n ≡ true → has_life x.life ≡ true)
+change_sound : (size : ℕ) (images : List Image) (k : Kernel) (before : Holdings) (x : Proc) (e : Entry) (change : Change) → ((n : ℕ) → x.pid ≡ n → lives k.processes n ≡ true → has_life x.life ≡ true)
     → Sound size (record k { holdings = before }) → HasTaken size k (change_by images k x e change)
     → CanChange k.place (space_of_life x.life) (gave_back x.life) k.next_sid change → MayForget images k.place (space_of_life x.life) (gave_back x.life) k.next_sid change → MayReap k.processes change
     → Sound size (change_by images k x e change)
@@ -332,7 +332,7 @@ still_sound size k before s t =
     }
 
 -- A change of a process keeps the machine sound.
-pub flat_sound : (size : ℕ) (images : List NamedImage) (k : Kernel) (before : Holdings) (pid : ℕ) (regs : Regs) (e : Entry) (change : Change)
+pub flat_sound : (size : ℕ) (images : List Image) (k : Kernel) (before : Holdings) (pid : ℕ) (regs : Regs) (e : Entry) (change : Change)
     → Sound size (record k { holdings = before }) → HasTaken size k (change_step images k pid regs e change) → MayChange images k pid change → Sound size (change_step images k pid regs e change)
 flat_sound size images k before pid regs e change s t m = go (find pid k.processes) refl t m.can m.forgets
   where

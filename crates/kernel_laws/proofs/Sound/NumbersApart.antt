@@ -14,7 +14,7 @@ use Rattle.aout_image.specs.declared.Image.{Image}
 use Rattle.swap_book.specs.Holdings.{Holdings}
 use Rattle.flat_state.specs.declared.change.Change.{Change}
 use Rattle.flat_state.specs.declared.change.Change.TheVariants.{Keep, Resize, Fork, Lend, Exec, Reap, Sleep, End}
-use Rattle.flat_state.specs.Flat.{NamedImage, image_numbered, cleared, start_regs}
+use Rattle.flat_state.specs.Flat.{cleared, start_regs}
 use Rattle.page_model.specs.Pages.{SpacePages, changed, with_data, with_stack, frame_of}
 use Rattle.flat_state.specs.PageNames.{is_among, same_page, pages_from, number_of}
 use Rattle.page_model.specs.Frames.{times}
@@ -22,7 +22,7 @@ use Rattle.page_model.specs.Placement.{Placement, Transfer, Part, Errand, Writes
 use Rattle.page_model.specs.Moves.{evict, evict_at, fill, fill_at, begin, get_one, get_at, get_all, get_run, launch, launch_to, launch_all, launch_run, land, land_read, land_all, done, done_of, reclaim, reclaim_to, retire, retire_to, touch, touch_to, drop_at, drop_page, drop_all, leave_by, leave_page, leave_all, listed}
 use Rattle.page_model.specs.Runs.{run_out, pages_of_run}
 use Rattle.page_model.specs.Hands.{expire, expire_of, expire_if, expire_to, sweep, sweep_of, sweep_to, sweep_by, hand_move, hand_moves}
-use Rattle.page_model.specs.Place.{filled, put_by, put_step, place_entry, sized, data_count, stack_count, data_from, stack_from, cut_space, resize, fork_space, enter_space, enter_image, remove_space, pages_of_space, pages_of_text, leave_text, leave_text_by, give_up, give_up_unless, place_change}
+use Rattle.page_model.specs.Place.{filled, put_by, put_step, place_entry, sized, data_count, stack_count, data_from, stack_from, cut_space, resize, fork_space, enter_space, enter_image, remove_space, pages_of_space, pages_of_text, leave_text, leave_text_by, give_up, give_up_unless, place_change, facts_numbered}
 use Rattle.page_model.specs.Serve.{read_errand}
 use Rattle.flat_state.specs.Journal.{append}
 use Rattle.kernel_model.specs.Kernel.{New, HoldsSpace, Ended, Kernel, Proc, with_regs, plain_step, zero_step, copy_step, done_step, write_step, note_step, out_step, in_step}
@@ -354,11 +354,11 @@ add_fine : (n : ℕ) (p : Placement) (x : SpacePages) → space_number x ≡ n �
 add_fine n p x e f = fine_as (n + 1) (map space_number p.spaces ++ n ∷ []) (map space_number (p.spaces ++ x ∷ []))
     (map-append space_number p.spaces (x ∷ []) ∙ ap (λ (m : ℕ). map space_number p.spaces ++ m ∷ []) e) (fine_last n (map space_number p.spaces) f)
 
-pub enter_fine : (n : ℕ) (p : Placement) (image : ℕ) (named : Option NamedImage) → FineSpaces n p → FineSpaces (n + 1) (enter_image p n image named)
+pub enter_fine : (n : ℕ) (p : Placement) (image : ℕ) (facts : Option Image) → FineSpaces n p → FineSpaces (n + 1) (enter_image p n image facts)
 enter_fine n p image None f = fine_more n (map space_number p.spaces) f
-enter_fine n p image (Some named) f = add_fine n p (new_pages n image named.image.facts) refl f
+enter_fine n p image (Some facts) f = add_fine n p (new_pages n image facts) refl f
 
-pub change_fine : (images : List NamedImage) (p : Placement) (pid sid : ℕ) (borrowed : Bool) (n at : ℕ) (change : Change) → FineSpaces n p → FineSpaces (Rattle.kernel_model.specs.ChangeStep.sid_after n change) (place_change images p pid sid borrowed n at change)
+pub change_fine : (images : List Image) (p : Placement) (pid sid : ℕ) (borrowed : Bool) (n at : ℕ) (change : Change) → FineSpaces n p → FineSpaces (Rattle.kernel_model.specs.ChangeStep.sid_after n change) (place_change images p pid sid borrowed n at change)
 change_fine images p pid sid borrowed n at Keep f = f
 change_fine images p pid sid borrowed n at (Resize d s) f = same_fine n p (resize p sid d s) (resize_numbers p sid d s) f
 change_fine images p pid sid borrowed n at (Fork child) f = add_fine n p (record {
@@ -368,7 +368,7 @@ change_fine images p pid sid borrowed n at (Fork child) f = add_fine n p (record
   stack_pages = map Rattle.page_model.specs.Place.child_slot (Rattle.page_model.specs.Placement.slots_of p (Stack sid 0));
 }) refl f
 change_fine images p pid sid borrowed n at (Lend child) f = f
-change_fine images p pid sid borrowed n at (Exec image top) f = unless_fine borrowed (n + 1) (enter_image p n image (image_numbered images image)) sid (enter_fine n p image (image_numbered images image) f)
+change_fine images p pid sid borrowed n at (Exec image top) f = unless_fine borrowed (n + 1) (enter_image p n image (facts_numbered images image)) sid (enter_fine n p image (facts_numbered images image) f)
 change_fine images p pid sid borrowed n at (Reap child) f = f
 change_fine images p pid sid borrowed n at Sleep f = f
 change_fine images p pid sid borrowed n at (End status) f = unless_fine borrowed n p sid f
@@ -492,7 +492,7 @@ pass_numbered k from to a b n =
     numbered_from (pass_step k from to) (fine_spaces k n) (map_fine k.next_pid (λ (q : Proc). record q { life = passed_life sid from to receiver q }) k.processes (λ q. refl) (fine_pids k n))
     (each_resides k (pass_step k from to) (λ m l. sym (pass_lives k from to a b m) ∙ l) (λ m h. h) n.residents)
 
-pub flat_numbered : (images : List NamedImage) (k : Kernel) (pid : ℕ) (regs : Regs) (e : Entry) (change : Change) → TakesNext k change → lives k.processes pid ≡ true → Numbered k → Numbered (change_step images k pid regs e change)
+pub flat_numbered : (images : List Image) (k : Kernel) (pid : ℕ) (regs : Regs) (e : Entry) (change : Change) → TakesNext k change → lives k.processes pid ≡ true → Numbered k → Numbered (change_step images k pid regs e change)
 flat_numbered images k pid regs e change t a n = go (find pid k.processes) refl
   where
     go : (o : Option Proc) → find pid k.processes ≡ o → Numbered (change_if images k regs e change o)

@@ -7,14 +7,13 @@ use Rattle.vm_facts.specs.declared.entry.Entry.{Entry}
 use Rattle.vm_facts.specs.declared.entry.Entry.TheVariants as entries
 use Rattle.flat_state.specs.declared.change.Change.{Change}
 use Rattle.flat_state.specs.declared.change.Change.TheVariants.{Keep, Resize, Fork, Lend, Exec, Reap, Sleep, End}
-use Rattle.flat_state.specs.Flat.{NamedImage, image_numbered}
 use Rattle.flat_state.specs.Journal.{append}
 use Rattle.flat_state.specs.Numbers.{AllDistinct}
 use Rattle.flat_state.specs.PageNames.{pages_from, number_of}
 use Rattle.page_model.specs.Pages.{numbered, changed}
 use Rattle.page_model.specs.Placement.{Placement, Residence, Starting, residents_from}
 use Rattle.page_model.specs.Moves.{drop_all}
-use Rattle.page_model.specs.Place.{enter_image, give_up_unless, place_change, place_entry}
+use Rattle.page_model.specs.Place.{enter_image, give_up_unless, place_change, place_entry, facts_numbered}
 use Rattle.page_model.specs.Serve.{read_errand}
 use Rattle.page_model.specs.PuttingOut.{IsResident}
 use Rattle.kernel_model.specs.Kernel.{Kernel, Proc, with_regs}
@@ -28,6 +27,7 @@ use Rattle.kernel_laws.proofs.Sound.Changes.{left_dead, map_lives}
 use Rattle.kernel_laws.proofs.Pieces.Wanted.{IsChild, after_back}
 use Rattle.kernel_laws.proofs.Machine.Shapes.{Shaped, filled_shaped, get_run_shaped, reclaim_shaped, moves_shaped, put_step_shaped, done_shaped, drop_all_shaped}
 use Rattle.kernel_laws.proofs.Machine.Gone.{Gone, gone_unless}
+use Rattle.aout_image.specs.declared.Image.{Image}
 
 abbrev here : Residence → ℕ
 here r = r.pid
@@ -121,7 +121,7 @@ Lasting (End status) pid n = n ≢ pid
 Lasting change pid n = Unit {0}
 
 -- a child is a resident, and each other that lasts stays one
-change_resides : (images : List NamedImage) (p : Placement) (pid sid : ℕ) (b : Bool) (next at : ℕ) (change : Change) (n : ℕ) → IsChild change n ⊎ (IsResident p n × Lasting change pid n) → IsResident (place_change images p pid sid b next at change) n
+change_resides : (images : List Image) (p : Placement) (pid sid : ℕ) (b : Bool) (next at : ℕ) (change : Change) (n : ℕ) → IsChild change n ⊎ (IsResident p n × Lasting change pid n) → IsResident (place_change images p pid sid b next at change) n
 change_resides images p pid sid b next at Keep n (inl c) = absurd c
 change_resides images p pid sid b next at Keep n (inr h) = h.0
 change_resides images p pid sid b next at (Resize d s) n (inl c) = absurd c
@@ -132,13 +132,13 @@ change_resides images p pid sid b next at (Lend child) n (inl c) = begun p.resid
 change_resides images p pid sid b next at (Lend child) n (inr h) = begun p.residents child at n (inr h.0)
 change_resides images p pid sid b next at (Exec image top) n (inl c) = absurd c
 change_resides images p pid sid b next at (Exec image top) n (inr h) =
-    let p1 : Placement = enter_image p next image (image_numbered images image) in
+    let p1 : Placement = enter_image p next image (facts_numbered images image) in
     let g : Gone p1 (give_up_unless b p1 sid) b sid = gone_unless b p1 sid in
-    resides p.residents (give_up_unless b p1 sid).residents n (g.residents ∙ entered (image_numbered images image)) h.0
+    resides p.residents (give_up_unless b p1 sid).residents n (g.residents ∙ entered (facts_numbered images image)) h.0
   where
-    entered : (o : Option NamedImage) → (enter_image p next image o).residents ≡ p.residents
+    entered : (o : Option Image) → (enter_image p next image o).residents ≡ p.residents
     entered None = refl
-    entered (Some named) = refl
+    entered (Some facts) = refl
 change_resides images p pid sid b next at (Reap child) n (inl c) = absurd c
 change_resides images p pid sid b next at (Reap child) n (inr h) = h.0
 change_resides images p pid sid b next at Sleep n (inl c) = absurd c
@@ -180,7 +180,7 @@ lived ps x next n change a o e = elim (child_or change n) [
 ]
 
 -- each process that lives resides behind a change of one that lived before it
-pub change_reside : (images : List NamedImage) (k : Kernel) (x : Proc) (e : Entry) (change : Change) → lives k.processes x.pid ≡ true → AllDistinct (map (λ (p : Proc). p.pid) k.processes) → EachResides k → EachResides (change_by images k x e change)
+pub change_reside : (images : List Image) (k : Kernel) (x : Proc) (e : Entry) (change : Change) → lives k.processes x.pid ≡ true → AllDistinct (map (λ (p : Proc). p.pid) k.processes) → EachResides k → EachResides (change_by images k x e change)
 change_reside images k x e change a d r = λ n l. change_resides images k.place x.pid (space_of_life x.life) (gave_back x.life) k.next_sid (length (append k.journal e)) change n (elim (lived k.processes x k.next_sid n change a (one_each k.processes d) l) [
   | inl c ↦ inl c
   | inr h ↦ inr (r n h.0, h.1)

@@ -16,7 +16,7 @@ use Rattle.page_model.specs.Pages.{numbered}
 use Rattle.flat_state.specs.PageNames.{same_page}
 use Rattle.page_model.specs.Placement.{Placement, Residence, Due, Start, due_at, slots_of}
 use Rattle.page_model.specs.Moves.{drop_all, touch}
-use Rattle.page_model.specs.Place.{enter_image, give_up_unless}
+use Rattle.page_model.specs.Place.{enter_image, give_up_unless, facts_of}
 use Rattle.page_model.specs.Swapper.{is_out, residence_of}
 use Rattle.kernel_model.specs.Stands.{OutHold, holds_some, Stands}
 use Rattle.flat_state.specs.Lenders.{IsLender}
@@ -41,6 +41,8 @@ use Rattle.kernel_laws.proofs.Machine.Execs.{exec_kernel}
 use Rattle.kernel_laws.proofs.Machine.Ends.{end_kernel, left_flat, left_is, orphans, out_ended, out_gone}
 use Rattle.kernel_laws.proofs.Machine.Returns.{passes, Borrowing, borrowing, back_kernel, back_proc}
 use Rattle.kernel_laws.proofs.Machine.Processes.{Stepping, stepping, by_life, step_is}
+use Rattle.kernel_laws.proofs.Machine.Images.{image_known}
+use Rattle.aout_image.specs.declared.Image.{Image}
 
 -- Who holds a space still does.
 
@@ -104,26 +106,26 @@ write_stands images k flat pid q s w v f at fq hq st = subst (Stands images (wri
 
 -- An entry of a process, by the process of the machine.
 by_step : (images : List NamedImage) (k : Kernel) (flat : FlatState) (pid : ℕ) (regs : Regs) (e : Entry) (change : Change) (q : Process) (s : Space) → SameTables k flat → process_of flat pid ≡ Some q → q.holding ≡ Holds s
-    → ((kp : Proc) → kp.pid ≡ pid → Stands images (by_life images k kp (HoldsSpace s.sid) e change) (changed images flat (record q { regs = regs }) s change)) → Stands images (change_step images k pid regs e change) (apply_change images flat pid regs change)
+    → ((kp : Proc) → kp.pid ≡ pid → Stands images (by_life (facts_of images) k kp (HoldsSpace s.sid) e change) (changed images flat (record q { regs = regs }) s change)) → Stands images (change_step (facts_of images) k pid regs e change) (apply_change images flat pid regs change)
 by_step images k flat pid regs e change q s t f h make =
     let g : Stepping k flat pid q s = stepping k flat pid q s t f h in
-    subst (λ (x : Kernel). Stands images x (apply_change images flat pid regs change)) (sym (step_is images k pid regs e change g.proc (HoldsSpace s.sid) g.kept g.life))
-    (subst (Stands images (by_life images k (record g.proc { regs = regs }) (HoldsSpace s.sid) e change)) (sym (applied images flat pid regs change q s f h)) (make (record g.proc { regs = regs }) g.pid_is))
+    subst (λ (x : Kernel). Stands images x (apply_change images flat pid regs change)) (sym (step_is (facts_of images) k pid regs e change g.proc (HoldsSpace s.sid) g.kept g.life))
+    (subst (Stands images (by_life (facts_of images) k (record g.proc { regs = regs }) (HoldsSpace s.sid) e change)) (sym (applied images flat pid regs change q s f h)) (make (record g.proc { regs = regs }) g.pid_is))
 
 pub keep_stands : (images : List NamedImage) (k : Kernel) (flat : FlatState) (pid : ℕ) (regs : Regs) (e : Entry) (q : Process) (s : Space) → SameTables k flat → process_of flat pid ≡ Some q → q.holding ≡ Holds s → is_out k.place pid ≡ false
-    → Stands images k flat → Stands images (change_step images k pid regs e Keep) (apply_change images flat pid regs Keep)
+    → Stands images k flat → Stands images (change_step (facts_of images) k pid regs e Keep) (apply_change images flat pid regs Keep)
 keep_stands images k flat pid regs e q s t f h out st = by_step images k flat pid regs e Keep q s t f h (λ kp i.
-    still_out images k (by_life images k kp (HoldsSpace s.sid) e Keep) flat (with_process flat (record q { regs = regs })) refl refl (λ i. refl) (one_out k.place flat (record q { regs = regs }) pid ((found_at flat pid q f).0) out) st)
+    still_out images k (by_life (facts_of images) k kp (HoldsSpace s.sid) e Keep) flat (with_process flat (record q { regs = regs })) refl refl (λ i. refl) (one_out k.place flat (record q { regs = regs }) pid ((found_at flat pid q f).0) out) st)
 
 pub sleep_stands : (images : List NamedImage) (k : Kernel) (flat : FlatState) (pid : ℕ) (regs : Regs) (e : Entry) (q : Process) (s : Space) → SameTables k flat → process_of flat pid ≡ Some q → q.holding ≡ Holds s → is_out k.place pid ≡ false
-    → Stands images k flat → Stands images (change_step images k pid regs e Sleep) (apply_change images flat pid regs Sleep)
+    → Stands images k flat → Stands images (change_step (facts_of images) k pid regs e Sleep) (apply_change images flat pid regs Sleep)
 sleep_stands images k flat pid regs e q s t f h out st = by_step images k flat pid regs e Sleep q s t f h (λ kp i.
-    still_out images k (by_life images k kp (HoldsSpace s.sid) e Sleep) flat (with_process flat (record q { regs = regs; asleep = true })) refl refl (λ i. refl) (one_out k.place flat (record q { regs = regs; asleep = true }) pid ((found_at flat pid q f).0) out) st)
+    still_out images k (by_life (facts_of images) k kp (HoldsSpace s.sid) e Sleep) flat (with_process flat (record q { regs = regs; asleep = true })) refl refl (λ i. refl) (one_out k.place flat (record q { regs = regs; asleep = true }) pid ((found_at flat pid q f).0) out) st)
 
 pub reap_stands : (images : List NamedImage) (k : Kernel) (flat : FlatState) (pid : ℕ) (regs : Regs) (e : Entry) (child status : ℕ) (q z : Process) (s : Space) → SameTables k flat → process_of flat pid ≡ Some q → q.holding ≡ Holds s → is_out k.place pid ≡ false → process_of flat child ≡ Some z
-    → z.holding ≡ Zombie status → Stands images k flat → Stands images (change_step images k pid regs e (Reap child)) (apply_change images flat pid regs (Reap child))
+    → z.holding ≡ Zombie status → Stands images k flat → Stands images (change_step (facts_of images) k pid regs e (Reap child)) (apply_change images flat pid regs (Reap child))
 reap_stands images k flat pid regs e child status q z s t f h out fz hz st = by_step images k flat pid regs e (Reap child) q s t f h (λ kp i.
-    still_out images k (by_life images k kp (HoldsSpace s.sid) e (Reap child)) flat (with_process (without_process flat child) (record q { regs = regs })) refl refl (λ i. refl)
+    still_out images k (by_life (facts_of images) k kp (HoldsSpace s.sid) e (Reap child)) flat (with_process (without_process flat child) (record q { regs = regs })) refl refl (λ i. refl)
     (λ n o. (
       o,
       λ y. held_replaced (filter (λ (x : Process). not (x.pid == child)) flat.processes) (record q { regs = regs }) n (λ j. not_out k.place pid n out o (j ∙ (found_at flat pid q f).0))
@@ -134,10 +136,10 @@ reap_stands images k flat pid regs e child status q z s t f h out fz hz st = by_
     dead y = let w : false ≡ true = sym (ap holds_some (sym (found_is flat.processes child) ∙ fz) ∙ ap holds_space hz) ∙ y in cc
 
 pub resize_stands : (images : List NamedImage) (k : Kernel) (flat : FlatState) (pid : ℕ) (regs : Regs) (e : Entry) (d t : ℕ) (q : Process) (s : Space) → SameTables k flat → process_of flat pid ≡ Some q → q.holding ≡ Holds s → is_out k.place pid ≡ false
-    → Stands images k flat → Stands images (change_step images k pid regs e (Resize d t)) (apply_change images flat pid regs (Resize d t))
+    → Stands images k flat → Stands images (change_step (facts_of images) k pid regs e (Resize d t)) (apply_change images flat pid regs (Resize d t))
 resize_stands images k flat pid regs e d t q s tb f h out st = by_step images k flat pid regs e (Resize d t) q s tb f h (λ kp i.
     let sh : Shaped k.place (drop_all k.place (dropped_pages k.place s.sid d t)) = drop_all_shaped (dropped_pages k.place s.sid d t) k.place in
-    still_out images k (by_life images k kp (HoldsSpace s.sid) e (Resize d t)) flat (with_process flat (record q { regs = regs; holding = Holds (resized s d t) })) refl ((drop_all_rest (dropped_pages k.place s.sid d t) k.place).1)
+    still_out images k (by_life (facts_of images) k kp (HoldsSpace s.sid) e (Resize d t)) flat (with_process flat (record q { regs = regs; holding = Holds (resized s d t) })) refl ((drop_all_rest (dropped_pages k.place s.sid d t) k.place).1)
     (λ j. sizes_kept k.place (drop_all k.place (dropped_pages k.place s.sid d t)) sh (Text j 0))
     (λ n o. one_out k.place flat (record q { regs = regs; holding = Holds (resized s d t) }) pid ((found_at flat pid q f).0) out n (ap (λ (rs : List Residence). (residence_of rs n).out) (sym sh.residents) ∙ o)) st)
 
@@ -146,11 +148,11 @@ none_kept : (images : List NamedImage) (k : Kernel) (flat : FlatState) → k.pla
 none_kept images k flat due st w = st.starts w (ap (λ (ds : List Due). is_start (due_at ds w)) due)
 
 pub fork_stands : (images : List NamedImage) (k : Kernel) (flat : FlatState) (pid : ℕ) (regs : Regs) (e : Entry) (q : Process) (s : Space) → SameTables k flat → k.place.due ≡ [] → process_of flat pid ≡ Some q → q.holding ≡ Holds s → is_out k.place pid ≡ false
-    → Stands images k flat → Stands images (change_step images k pid regs e (Fork flat.next_pid)) (apply_change images flat pid regs (Fork flat.next_pid))
+    → Stands images k flat → Stands images (change_step (facts_of images) k pid regs e (Fork flat.next_pid)) (apply_change images flat pid regs (Fork flat.next_pid))
 fork_stands images k flat pid regs e q s t due f h out st = by_step images k flat pid regs e (Fork flat.next_pid) q s t f h (λ kp i. record {
   starts = λ w _. none_kept images k flat due st w;
   texts = st.texts;
-  out = out_held k.place (by_life images k kp (HoldsSpace s.sid) e (Fork flat.next_pid)).place flat (changed images flat (record q { regs = regs }) s (Fork flat.next_pid)) st.out
+  out = out_held k.place (by_life (facts_of images) k kp (HoldsSpace s.sid) e (Fork flat.next_pid)).place flat (changed images flat (record q { regs = regs }) s (Fork flat.next_pid)) st.out
       (λ n o. let was : is_out k.place n ≡ true = sym (out_begun k.place.residents flat.next_pid (length (append k.journal e)) n) ∙ o in (
         was,
         λ y. held_pushed (replaced flat.processes (record q { regs = regs })) (child_of (record q { regs = regs }) flat.next_pid (record s { sid = flat.next_sid })) n
@@ -159,10 +161,10 @@ fork_stands images k flat pid regs e q s t due f h out st = by_step images k fla
 })
 
 pub lend_stands : (images : List NamedImage) (k : Kernel) (flat : FlatState) (pid : ℕ) (regs : Regs) (e : Entry) (q : Process) (s : Space) → SameTables k flat → process_of flat pid ≡ Some q → q.holding ≡ Holds s → is_out k.place pid ≡ false
-    → Stands images k flat → Stands images (pass_step (change_step images k pid regs e (Lend flat.next_pid)) pid flat.next_pid) (apply_change images flat pid regs (Lend flat.next_pid))
+    → Stands images k flat → Stands images (pass_step (change_step (facts_of images) k pid regs e (Lend flat.next_pid)) pid flat.next_pid) (apply_change images flat pid regs (Lend flat.next_pid))
 lend_stands images k flat pid regs e q s t f h out st =
-    let x : Stands images (change_step images k pid regs e (Lend flat.next_pid)) (apply_change images flat pid regs (Lend flat.next_pid)) = by_step images k flat pid regs e (Lend flat.next_pid) q s t f h (λ kp i.
-    still_out images k (by_life images k kp (HoldsSpace s.sid) e (Lend flat.next_pid)) flat (changed images flat (record q { regs = regs }) s (Lend flat.next_pid)) refl refl (λ i. refl)
+    let x : Stands images (change_step (facts_of images) k pid regs e (Lend flat.next_pid)) (apply_change images flat pid regs (Lend flat.next_pid)) = by_step images k flat pid regs e (Lend flat.next_pid) q s t f h (λ kp i.
+    still_out images k (by_life (facts_of images) k kp (HoldsSpace s.sid) e (Lend flat.next_pid)) flat (changed images flat (record q { regs = regs }) s (Lend flat.next_pid)) refl refl (λ i. refl)
     (λ n o. let was : is_out k.place n ≡ true = sym (out_begun k.place.residents flat.next_pid (length (append k.journal e)) n) ∙ o in (
       was,
       λ y. held_pushed (replaced flat.processes (record q { regs = regs; holding = Lends s.sid flat.next_pid })) (child_of (record q { regs = regs }) flat.next_pid s) n
@@ -230,7 +232,7 @@ has_pushed (x ∷ ss) s w e d = go (same_page x.page w) e (has_pushed ss s w)
     go false h ih = ih h d
 
 exec_stands_core : (images : List NamedImage) (k : Kernel) (flat after : FlatState) (next sid number : ℕ) (borrowed : Bool) (named : NamedImage) (top : List ℕ) (ps : List Proc) (journal : List Entry) → k.place.due ≡ [] → Stands images k flat
-    → ((n : ℕ) → is_out k.place n ≡ true → Held flat.processes n → Held after.processes n) → Stands images (exec_kernel k next sid borrowed number (Some named) top ps journal) after
+    → ((n : ℕ) → is_out k.place n ≡ true → Held flat.processes n → Held after.processes n) → Stands images (exec_kernel k next sid borrowed number (Some named.image.facts) top ps journal) after
 exec_stands_core images k flat after next sid number borrowed named top ps journal due st h = record {
   starts = λ w e. has_pushed k.starts (record { page = Stack next 0; bytes = top }) w (none_kept images k flat due st w) (λ i. due_there w i e);
   texts = λ i. st.texts i ∙ ap (λ (n : ℕ). 1024 * n) (sym (gone_texts borrowed p1 sid i));
@@ -238,10 +240,10 @@ exec_stands_core images k flat after next sid number borrowed named top ps journ
 }
   where
     l : Kernel
-    l = exec_kernel k next sid borrowed number (Some named) top ps journal
+    l = exec_kernel k next sid borrowed number (Some named.image.facts) top ps journal
 
     p1 : Placement
-    p1 = enter_image k.place next number (Some named)
+    p1 = enter_image k.place next number (Some named.image.facts)
 
     g : Gone p1 l.place borrowed sid
     g = gone_unless borrowed p1 sid
@@ -253,24 +255,24 @@ exec_stands_core images k flat after next sid number borrowed named top ps journ
         let z : true ≡ false = sym a ∙ e in cc
 
 pub exec_stands : (images : List NamedImage) (k : Kernel) (flat : FlatState) (pid : ℕ) (regs : Regs) (e : Entry) (number : ℕ) (top : List ℕ) (named : NamedImage) (q : Process) (s : Space) → SameTables k flat → k.place.due ≡ [] → process_of flat pid ≡ Some q → q.holding ≡ Holds s
-    → is_out k.place pid ≡ false → image_numbered images number ≡ Some named → Stands images k flat → Stands images (change_step images k pid regs e (Exec number top)) (apply_change images flat pid regs (Exec number top))
+    → is_out k.place pid ≡ false → image_numbered images number ≡ Some named → Stands images k flat → Stands images (change_step (facts_of images) k pid regs e (Exec number top)) (apply_change images flat pid regs (Exec number top))
 exec_stands images k flat pid regs e number top named q s t due f h out im st = by_step images k flat pid regs e (Exec number top) q s t f h (λ kp i.
-    subst (λ (o : Option NamedImage). Stands images (exec_kernel k k.next_sid s.sid false number o top (with_proc k.processes (record kp { life = HoldsSpace k.next_sid })) (append k.journal e)) (entered flat (record q { regs = regs }) s number o top)) (sym im)
+    image_known images number named (λ (f : Option Image) (o : Option NamedImage). Stands images (exec_kernel k k.next_sid s.sid false number f top (with_proc k.processes (record kp { life = HoldsSpace k.next_sid })) (append k.journal e)) (entered flat (record q { regs = regs }) s number o top)) im
     (exec_stands_core images k flat (entered flat (record q { regs = regs }) s number (Some named) top) k.next_sid s.sid number false named top (with_proc k.processes (record kp { life = HoldsSpace k.next_sid })) (append k.journal e) due st
     (λ n o y. held_returned (replaced flat.processes (record q { regs = regs; holding = Holds (space_with flat.next_sid number named.image top) })) q.pid s n
     ((one_out k.place flat (record q { regs = regs; holding = Holds (space_with flat.next_sid number named.image top) }) pid ((found_at flat pid q f).0) out n o).1 y))))
 
 pub exec_back_stands : (images : List NamedImage) (k : Kernel) (flat : FlatState) (pid : ℕ) (regs : Regs) (e : Entry) (number : ℕ) (top : List ℕ) (named : NamedImage) (q m : Process) (s : Space) → SameTables k flat → k.place.due ≡ [] → process_of flat pid ≡ Some q
     → q.holding ≡ Holds s → IsLender flat pid s.sid m → is_out k.place pid ≡ false → image_numbered images number ≡ Some named → Stands images k flat
-    → Stands images (change_step images (pass_step k pid m.pid) pid regs e (Exec number top)) (apply_change images flat pid regs (Exec number top))
+    → Stands images (change_step (facts_of images) (pass_step k pid m.pid) pid regs e (Exec number top)) (apply_change images flat pid regs (Exec number top))
 exec_back_stands images k flat pid regs e number top named q m s c due f h is out im st =
     let a : Borrowing k flat pid q m s = borrowing k flat pid q m s c f h is in
     let g : Stepping k flat pid q s = a.step in
     let k1 : Kernel = record k { processes = map (passes s.sid pid m.pid) k.processes } in
-    subst (λ (x : Kernel). Stands images (change_step images x pid regs e (Exec number top)) (apply_change images flat pid regs (Exec number top))) (sym (back_kernel k flat pid q m s a))
-    (subst (λ (x : Kernel). Stands images x (apply_change images flat pid regs (Exec number top))) (sym (step_is images k1 pid regs e (Exec number top) (record g.proc { life = New }) New (back_proc k flat pid q m s a) refl))
-    (subst (Stands images (by_life images k1 (record g.proc { regs = regs; life = New }) New e (Exec number top))) (sym (applied images flat pid regs (Exec number top) q s f h))
-    (subst (λ (o : Option NamedImage). Stands images (exec_kernel k k.next_sid 0 true number o top (with_proc k1.processes (record g.proc { regs = regs; life = HoldsSpace k.next_sid })) (append k.journal e)) (entered flat (record q { regs = regs }) s number o top)) (sym im)
+    subst (λ (x : Kernel). Stands images (change_step (facts_of images) x pid regs e (Exec number top)) (apply_change images flat pid regs (Exec number top))) (sym (back_kernel k flat pid q m s a))
+    (subst (λ (x : Kernel). Stands images x (apply_change images flat pid regs (Exec number top))) (sym (step_is (facts_of images) k1 pid regs e (Exec number top) (record g.proc { life = New }) New (back_proc k flat pid q m s a) refl))
+    (subst (Stands images (by_life (facts_of images) k1 (record g.proc { regs = regs; life = New }) New e (Exec number top))) (sym (applied images flat pid regs (Exec number top) q s f h))
+    (image_known images number named (λ (f : Option Image) (o : Option NamedImage). Stands images (exec_kernel k k.next_sid 0 true number f top (with_proc k1.processes (record g.proc { regs = regs; life = HoldsSpace k.next_sid })) (append k.journal e)) (entered flat (record q { regs = regs }) s number o top)) im
     (exec_stands_core images k flat (entered flat (record q { regs = regs }) s number (Some named) top) k.next_sid 0 number true named top (with_proc k1.processes (record g.proc { regs = regs; life = HoldsSpace k.next_sid })) (append k.journal e) due st
     (λ n o y. held_returned (replaced flat.processes (record q { regs = regs; holding = Holds (space_with flat.next_sid number named.image top) })) q.pid s n
     ((one_out k.place flat (record q { regs = regs; holding = Holds (space_with flat.next_sid number named.image top) }) pid ((found_at flat pid q f).0) out n o).1 y))))))
@@ -304,18 +306,18 @@ end_stands_core images k flat q regs s status pid sid borrowed ps journal i st =
     g = gone_unless borrowed k.place sid
 
 pub end_stands : (images : List NamedImage) (k : Kernel) (flat : FlatState) (pid : ℕ) (regs : Regs) (e : Entry) (status : ℕ) (q : Process) (s : Space) → SameTables k flat → process_of flat pid ≡ Some q → q.holding ≡ Holds s → Stands images k flat
-    → Stands images (change_step images k pid regs e (End status)) (apply_change images flat pid regs (End status))
+    → Stands images (change_step (facts_of images) k pid regs e (End status)) (apply_change images flat pid regs (End status))
 end_stands images k flat pid regs e status q s t f h st = by_step images k flat pid regs e (End status) q s t f h (λ kp i.
     end_stands_core images k flat q regs s status kp.pid s.sid false (left_procs (kp.parent == 0) (orphaned_procs k.processes kp.pid) kp status) (append k.journal e) (i ∙ sym (found_at flat pid q f).0) st)
 
 pub end_back_stands : (images : List NamedImage) (k : Kernel) (flat : FlatState) (pid : ℕ) (regs : Regs) (e : Entry) (status : ℕ) (q m : Process) (s : Space) → SameTables k flat → process_of flat pid ≡ Some q → q.holding ≡ Holds s → IsLender flat pid s.sid m → Stands images k flat
-    → Stands images (change_step images (pass_step k pid m.pid) pid regs e (End status)) (apply_change images flat pid regs (End status))
+    → Stands images (change_step (facts_of images) (pass_step k pid m.pid) pid regs e (End status)) (apply_change images flat pid regs (End status))
 end_back_stands images k flat pid regs e status q m s c f h is st =
     let a : Borrowing k flat pid q m s = borrowing k flat pid q m s c f h is in
     let g : Stepping k flat pid q s = a.step in
     let k1 : Kernel = record k { processes = map (passes s.sid pid m.pid) k.processes } in
     let kp : Proc = record g.proc { regs = regs; life = New } in
-    subst (λ (x : Kernel). Stands images (change_step images x pid regs e (End status)) (apply_change images flat pid regs (End status))) (sym (back_kernel k flat pid q m s a))
-    (subst (λ (x : Kernel). Stands images x (apply_change images flat pid regs (End status))) (sym (step_is images k1 pid regs e (End status) (record g.proc { life = New }) New (back_proc k flat pid q m s a) refl))
-    (subst (Stands images (by_life images k1 kp New e (End status))) (sym (applied images flat pid regs (End status) q s f h))
+    subst (λ (x : Kernel). Stands images (change_step (facts_of images) x pid regs e (End status)) (apply_change images flat pid regs (End status))) (sym (back_kernel k flat pid q m s a))
+    (subst (λ (x : Kernel). Stands images x (apply_change images flat pid regs (End status))) (sym (step_is (facts_of images) k1 pid regs e (End status) (record g.proc { life = New }) New (back_proc k flat pid q m s a) refl))
+    (subst (Stands images (by_life (facts_of images) k1 kp New e (End status))) (sym (applied images flat pid regs (End status) q s f h))
     (end_stands_core images k flat q regs s status kp.pid 0 true (left_procs (kp.parent == 0) (orphaned_procs k1.processes kp.pid) kp status) (append k.journal e) (g.pid_is ∙ sym g.pid_was) st)))

@@ -9,13 +9,12 @@ use Rattle.vm_facts.specs.declared.page.PageState.{PageState}
 use Rattle.vm_facts.specs.declared.page.PageState.TheVariants.{Unfilled, Valid, Invalid, Coming, Going, OnSwap}
 use Rattle.flat_state.specs.declared.change.Change.{Change}
 use Rattle.flat_state.specs.declared.change.Change.TheVariants.{Keep, Resize, Fork, Lend, Exec, Reap, Sleep, End}
-use Rattle.flat_state.specs.Flat.{NamedImage, image_numbered}
 use Rattle.page_model.specs.Pages.{Slot, no_slot, SpacePages, changed, with_data, with_stack, frame_of}
 use Rattle.flat_state.specs.PageNames.{number_of, pages_from}
 use Rattle.page_model.specs.Frames.{times, without}
 use Rattle.page_model.specs.Placement.{Placement, Due, space_number, slots_of, slot_of, state_of, sharers, sharers_in, image_of, IsThere, new_pages, spaces_with}
 use Rattle.page_model.specs.Moves.{drop_at, drop_page, drop_all, leave_by, leave_page, leave_all, listed, listed_of}
-use Rattle.page_model.specs.Place.{child_slot, fork_space, enter_space, enter_image, give_up_unless, place_change, cut_space, resize, data_count, stack_count, data_from, stack_from, remove_space, pages_of_space, pages_of_text, leave_text, leave_text_by, give_up}
+use Rattle.page_model.specs.Place.{child_slot, fork_space, enter_space, enter_image, give_up_unless, place_change, cut_space, resize, data_count, stack_count, data_from, stack_from, remove_space, pages_of_space, pages_of_text, leave_text, leave_text_by, give_up, facts_numbered}
 use Rattle.page_model.specs.Conditions.{CanForget, MayForget, EachPage, AtRest, HasImage}
 use Rattle.page_model.specs.Ownership.{IsAside, TextAside}
 use Rattle.page_laws.proofs.Lists.Frames.{times-append, times_head, times_tail, times_one, times_without_other}
@@ -23,6 +22,7 @@ use Rattle.page_laws.proofs.Lists.Pages.{page_cases, put_state, put_mark, put_ot
 use Rattle.page_laws.proofs.Lists.Runs.{each_page_append, pages_from_each}
 use Rattle.page_laws.proofs.Ownership.Spaces.{drop_all_other}
 use Rattle.page_laws.proofs.Ownership.Changes.{dropped_pages}
+use Rattle.aout_image.specs.declared.Image.{Image}
 
 -- the same texts, what was free free, and no image shared less
 pub text_still : (p q : Placement) → ((image n : ℕ) → slot_of q (Text image n) ≡ slot_of p (Text image n)) → ((f : ℕ) → 0 < times f p.free → 0 < times f q.free) → ((image : ℕ) → sharers q image ≡ 0 → sharers p image ≡ 0) → TextAside p → TextAside q
@@ -344,11 +344,11 @@ give_up_unless_aside : (borrowed : Bool) (p : Placement) (sid : ℕ) → TextAsi
 give_up_unless_aside true p sid a c = a
 give_up_unless_aside false p sid a c = give_up_aside p sid a (c refl)
 
-enter_image_aside : (p : Placement) (sid image : ℕ) (named : Option NamedImage) → TextAside p → TextAside (enter_image p sid image named)
+enter_image_aside : (p : Placement) (sid image : ℕ) (facts : Option Image) → TextAside p → TextAside (enter_image p sid image facts)
 enter_image_aside p sid image None a = a
-enter_image_aside p sid image (Some named) a = add_aside p (new_pages sid image named.image.facts) (enter_space p sid image named.image.facts).due a
+enter_image_aside p sid image (Some facts) a = add_aside p (new_pages sid image facts) (enter_space p sid image facts).due a
 
-pub place_change_aside : (images : List NamedImage) (p : Placement) (pid sid : ℕ) (borrowed : Bool) (next_sid at : ℕ) (change : Change) → TextAside p → MayForget images p sid borrowed next_sid change → TextAside (place_change images p pid sid borrowed next_sid at change)
+pub place_change_aside : (images : List Image) (p : Placement) (pid sid : ℕ) (borrowed : Bool) (next_sid at : ℕ) (change : Change) → TextAside p → MayForget images p sid borrowed next_sid change → TextAside (place_change images p pid sid borrowed next_sid at change)
 place_change_aside images p pid sid borrowed next_sid at Keep a c = a
 place_change_aside images p pid sid borrowed next_sid at (Resize d s) a c = resize_aside p sid d s a
 place_change_aside images p pid sid borrowed next_sid at (Fork child) a c = λ i n z. let k = add_aside p (record {
@@ -358,7 +358,7 @@ place_change_aside images p pid sid borrowed next_sid at (Fork child) a c = λ i
   stack_pages = map child_slot (slots_of p (Stack sid 0));
 }) (fork_space p sid next_sid).due a i n z in record { unsaved = k.unsaved; rests = k.rests }
 place_change_aside images p pid sid borrowed next_sid at (Lend child) a c = λ i n z. let k = a i n z in record { unsaved = k.unsaved; rests = k.rests }
-place_change_aside images p pid sid borrowed next_sid at (Exec image top) a c = give_up_unless_aside borrowed (enter_image p next_sid image (image_numbered images image)) sid (enter_image_aside p next_sid image (image_numbered images image) a) c
+place_change_aside images p pid sid borrowed next_sid at (Exec image top) a c = give_up_unless_aside borrowed (enter_image p next_sid image (facts_numbered images image)) sid (enter_image_aside p next_sid image (facts_numbered images image) a) c
 place_change_aside images p pid sid borrowed next_sid at (Reap child) a c = a
 place_change_aside images p pid sid borrowed next_sid at Sleep a c = a
 place_change_aside images p pid sid borrowed next_sid at (End status) a c = λ i n z. let k = give_up_unless_aside borrowed p sid a c i n z in record { unsaved = k.unsaved; rests = k.rests }

@@ -6,12 +6,11 @@ use Rattle.vm_facts.specs.declared.page.PageState.{PageState}
 use Rattle.vm_facts.specs.declared.page.PageState.TheVariants.{Unfilled, Valid, Invalid, Coming, Going, OnSwap}
 use Rattle.flat_state.specs.declared.change.Change.{Change}
 use Rattle.flat_state.specs.declared.change.Change.TheVariants.{Keep, Resize, Fork, Lend, Exec, Reap, Sleep, End}
-use Rattle.flat_state.specs.Flat.{NamedImage, image_numbered}
 use Rattle.page_model.specs.Pages.{Slot, no_slot, data_in, stack_in}
 use Rattle.flat_state.specs.PageNames.{number_of, same_page}
 use Rattle.page_model.specs.Placement.{Placement, Due, Start, CopyOf, due_at, filling_by, slots_of, slot_of, state_of, sharers, image_of}
 use Rattle.page_model.specs.Moves.{touch, drop_all, leave_by, leave_page, leave_all, listed}
-use Rattle.page_model.specs.Place.{data_count, stack_count, data_from, stack_from, fork_space, enter_space, enter_image, remove_space, pages_of_space, pages_of_text, leave_text, leave_text_by, give_up, give_up_unless, place_change}
+use Rattle.page_model.specs.Place.{data_count, stack_count, data_from, stack_from, fork_space, enter_space, enter_image, remove_space, pages_of_space, pages_of_text, leave_text, leave_text_by, give_up, give_up_unless, place_change, facts_numbered}
 use Rattle.page_model.specs.Conditions.{EachPage, IsNew, CanChange, ApartFrom}
 use Rattle.page_model.specs.PageBytes.{IsWritable}
 use Rattle.page_model.specs.Dues.{HasSource, IsDue, DueStand}
@@ -27,6 +26,7 @@ use Rattle.page_laws.proofs.Moves.Stays.{steady_stays}
 use Rattle.page_laws.proofs.Bytes.Others.{touch_steady}
 use Rattle.page_laws.proofs.Due.Entries.{stays_due, resident_due}
 use Rattle.page_laws.proofs.Due.Spaces.{fork_due, enter_due}
+use Rattle.aout_image.specs.declared.Image.{Image}
 
 -- nothing is due
 pub none_due : (p : Placement) → p.due ≡ [] → DueStand p
@@ -144,19 +144,19 @@ start_others sid next q d n e = go (same_page (Stack next 0) q) refl e
     go false h k = none_some d k
     go true h k = subst (OfOthers sid q) (some_is (Start (Stack next 0)) d k) (subst (λ (x : Page). space_in x ≢ sid) (same_page_is (Stack next 0) q h) n)
 
-exec_due : (borrowed : Bool) (p : Placement) (next image sid : ℕ) (named : Option NamedImage) → p.due ≡ [] → IsNew p next → (borrowed ≡ false → next ≢ sid) → DueStand (give_up_unless borrowed (enter_image p next image named) sid)
+exec_due : (borrowed : Bool) (p : Placement) (next image sid : ℕ) (facts : Option Image) → p.due ≡ [] → IsNew p next → (borrowed ≡ false → next ≢ sid) → DueStand (give_up_unless borrowed (enter_image p next image facts) sid)
 exec_due true p next image sid None e new a = none_due p e
 exec_due false p next image sid None e new a = none_due (give_up p sid) (give_up_due p sid ∙ e)
-exec_due true p next image sid (Some named) e new a = enter_due p next image named.image.facts new
-exec_due false p next image sid (Some named) e new a = given_due (enter_space p next image named.image.facts) sid (λ q d h. start_others sid next q d (a refl) h) (enter_due p next image named.image.facts new)
+exec_due true p next image sid (Some facts) e new a = enter_due p next image facts new
+exec_due false p next image sid (Some facts) e new a = given_due (enter_space p next image facts) sid (λ q d h. start_others sid next q d (a refl) h) (enter_due p next image facts new)
 
 -- A change that comes while nothing is due.
-pub change_due : (images : List NamedImage) (p : Placement) (pid sid : ℕ) (borrowed : Bool) (next at : ℕ) (change : Change) → p.due ≡ [] → CanChange p sid borrowed next change → ApartFrom sid borrowed next change → DueStand (place_change images p pid sid borrowed next at change)
+pub change_due : (images : List Image) (p : Placement) (pid sid : ℕ) (borrowed : Bool) (next at : ℕ) (change : Change) → p.due ≡ [] → CanChange p sid borrowed next change → ApartFrom sid borrowed next change → DueStand (place_change images p pid sid borrowed next at change)
 change_due images p pid sid borrowed next at Keep e c a = none_due p e
 change_due images p pid sid borrowed next at (Resize d s) e c a = none_due (place_change images p pid sid borrowed next at (Resize d s)) ((drop_all_rest (dropped_pages p sid d s) p).1 ∙ e)
 change_due images p pid sid borrowed next at (Fork child) e c a = resident_due (fork_space p sid next) (place_change images p pid sid borrowed next at (Fork child)).residents (fork_due p sid next c)
 change_due images p pid sid borrowed next at (Lend child) e c a = none_due (place_change images p pid sid borrowed next at (Lend child)) e
-change_due images p pid sid borrowed next at (Exec image top) e c a = exec_due borrowed p next image sid (image_numbered images image) e c.0 a
+change_due images p pid sid borrowed next at (Exec image top) e c a = exec_due borrowed p next image sid (facts_numbered images image) e c.0 a
 change_due images p pid sid borrowed next at (Reap child) e c a = none_due p e
 change_due images p pid sid borrowed next at Sleep e c a = none_due p e
 change_due images p pid sid borrowed next at (End status) e c a = none_due (place_change images p pid sid borrowed next at (End status)) (unless_due borrowed p sid ∙ e)

@@ -6,13 +6,12 @@ use Rattle.vm_facts.specs.declared.page.Page.{Page}
 use Rattle.vm_facts.specs.declared.page.Page.TheVariants.{Data, Stack, Text}
 use Rattle.vm_facts.specs.declared.page.PageState.{PageState}
 use Rattle.vm_facts.specs.declared.page.PageState.TheVariants.{Unfilled, Valid, Invalid, Coming, Going, OnSwap}
-use Rattle.flat_state.specs.Flat.{NamedImage, image_numbered}
 use Rattle.flat_state.specs.declared.change.Change.{Change}
 use Rattle.flat_state.specs.declared.change.Change.TheVariants.{Keep, Resize, Fork, Lend, Exec, Reap, Sleep, End}
 use Rattle.page_model.specs.Pages.{Slot, no_slot, SpacePages, frame_of, numbered, changed, data_in, stack_in}
 use Rattle.page_model.specs.Placement.{Placement, space_number, slots_of, slot_of, state_of, image_of, sharers, put}
 use Rattle.page_model.specs.Moves.{drop_all, touch, touch_all, turn, listed, leave_by, leave_page, leave_all}
-use Rattle.page_model.specs.Place.{cut_space, resize, data_count, stack_count, data_from, stack_from, child_slot, fork_space}
+use Rattle.page_model.specs.Place.{cut_space, resize, data_count, stack_count, data_from, stack_from, child_slot, fork_space, facts_numbered}
 use Rattle.page_model.specs.Place.{remove_space, pages_of_space, pages_of_text, leave_text, leave_text_by, give_up, give_up_unless, enter_image, place_change}
 use Rattle.page_model.specs.Conditions.{EachPage, IsNew}
 use Rattle.page_model.specs.Swapper.{is_of_space}
@@ -25,6 +24,7 @@ use Rattle.page_laws.proofs.Ownership.Spaces.{there_or, IsBlank, blank_put, drop
 use Rattle.page_laws.proofs.Bytes.Others.{touch_steady}
 use Rattle.page_laws.proofs.Blocks.Changes.{leave_other}
 use Rattle.page_laws.proofs.Due.Changes.{give_up_slot}
+use Rattle.aout_image.specs.declared.Image.{Image}
 
 abbrev pub page_frame : Placement → Page → Option ℕ
 page_frame p w = frame_of (state_of p w)
@@ -223,11 +223,11 @@ unless_frame false p sid w = elim (give_up_frame p sid w) [
 
 -- All changes.
 
-enter_frame : (p : Placement) (sid image : ℕ) (named : Option NamedImage) (w : Page) → IsNew p sid → page_frame (enter_image p sid image named) w ≡ page_frame p w
+enter_frame : (p : Placement) (sid image : ℕ) (facts : Option Image) (w : Page) → IsNew p sid → page_frame (enter_image p sid image facts) w ≡ page_frame p w
 enter_frame p sid image None w n = refl
-enter_frame p sid image (Some named) w n = ap frame_of (enter_alike p sid image named.image.facts n w).0
+enter_frame p sid image (Some facts) w n = ap frame_of (enter_alike p sid image facts n w).0
 
-pub change_frame : (images : List NamedImage) (p : Placement) (pid sid : ℕ) (borrowed : Bool) (next_sid at : ℕ) (change : Change) (w : Page) → IsNew p next_sid
+pub change_frame : (images : List Image) (p : Placement) (pid sid : ℕ) (borrowed : Bool) (next_sid at : ℕ) (change : Change) (w : Page) → IsNew p next_sid
     → StaysOrGoes p (place_change images p pid sid borrowed next_sid at change) w (IsGivenUp sid borrowed change w)
 change_frame images p pid sid borrowed next_sid at Keep w n = inl refl
 change_frame images p pid sid borrowed next_sid at (Resize d s) w n = resize_frame p sid d s w
@@ -239,8 +239,8 @@ change_frame images p pid sid borrowed next_sid at (Fork child) w n = inl (ap fr
 }) (fork_space p sid next_sid).due n (child_blank (slots_of p (Data sid 0))) (child_blank (slots_of p (Stack sid 0))) w).0)
 change_frame images p pid sid borrowed next_sid at (Lend child) w n = inl refl
 change_frame images p pid sid borrowed next_sid at (Exec image top) w n =
-    let e : page_frame (enter_image p next_sid image (image_numbered images image)) w ≡ page_frame p w = enter_frame p next_sid image (image_numbered images image) w n in
-    elim (unless_frame borrowed (enter_image p next_sid image (image_numbered images image)) sid w) [
+    let e : page_frame (enter_image p next_sid image (facts_numbered images image)) w ≡ page_frame p w = enter_frame p next_sid image (facts_numbered images image) w n in
+    elim (unless_frame borrowed (enter_image p next_sid image (facts_numbered images image)) sid w) [
       | inl h ↦ inl (h ∙ e)
       | inr h ↦ inr h
     ]

@@ -5,13 +5,12 @@ use Rattle.vm_facts.specs.declared.page.Page.{Page}
 use Rattle.vm_facts.specs.declared.page.Page.TheVariants.{Data, Stack, Text}
 use Rattle.vm_facts.specs.declared.page.PageState.{PageState}
 use Rattle.vm_facts.specs.declared.page.PageState.TheVariants.{Unfilled, Valid, Invalid, Coming, Going, OnSwap}
-use Rattle.flat_state.specs.Flat.{NamedImage, image_numbered}
 use Rattle.flat_state.specs.declared.change.Change.{Change}
 use Rattle.flat_state.specs.declared.change.Change.TheVariants.{Keep, Resize, Fork, Lend, Exec, Reap, Sleep, End}
 use Rattle.page_model.specs.Pages.{Slot, frame_of}
 use Rattle.page_model.specs.Placement.{Placement, slots_of, slot_of, state_of, mark_of, image_of}
 use Rattle.page_model.specs.Moves.{drop_all, touch, touch_to, touch_all}
-use Rattle.page_model.specs.Place.{resize, child_slot, fork_space, give_up, give_up_unless, enter_image, place_change}
+use Rattle.page_model.specs.Place.{resize, child_slot, fork_space, give_up, give_up_unless, enter_image, place_change, facts_numbered}
 use Rattle.page_model.specs.Conditions.{IsNew}
 use Rattle.page_model.specs.Ownership.{is_marked_dirty}
 use Rattle.page_model.specs.Swapper.{is_of_space}
@@ -24,6 +23,7 @@ use Rattle.page_laws.proofs.Ownership.Spaces.{drop_all_other}
 use Rattle.page_laws.proofs.Bytes.Others.{touch_steady}
 use Rattle.page_laws.proofs.Due.Changes.{give_up_slot}
 use Rattle.page_laws.proofs.Leaving.Changes.{cut_or, cut_alike, not_dropped, equal_is}
+use Rattle.aout_image.specs.declared.Image.{Image}
 
 alike_dirty : (p r : Placement) (w : Page) (f : ℕ) → Alike (slot_of r w) (slot_of p w) → IsDirtyIn p w f → IsDirtyIn r w f
 alike_dirty p r w f a d = record { frame = ap frame_of a.0 ∙ d.frame; dirty = ap (is_marked_dirty w) a.1 ∙ d.dirty }
@@ -92,11 +92,11 @@ unless_dirty false p sid w f h = elim (give_up_dirty p sid w f h) [
   | inr k ↦ inr (refl, k)
 ]
 
-enter_dirty : (p : Placement) (sid image : ℕ) (named : Option NamedImage) (w : Page) (f : ℕ) → IsNew p sid → IsDirtyIn p w f → IsDirtyIn (enter_image p sid image named) w f
+enter_dirty : (p : Placement) (sid image : ℕ) (facts : Option Image) (w : Page) (f : ℕ) → IsNew p sid → IsDirtyIn p w f → IsDirtyIn (enter_image p sid image facts) w f
 enter_dirty p sid image None w f n h = h
-enter_dirty p sid image (Some named) w f n h = alike_dirty p (enter_image p sid image (Some named)) w f (enter_alike p sid image named.image.facts n w) h
+enter_dirty p sid image (Some facts) w f n h = alike_dirty p (enter_image p sid image (Some facts)) w f (enter_alike p sid image facts n w) h
 
-pub change_dirty : (images : List NamedImage) (p : Placement) (pid sid : ℕ) (borrowed : Bool) (next_sid at : ℕ) (change : Change) (w : Page) (f : ℕ) → IsNew p next_sid → IsDirtyIn p w f
+pub change_dirty : (images : List Image) (p : Placement) (pid sid : ℕ) (borrowed : Bool) (next_sid at : ℕ) (change : Change) (w : Page) (f : ℕ) → IsNew p next_sid → IsDirtyIn p w f
     → IsDirtyIn (place_change images p pid sid borrowed next_sid at change) w f ⊎ IsGivenUp sid borrowed change w
 change_dirty images p pid sid borrowed next_sid at Keep w f n h = inl h
 change_dirty images p pid sid borrowed next_sid at (Resize d s) w f n h = resize_dirty p sid d s w f h
@@ -110,7 +110,7 @@ change_dirty images p pid sid borrowed next_sid at (Fork child) w f n h =
     inl (record { frame = k.frame; dirty = k.dirty })
 change_dirty images p pid sid borrowed next_sid at (Lend child) w f n h = inl (record { frame = h.frame; dirty = h.dirty })
 change_dirty images p pid sid borrowed next_sid at (Exec image top) w f n h =
-    unless_dirty borrowed (enter_image p next_sid image (image_numbered images image)) sid w f (enter_dirty p next_sid image (image_numbered images image) w f n h)
+    unless_dirty borrowed (enter_image p next_sid image (facts_numbered images image)) sid w f (enter_dirty p next_sid image (facts_numbered images image) w f n h)
 change_dirty images p pid sid borrowed next_sid at (Reap child) w f n h = inl h
 change_dirty images p pid sid borrowed next_sid at Sleep w f n h = inl h
 change_dirty images p pid sid borrowed next_sid at (End status) w f n h = elim (unless_dirty borrowed p sid w f h) [

@@ -6,7 +6,6 @@ use Rattle.swap_book.specs.declared.Owner.TheVariants as owners
 use Rattle.swap_book.specs.Holdings.{Holdings, block_in}
 use Rattle.swap_book.specs.Book.{IsBook, IsPlace, ArePlacesApart}
 use Rattle.swap_book.proofs.PlaceLaws.{places_apart_of}
-use Rattle.flat_state.specs.Flat.{NamedImage}
 use Rattle.flat_state.specs.PageNames.{number_of}
 use Rattle.flat_state.specs.declared.change.Change.{Change}
 use Rattle.page_model.specs.Frames.{at_frame}
@@ -19,8 +18,9 @@ use Rattle.page_model.specs.Stored.{stored, store_at}
 use Rattle.page_laws.proofs.Lists.Local.{some_is, none_some}
 use Rattle.page_laws.proofs.Blocks.Places.{stored_other}
 use Rattle.page_laws.proofs.Leaving.Changes.{change_frame}
+use Rattle.aout_image.specs.declared.Image.{Image}
 
-pub change_same : (images : List NamedImage) (p : Placement) (pid sid : ℕ) (borrowed : Bool) (next_sid at : ℕ) (change : Change) (b c : Bytes) (w : Page) → IsNew p next_sid → SameBytes b c w
+pub change_same : (images : List Image) (p : Placement) (pid sid : ℕ) (borrowed : Bool) (next_sid at : ℕ) (change : Change) (b c : Bytes) (w : Page) → IsNew p next_sid → SameBytes b c w
     → SamePage p (place_change images p pid sid borrowed next_sid at change) b c w
 change_same images p pid sid borrowed next_sid at change b c w n s = record {
   frames = λ f g e k. elim (change_frame images p pid sid borrowed next_sid at change w n) [

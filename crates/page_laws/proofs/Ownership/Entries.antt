@@ -4,13 +4,13 @@ use Rattle.vm_facts.specs.declared.page.Page.{Page}
 use Rattle.vm_facts.specs.declared.page.Page.TheVariants.{Data, Stack}
 use Rattle.vm_facts.specs.declared.entry.Entry.{Entry}
 use Rattle.vm_facts.specs.declared.entry.Entry.TheVariants as entries
-use Rattle.flat_state.specs.Flat.{FlatState, NamedImage, image_numbered, process_of}
+use Rattle.flat_state.specs.Flat.{FlatState, process_of}
 use Rattle.flat_state.specs.declared.change.Change.{Change}
 use Rattle.flat_state.specs.declared.change.Change.TheVariants.{Keep, Resize, Fork, Lend, Exec, Reap, Sleep, End}
 use Rattle.flat_state.specs.PageNames.{number_of, pages_from}
 use Rattle.page_model.specs.Placement.{Placement, state_of}
 use Rattle.page_model.specs.Moves.{fill, touch_all}
-use Rattle.page_model.specs.Place.{filled, moved, data_from, stack_from, data_count, stack_count, give_up_unless, enter_image, fork_space, place_change, place_entry, place_step, space_of_process, is_borrower}
+use Rattle.page_model.specs.Place.{filled, moved, data_from, stack_from, data_count, stack_count, give_up_unless, enter_image, fork_space, place_change, place_entry, place_step, space_of_process, is_borrower, facts_numbered}
 use Rattle.page_model.specs.Serve.{source_for}
 use Rattle.page_model.specs.Conditions.{AtRest, AllAtRest, CanEnter, IsNew, IsSettled, LosesPages, CanPlace, CanChange}
 use Rattle.page_model.specs.Ownership.{OwnsFrames}
@@ -19,6 +19,7 @@ use Rattle.page_laws.proofs.Lists.Runs.{each_page_append, pages_from_each, pages
 use Rattle.page_laws.proofs.Ownership.Runs.{get_run_owner, put_step_owner, done_owner}
 use Rattle.page_laws.proofs.Ownership.Hands.{moves_owner}
 use Rattle.page_laws.proofs.Ownership.Changes.{alike_owner, dropped_pages, resize_owner, fork_owner, enter_space_owner, give_up_owner, begin_residence_owner, end_residence_owner, touch_all_owner}
+use Rattle.aout_image.specs.declared.Image.{Image}
 
 pub filled_owner : (p : Placement) (q : Page) → OwnsFrames p → CanEnter p q → OwnsFrames (filled p q)
 filled_owner p q o c = alike_owner (fill p q) (filled p q) (fill_owner p q o c) refl refl refl (λ w. (refl, refl))
@@ -60,31 +61,31 @@ give_up_unless_owner : (borrowed : Bool) (p : Placement) (sid : ℕ) → OwnsFra
 give_up_unless_owner true p sid o k = o
 give_up_unless_owner false p sid o k = give_up_owner p sid o (settled_from p sid (k refl) 0 (data_count p sid) 0 (stack_count p sid))
 
-pub enter_image_owner : (p : Placement) (sid image : ℕ) (named : Option NamedImage) → OwnsFrames p → IsNew p sid → OwnsFrames (enter_image p sid image named)
+pub enter_image_owner : (p : Placement) (sid image : ℕ) (facts : Option Image) → OwnsFrames p → IsNew p sid → OwnsFrames (enter_image p sid image facts)
 enter_image_owner p sid image None o n = o
-enter_image_owner p sid image (Some named) o n = enter_space_owner p sid image named.image.facts o n
+enter_image_owner p sid image (Some facts) o n = enter_space_owner p sid image facts o n
 
 -- a new image leaves all pages of a settled space at rest
-pub enter_settled : (p : Placement) (next_sid image sid : ℕ) (named : Option NamedImage) → OwnsFrames p → IsNew p next_sid → IsSettled p sid → IsSettled (enter_image p next_sid image named) sid
+pub enter_settled : (p : Placement) (next_sid image sid : ℕ) (facts : Option Image) → OwnsFrames p → IsNew p next_sid → IsSettled p sid → IsSettled (enter_image p next_sid image facts) sid
 enter_settled p next_sid image sid None o n k = k
-enter_settled p next_sid image sid (Some named) o n k = record {
-  data_rests = λ v. subst AtRest (sym ((Rattle.page_laws.proofs.Ownership.Changes.enter_alike p next_sid image named.image.facts n (Data sid v)).0)) (k.data_rests v);
-  stack_rests = λ v. subst AtRest (sym ((Rattle.page_laws.proofs.Ownership.Changes.enter_alike p next_sid image named.image.facts n (Stack sid v)).0)) (k.stack_rests v);
+enter_settled p next_sid image sid (Some facts) o n k = record {
+  data_rests = λ v. subst AtRest (sym ((Rattle.page_laws.proofs.Ownership.Changes.enter_alike p next_sid image facts n (Data sid v)).0)) (k.data_rests v);
+  stack_rests = λ v. subst AtRest (sym ((Rattle.page_laws.proofs.Ownership.Changes.enter_alike p next_sid image facts n (Stack sid v)).0)) (k.stack_rests v);
 }
 
-pub place_change_owner : (images : List NamedImage) (p : Placement) (pid sid : ℕ) (borrowed : Bool) (next_sid at : ℕ) (change : Change) → OwnsFrames p → CanChange p sid borrowed next_sid change → OwnsFrames (place_change images p pid sid borrowed next_sid at change)
+pub place_change_owner : (images : List Image) (p : Placement) (pid sid : ℕ) (borrowed : Bool) (next_sid at : ℕ) (change : Change) → OwnsFrames p → CanChange p sid borrowed next_sid change → OwnsFrames (place_change images p pid sid borrowed next_sid at change)
 place_change_owner images p pid sid borrowed next_sid at Keep o c = o
 place_change_owner images p pid sid borrowed next_sid at (Resize d s) o c = resize_owner p sid d s o (lost_from p sid d s c)
 place_change_owner images p pid sid borrowed next_sid at (Fork child) o c = begin_residence_owner (fork_space p sid next_sid) child at (fork_owner p sid next_sid o c)
 place_change_owner images p pid sid borrowed next_sid at (Lend child) o c = begin_residence_owner p child at o
 place_change_owner images p pid sid borrowed next_sid at (Exec image top) o c =
-    give_up_unless_owner borrowed (enter_image p next_sid image (image_numbered images image)) sid (enter_image_owner p next_sid image (image_numbered images image) o c.0)
-    (λ e. enter_settled p next_sid image sid (image_numbered images image) o c.0 (c.1 e))
+    give_up_unless_owner borrowed (enter_image p next_sid image (facts_numbered images image)) sid (enter_image_owner p next_sid image (facts_numbered images image) o c.0)
+    (λ e. enter_settled p next_sid image sid (facts_numbered images image) o c.0 (c.1 e))
 place_change_owner images p pid sid borrowed next_sid at (Reap child) o c = o
 place_change_owner images p pid sid borrowed next_sid at Sleep o c = o
 place_change_owner images p pid sid borrowed next_sid at (End status) o c = end_residence_owner (give_up_unless borrowed p sid) pid (give_up_unless_owner borrowed p sid o c)
 
-pub place_step_owner : (images : List NamedImage) (flat : FlatState) (pid at : ℕ) (written : List Page) (change : Change) (p : Placement) → OwnsFrames p
+pub place_step_owner : (images : List Image) (flat : FlatState) (pid at : ℕ) (written : List Page) (change : Change) (p : Placement) → OwnsFrames p
     → CanChange (touch_all p written) (space_of_process (process_of flat pid)) (is_borrower flat.processes pid) flat.next_sid change
     → OwnsFrames (place_step images flat pid at written change p)
 place_step_owner images flat pid at written change p o c =
