@@ -5,9 +5,10 @@ use Rattle.std.proofs.lemmas.Bool.Decides.{nat_tests}
 use Rattle.std.proofs.lemmas.List.{get_or_past}
 use Rattle.std.proofs.lemmas.Option.{none-some}
 use Rattle.core_map.specs.declared.text_index.TextKey.{TextKey}
-use Rattle.core_map.specs.Order.{times}
+use Rattle.vm_facts.specs.Lists.{times}
 use Rattle.core_map.specs.Chains.{bucket_of, key_at, listings_in, Way, Leads, IsChain, IsIndexed, IsOnWay, IsBefore}
-use Rattle.core_map.proofs.OrderLemmas.{times-append, times_head, times_other, length_apart}
+use Rattle.core_map.proofs.OrderLemmas.{length_apart}
+use Rattle.vm_facts.proofs.Lists.{times-append, times_head, times_other}
 
 abbrev Keys : Type 0
 Keys = List (Option TextKey)
@@ -115,12 +116,6 @@ rest_step links keys key at turn next r ne other e = elim (rest_cases links r.fr
   }
 ]
 
-pub rest_end : (links : List ℕ) (keys : Keys) (key : TextKey) (at turn : ℕ) → Rest links keys key at turn → length keys ≤ turn → (f : ℕ) → key_at keys f ≢ Some key
-rest_end links keys key at turn r over f h = elim (rest_cases links r.from at r.rest r.here r.way) [
-  | inl (nil, e) ↦ omega (arith, r.has f h, ap (times f) nil)
-  | inr (xs, e, w) ↦ omega (arith, r.short, ap length e)
-]
-
 -- the step of a walk for the place before f
 pub record Seek (links : List ℕ) (frames a f at turn : ℕ) : Type 0 where
   pub passed : List ℕ
@@ -176,15 +171,6 @@ seek_step links frames a f at turn next s e ne = elim (rest_cases links at next 
         at_low = omega (arith, s.enough);
         enough = s.enough;
       }
-]
-
-pub seek_found : (links : List ℕ) (frames a f at turn : ℕ) → Seek links frames a f at turn → slice_index links at ≡ f → IsBefore links a f at
-seek_found links frames a f at turn s e = record { passed = s.passed; leads = s.leads; no_zero = s.passed_no_zero; next = e }
-
-pub seek_end : (links : List ℕ) (frames a f at turn : ℕ) → Seek links frames a f at turn → frames ≤ turn → ⊥
-seek_end links frames a f at turn s over = elim (rest_cases links at (slice_index links at) s.rest refl s.way) [
-  | inl (nil, z) ↦ omega (arith, s.on_way, ap (times f) nil)
-  | inr (xs, same, w) ↦ omega (arith, s.short, ap length same)
 ]
 
 -- the first numbers of a way

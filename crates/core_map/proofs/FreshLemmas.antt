@@ -7,11 +7,11 @@ use Rattle.core_map.specs.declared.text_index.TextKey.{TextKey}
 use Rattle.core_map.specs.declared.slot.Slot.{Slot}
 use Rattle.core_map.specs.declared.slot.Slot.TheVariants.{Free, Away}
 use Rattle.frame_state.specs.Frame.{zero_frame}
-use Rattle.core_map.specs.Order.{times}
+use Rattle.vm_facts.specs.Lists.{times}
 use Rattle.core_map.specs.Slots.{slot_at, listings, number_of, page_of, text_of, IsWhole}
 use Rattle.core_map.specs.Frames.{IsSound}
 use Rattle.core_map.specs.Fresh.{first_frames, fresh_slots}
-use Rattle.core_map.proofs.OrderLemmas.{times-append, times_head, times_other}
+use Rattle.vm_facts.proofs.Lists.{times-append, times_head, times_other}
 
 pub length-fresh : (n : ℕ) → length (fresh_slots n) ≡ n + 1
 length-fresh zero = refl

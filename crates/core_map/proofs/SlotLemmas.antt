@@ -9,12 +9,12 @@ use Rattle.vm_facts.specs.declared.page.Page.TheVariants.{Text}
 use Rattle.frame_state.specs.Frame.{Frame}
 use Rattle.core_map.specs.declared.slot.Slot.{Slot}
 use Rattle.core_map.specs.declared.slot.Slot.TheVariants.{Free, Resident, Away}
-use Rattle.core_map.specs.Order.{times, without}
+use Rattle.vm_facts.specs.Lists.{times, without}
 use Rattle.core_map.specs.declared.text_index.TextKey.{TextKey}
 use Rattle.core_map.specs.Chains.{key_at}
 use Rattle.core_map.specs.Slots.{slot_at, listings, is_free, is_resident, number_of, page_of, text_of, key_of, with_byte, with_dirty, IsWhole}
 use Rattle.core_map.specs.Frames.{IsSound}
-use Rattle.core_map.proofs.OrderLemmas.{times_head, times_other, times-append, times-without_same, times-without_other}
+use Rattle.vm_facts.proofs.Lists.{times-append, times_head, times_other, times-without_same, times-without_other}
 
 -- a slot that is not away is in range
 pub free_below : (slots : List Slot) (f : ℕ) → is_free (slot_at slots f) ≡ true → f < length slots
@@ -28,11 +28,6 @@ resident_below slots f h = elim (cases_lt f (length slots)) [
   | inl low ↦ low
   | inr past ↦ absurd (false≢true (sym (ap is_resident (get_or_past slots f Away past)) ∙ h))
 ]
-
-pub free_parts : (s : Slot) → is_free s ≡ true → (t : Frame) × (p : Option Page) × (s ≡ Free t p)
-free_parts (Free t p) h = (t, p, refl)
-free_parts (Resident t p d) h = absurd (false≢true h)
-free_parts Away h = absurd (false≢true h)
 
 pub resident_parts : (s : Slot) → is_resident s ≡ true → (t : Frame) × (p : Page) × (d : Bool) × (s ≡ Resident t p d)
 resident_parts (Free t p) h = absurd (false≢true h)

@@ -1,6 +1,6 @@
 -- Hash chains of frames by the text page that they hold.
 use Rattle.std.specs.Prelude.{◌≡◌, ℕ, ◌+◌, ◌*◌, ◌%◌, ◌<◌, ◌≤◌, ◌^◌, List, [], ◌∷◌, length, slice_index, slice_index_or, Option, Some, None, if◌then◌else◌, ◌==◌}
-use Rattle.core_map.specs.Order.{times}
+use Rattle.vm_facts.specs.Lists.{times}
 use Rattle.core_map.specs.declared.text_index.TextKey.{TextKey}
 use Rattle.core_map.specs.declared.text_index.TextIndex.TheInside.{Inside}
 

@@ -4,7 +4,7 @@ use Rattle.vm_facts.specs.declared.page.Page.{Page}
 use Rattle.frame_state.specs.Frame.{Frame}
 use Rattle.core_map.specs.declared.slot.Slot.{Slot}
 use Rattle.core_map.specs.declared.slot.Slot.TheVariants.{Free, Away}
-use Rattle.core_map.specs.Order.{times}
+use Rattle.vm_facts.specs.Lists.{times}
 use Rattle.core_map.specs.Slots.{slot_at, listings, number_of, page_of, IsWhole}
 
 -- the free list from its head to its tail, and the slot of each frame by its number; slot 0 is no

@@ -2,7 +2,7 @@
 //! round the number 0, which is no frame: `next[0]` is the first frame and `prev[0]` the last.
 ghost use Rattle.std.specs.Prelude.{◌≡◌, ℕ, ◌+◌, ◌<◌, ◌≤◌, List, [], ◌∷◌, ◌++◌, length, IfOk, IsNone, IfNone, IfSome, ◌↔◌, ◌-◌, ◌^◌};
 ghost use Rattle.core_map.specs.Fresh.{first_frames as first_numbers};
-ghost use Rattle.core_map.specs.Order.{times, without};
+ghost use Rattle.vm_facts.specs.Lists.{times, without};
 
 use std::alloc::{AllocError, Global};
 use std::marker::Model;

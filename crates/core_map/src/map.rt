@@ -3,7 +3,7 @@
 ghost use Rattle.std.specs.Prelude.{◌≡◌, ℕ, ◌+◌, ◌<◌, ◌≤◌, List, [], ◌∷◌, ◌++◌, length, slice_set, IsTrue, IfSome, IfNone, IsNone, ◌↔◌, None, Some, is_some, false, IfOk, ◌-◌, ◌^◌};
 ghost use Rattle.core_map.specs.Fresh.{first_frames, fresh_slots};
 ghost use Rattle.core_map.specs.Frames.{IsAway, IsSound, HoldsNot, TakesHead};
-ghost use Rattle.core_map.specs.Order.{without};
+ghost use Rattle.vm_facts.specs.Lists.{without};
 ghost use Rattle.core_map.specs.Slots.{ShowsOwner, slot_at, is_free, is_resident, is_dirty, owner_of, page_of, token_of, with_byte, with_dirty};
 ghost use Rattle.core_map.specs.declared.slot.Slot.TheVariants.{Free as FreeSlot, Resident as ResidentSlot, Away as AwaySlot};
 ghost use Rattle.vm_facts.specs.declared.page.Page.TheVariants.{Text as TextPage};

@@ -1,5 +1,5 @@
 -- A page that was written and not touched since stays clean, and no write of it begins.
-use Rattle.std.proofs.Common.{◌≡◌, ◌≢◌, ◌⊎◌, inl, inr, ℕ, zero, suc, ◌<◌, ◌≤◌, ◌&&◌, ◌||◌, Bool, true, false, not, List, [], ◌∷◌, ◌++◌, length, map, Option, Some, None, refl, sym, ap, ◌∙◌, subst, arith}
+use Rattle.std.proofs.Common.{◌≡◌, ◌≢◌, ◌⊎◌, inl, inr, ℕ, zero, suc, ◌<◌, ◌≤◌, ◌&&◌, Bool, true, false, not, List, [], ◌∷◌, ◌++◌, length, map, Option, Some, None, refl, sym, ap, ◌∙◌, subst, arith}
 use Rattle.std.proofs.lemmas.List.{get_or_past}
 use Rattle.vm_facts.specs.declared.page.Page.{Page}
 use Rattle.vm_facts.specs.declared.page.Page.TheVariants.{Data, Stack, Text}
@@ -9,18 +9,22 @@ use Rattle.vm_facts.specs.declared.entry.Entry.{Entry}
 use Rattle.vm_facts.specs.declared.entry.Entry.TheVariants as entries
 use Rattle.page_model.specs.Pages.{Slot, no_slot, is_dirty_by, written_mark, left_state, frame_of, filling_behind}
 use Rattle.flat_state.specs.PageNames.{number_of, beside, pages_from, same_page, is_among}
-use Rattle.page_model.specs.Frames.{times}
+use Rattle.vm_facts.specs.Lists.{times}
 use Rattle.page_model.specs.Placement.{Placement, Transfer, Part, Errand, Writes, Reads, Source, FromSwap, FromFile, slots_of, slot_of, state_of, mark_of, is_dirty, IsThere, page_of, put, Moving, moving, parts_of}
-use Rattle.page_model.specs.Moves.{evict, evict_at, fill, fill_at, begin, get_one, get_at, get_all, launch, launch_to, launch_all, launch_run, land, land_read, land_all, done, done_of, arrived_mark, reclaim, reclaim_to, retire, retire_to}
+use Rattle.page_model.specs.Moves.{evict, evict_at, fill, fill_at, begin, get_one, get_at, get_all, launch_run, land, land_read, land_all, done, done_of, arrived_mark, reclaim, reclaim_to, retire, retire_to}
 use Rattle.page_model.specs.Runs.{pages_of_run, run_out, goes_along, is_idle, is_near, most_written}
 use Rattle.page_model.specs.Hands.{expire, expire_of, expire_if, expire_to, sweep, sweep_of, sweep_to, sweep_by, hand_move, hand_moves}
 use Rattle.page_model.specs.Place.{put_step, put_by, place_entry}
 use Rattle.page_model.specs.Serve.{read_errand}
 use Rattle.page_model.specs.Conditions.{EachPage}
 use Rattle.page_model.specs.Ownership.{OwnsFrames, Each, IsMoving}
-use Rattle.page_laws.proofs.Lists.Pages.{page_cases, put_same, put_other, put_length, same_page_is, same_page_self}
+use Rattle.page_laws.proofs.Lists.Pages.{page_cases, put_same, put_other, put_length}
+use Rattle.flat_state.proofs.PageNames.{same_page_is, same_page_self}
 use Rattle.page_laws.proofs.Moves.Steps.{page_in}
-use Rattle.page_laws.proofs.Lists.Runs.{and_both, run_each, run_both_in}
+use Rattle.page_laws.proofs.Lists.Runs.{run_each, run_both_in}
+use Rattle.std.proofs.lemmas.Bool.{and_parts, or_cases}
+use Rattle.page_laws.proofs.Leaving.Held.{written_clean}
+use Rattle.page_laws.proofs.Runs.Sweeping.{launch_all_other}
 use Rattle.economy_laws.specs.Worth.{stored_by, stored_first, stored_pages, arrives_by, arrives_first}
 
 abbrev pub is_going : PageState → Bool
@@ -136,21 +140,6 @@ expire_calm p locked w c = go (page_of p p.front)
 
 -- Writes that begin: of dirty pages alone.
 
-launch_other : (p : Placement) (v w : Page) → w ≢ v → slot_of (launch p v) w ≡ slot_of p w
-launch_other p v w n = go (state_of p v)
-  where
-    go : (s : PageState) → slot_of (launch_to p v s) w ≡ slot_of p w
-    go (Valid f) = put_other p v (Going f) (mark_of p v) w n
-    go (Invalid f) = put_other p v (Going f) (mark_of p v) w n
-    go Unfilled = refl
-    go (Coming f) = refl
-    go (Going f) = refl
-    go OnSwap = refl
-
-launch_all_other : (qs : List Page) (p : Placement) (w : Page) → EachPage (λ r. w ≢ r) qs → slot_of (launch_all p qs) w ≡ slot_of p w
-launch_all_other [] p w n = refl
-launch_all_other (v ∷ qs) p w n = launch_all_other qs (launch p v) w n.1 ∙ launch_other p v w n.0
-
 abbrev pub AllDirty : Placement → List Page → Type 0
 AllDirty p qs = EachPage (λ r. is_dirty p r ≡ true) qs
 
@@ -164,7 +153,7 @@ launch_run_calm p qs w d c = subst (CalmSlot w) (sym (launch_all_other qs (begin
 run_out_dirty : (p : Placement) (locked : List Page) (q : Page) → is_dirty p q ≡ true → AllDirty p (pages_of_run q (run_out p locked q))
 run_out_dirty p locked q d = run_each (λ r. is_dirty p r ≡ true) (λ w. goes_along p locked (beside q w) && is_near q w) q (run_out p locked q)
     (run_both_in (λ w. goes_along p locked (beside q w) && is_near q w) (number_of q) most_written) d
-    (λ w e. (and_both (is_dirty p (beside q w)) (not (is_among (beside q w) locked)) (and_both (is_idle p (beside q w)) (is_dirty p (beside q w) && not (is_among (beside q w) locked)) (and_both (goes_along p locked (beside q w)) (is_near q w) e).0).1).0)
+    (λ w e. (and_parts (is_dirty p (beside q w)) (not (is_among (beside q w) locked)) (and_parts (is_idle p (beside q w)) (is_dirty p (beside q w) && not (is_among (beside q w) locked)) (and_parts (goes_along p locked (beside q w)) (is_near q w) e).0).1).0)
 
 sweep_calm : (p : Placement) (locked : List Page) (w : Page) → Calm p w → Calm (sweep p locked) w
 sweep_calm p locked w c = go (page_of p p.back)
@@ -202,11 +191,6 @@ put_step_calm p q qs w h c = go (is_dirty p q) refl
     go false e = retire_calm p q w c
 
 -- Transfers that end.
-
-written_clean : (v : Page) → is_dirty_by v (written_mark v) ≡ false
-written_clean (Data sid v) = refl
-written_clean (Stack sid v) = refl
-written_clean (Text image v) = refl
 
 abbrev pub is_text : Page → Bool
 is_text (Text image v) = true
@@ -277,13 +261,9 @@ entry_calm locked at p (entries.Owners a b m d) w h c = c
 
 -- Writes that end.
 
-or_either : (a b : Bool) → (a || b) ≡ true → (a ≡ true) ⊎ (b ≡ true)
-or_either true b h = inl refl
-or_either false b h = inr h
-
 parts_going : (p : Placement) (q : Page) (xs : List Part) (rest : List Moving) → Each (IsMoving p) (map (moving Writes) xs ++ rest) → is_among q (stored_by Writes xs) ≡ true → is_going (state_of p q) ≡ true
 parts_going p q [] rest m h = absurd cc
-parts_going p q (x ∷ xs) rest m h = elim (or_either (same_page q x.page) (is_among q (stored_by Writes xs)) h) [
+parts_going p q (x ∷ xs) rest m h = elim (or_cases (same_page q x.page) (is_among q (stored_by Writes xs)) h) [
   | inl e ↦ ap (λ (y : Page). is_going (state_of p y)) (same_page_is q x.page e) ∙ ap is_going m.0
   | inr k ↦ parts_going p q xs rest m.1 k
 ]
@@ -306,7 +286,7 @@ landed_calm p x rest q there e = subst (λ (y : Page). Calm (land p Writes x res
 
 all_landed_calm : (xs : List Part) (p : Placement) (ts : List Transfer) (q : Page) → IsThere p q → is_among q (stored_by Writes xs) ≡ true → Calm (land_all p Writes xs ts) q
 all_landed_calm [] p ts q there h = absurd cc
-all_landed_calm (x ∷ xs) p ts q there h = elim (or_either (same_page q x.page) (is_among q (stored_by Writes xs)) h) [
+all_landed_calm (x ∷ xs) p ts q there h = elim (or_cases (same_page q x.page) (is_among q (stored_by Writes xs)) h) [
   | inl e ↦ land_all_calm xs (land p Writes x (record { errand = Writes; parts = xs } ∷ ts)) Writes ts q (inr refl) (landed_calm p x (record { errand = Writes; parts = xs } ∷ ts) q there (same_page_is q x.page e))
   | inr k ↦ all_landed_calm xs (land p Writes x (record { errand = Writes; parts = xs } ∷ ts)) ts q (let a = put_length p x.page (Invalid x.frame) (written_mark x.page) q in omega (arith, there)) k
 ]

@@ -12,9 +12,11 @@ use Rattle.page_model.specs.Pages.{Slot, no_slot, SpacePages, numbered, changed,
 use Rattle.flat_state.specs.PageNames.{same_page, is_among}
 use Rattle.page_model.specs.Placement.{Placement, Due, space_number, slots_of, state_of, image_of, sharers, new_pages}
 use Rattle.page_model.specs.Moves.{touch, touch_to, touch_all, drop_at, drop_page, drop_all}
-use Rattle.page_model.specs.Place.{sized, cut_space, resize, data_count, stack_count, data_from, stack_from, child_slot, fork_space, enter_space, remove_space, pages_of_space, pages_of_text, leave_text, leave_text_by, give_up, give_up_unless, enter_image, place_change, place_step, space_of_process, is_borrower, facts_numbered}
+use Rattle.page_model.specs.Place.{sized, cut_space, resize, data_count, stack_count, data_from, stack_from, child_slot, fork_space, enter_space, remove_space, pages_of_space, pages_of_text, leave_text, leave_text_by, give_up, give_up_unless, enter_image, place_change, place_step, space_of_process, facts_numbered}
+use Rattle.flat_state.specs.Change.{is_borrower}
 use Rattle.page_model.specs.Conditions.{EachPage}
-use Rattle.page_laws.proofs.Lists.Pages.{mapped, changed_same, changed_other, same_page_self}
+use Rattle.page_laws.proofs.Lists.Pages.{mapped, changed_same, changed_other}
+use Rattle.flat_state.proofs.PageNames.{same_page_self}
 use Rattle.page_laws.proofs.Lists.Runs.{each_page_append, pages_from_each}
 use Rattle.page_laws.proofs.Ownership.Changes.{Alike, BlankSlot, AllBlank, blank_slot_at, child_blank, unfilled_blank, sized_past, sized_within, cut, numbered_hit, numbered_miss, removed_other, removed_same, dropped_pages}
 use Rattle.page_laws.proofs.Due.Changes.{leave_all_other}

@@ -1,7 +1,9 @@
 -- There are never more than 64 processes.
-use Rattle.std.proofs.Common.{◌≡◌, ℕ, ◌%◌, ◌*◌, ◌<◌, ◌≤◌, ◌==◌, ◌||◌, nat_lt, nat_le, not, cond, Bool, true, false, List, [], ◌∷◌, length, filter, find, Option, Some, None, Result, Ok, Err, ℤ, refl, arith}
+use Rattle.std.proofs.Common.{◌≡◌, ℕ, ◌%◌, ◌*◌, ◌<◌, ◌≤◌, ◌==◌, ◌||◌, nat_lt, nat_le, not, Bool, true, false, List, [], ◌∷◌, length, filter, find, Option, Some, None, Result, Ok, Err, ℤ, refl, arith}
 use Rattle.std.proofs.lemmas.Bool.Decides.{nat_tests}
 use Rattle.std.proofs.lemmas.List.{length-append, length-map}
+use Rattle.run_laws.proofs.Sizing.{left_count}
+use Rattle.flat_state.proofs.Processes.{length-replaced, length-returned}
 use Rattle.vm_facts.specs.Answers.{Answers, ByteWrite}
 use Rattle.flat_state.specs.Space.{Space, answers_of, puts}
 use Rattle.flat_state.specs.Flat.{Holding, Holds, Lends, Zombie, Process, FlatState, NamedImage, Inputs, image_numbered, process_of}
@@ -26,32 +28,6 @@ use Rattle.flat_model.specs.Step.{written_process, replied_step, reply_behind, c
 
 -- How many.
 
-many_replaced : (ps : List Process) (p : Process) → length (replaced ps p) ≡ length ps
-unfolding replaced
-many_replaced [] p = refl
-many_replaced (q ∷ qs) p = go (q.pid == p.pid) (many_replaced qs p)
-  where
-    go : (b : Bool) → length (replaced qs p) ≡ length qs → length (replaced_by b p q qs (replaced qs p)) ≡ length (q ∷ qs)
-    go true e = refl
-    go false e = omega arith
-
-many_returned : (pid : ℕ) (s : Space) (ps : List Process) → length (returned pid s ps) ≡ length ps
-unfolding returned
-many_returned pid s [] = refl
-many_returned pid s (q ∷ qs) = go (Rattle.flat_state.specs.Change.lends_to pid q.holding) (many_returned pid s qs)
-  where
-    go : (b : Bool) → length (returned pid s qs) ≡ length qs → length (returned_by b s q qs (returned pid s qs)) ≡ length (q ∷ qs)
-    go true e = refl
-    go false e = omega arith
-
-many_filtered : (test : Process → Bool) (ps : List Process) → length (filter test ps) ≤ length ps
-many_filtered test [] = omega arith
-many_filtered test (q ∷ qs) = go (test q) (many_filtered test qs)
-  where
-    go : (b : Bool) → length (filter test qs) ≤ length qs → length (cond b (q ∷ filter test qs) (filter test qs)) ≤ length (q ∷ qs)
-    go true l = omega arith
-    go false l = omega arith
-
 -- there is room for a child
 abbrev pub RoomFor : FlatState → Change → Type 0
 RoomFor F (Fork child) = length F.processes < 64
@@ -59,28 +35,28 @@ RoomFor F (Lend child) = length F.processes < 64
 RoomFor F _ = Unit {0}
 
 many_left : (b : Bool) (F : FlatState) (pid parent : ℕ) → length (left b F pid parent).processes ≤ length F.processes
-many_left true F pid parent = many_filtered (λ q. not (q.pid == pid)) F.processes
+many_left true F pid parent = left_count (λ q. not (q.pid == pid)) F.processes
 many_left false F pid parent = let k = length-map F.processes (awake parent) in omega arith
 
 many_changed : (images : List NamedImage) (F : FlatState) (p : Process) (s : Space) (change : Change) → RoomFor F change → length F.processes ≤ 64 → length (changed images F p s change).processes ≤ 64
-many_changed images F p s Keep r l = let k = many_replaced F.processes p in omega arith
-many_changed images F p s (Resize d t) r l = let k = many_replaced F.processes (record p { holding = Holds (Rattle.flat_state.specs.Change.resized s d t) }) in omega arith
-many_changed images F p s (Fork child) r l = let k = many_replaced F.processes p in let a = length-append (replaced F.processes p) (Rattle.flat_state.specs.Change.child_of p child (record s { sid = F.next_sid }) ∷ []) in omega arith
-many_changed images F p s (Lend child) r l = let k = many_replaced F.processes (record p { holding = Lends s.sid child }) in let a = length-append (replaced F.processes (record p { holding = Lends s.sid child })) (Rattle.flat_state.specs.Change.child_of p child s ∷ []) in omega arith
+many_changed images F p s Keep r l = let k = length-replaced F.processes p in omega arith
+many_changed images F p s (Resize d t) r l = let k = length-replaced F.processes (record p { holding = Holds (Rattle.flat_state.specs.Change.resized s d t) }) in omega arith
+many_changed images F p s (Fork child) r l = let k = length-replaced F.processes p in let a = length-append (replaced F.processes p) (Rattle.flat_state.specs.Change.child_of p child (record s { sid = F.next_sid }) ∷ []) in omega arith
+many_changed images F p s (Lend child) r l = let k = length-replaced F.processes (record p { holding = Lends s.sid child }) in let a = length-append (replaced F.processes (record p { holding = Lends s.sid child })) (Rattle.flat_state.specs.Change.child_of p child s ∷ []) in omega arith
 many_changed images F p s (Exec image top) r l = go (image_numbered images image)
   where
     go : (o : Option NamedImage) → length (entered F p s image o top).processes ≤ 64
     go None = l
     go (Some named) =
         let q : Process = record p { holding = Holds (Rattle.flat_state.specs.Flat.space_with F.next_sid image named.image top) } in
-        let k = many_replaced F.processes (record p { holding = Holds (Rattle.flat_state.specs.Flat.space_with F.next_sid image named.image top) }) in
-        let a = many_returned p.pid s (replaced F.processes (record p { holding = Holds (Rattle.flat_state.specs.Flat.space_with F.next_sid image named.image top) })) in omega arith
-many_changed images F p s (Reap child) r l = let a = many_filtered (λ q. not (q.pid == child)) F.processes in let k = many_replaced (without_process F child).processes p in omega arith
-many_changed images F p s Sleep r l = let k = many_replaced F.processes (record p { asleep = true }) in omega arith
+        let k = length-replaced F.processes (record p { holding = Holds (Rattle.flat_state.specs.Flat.space_with F.next_sid image named.image top) }) in
+        let a = length-returned p.pid s (replaced F.processes (record p { holding = Holds (Rattle.flat_state.specs.Flat.space_with F.next_sid image named.image top) })) in omega arith
+many_changed images F p s (Reap child) r l = let a = left_count (λ q. not (q.pid == child)) F.processes in let k = length-replaced (without_process F child).processes p in omega arith
+many_changed images F p s Sleep r l = let k = length-replaced F.processes (record p { asleep = true }) in omega arith
 many_changed images F p s (End status) r l =
-    let k = many_replaced F.processes (record p { holding = Zombie status }) in
-    let a = many_returned p.pid s (replaced F.processes (record p { holding = Zombie status })) in
-    let b = many_filtered (λ q. not (is_zombie_child p.pid q)) (returned p.pid s (replaced F.processes (record p { holding = Zombie status }))) in
+    let k = length-replaced F.processes (record p { holding = Zombie status }) in
+    let a = length-returned p.pid s (replaced F.processes (record p { holding = Zombie status })) in
+    let b = left_count (λ q. not (is_zombie_child p.pid q)) (returned p.pid s (replaced F.processes (record p { holding = Zombie status }))) in
     let c = length-map (filter (λ q. not (is_zombie_child p.pid q)) (returned p.pid s (replaced F.processes (record p { holding = Zombie status })))) (without_parent p.pid) in
     let d = many_left (p.parent == 0) (orphaned (given_back (with_process F (record p { holding = Zombie status })) p.pid s) p.pid) p.pid p.parent in
     omega arith
@@ -103,7 +79,7 @@ unfolding apply_writes
 many_written F pid ws = go (process_of F pid)
   where
     held : (p : Process) (h : Holding) → length (wrote_by F p ws h).processes ≡ length F.processes
-    held p (Holds s) = many_replaced F.processes (record p { holding = Holds (puts s ws) })
+    held p (Holds s) = length-replaced F.processes (record p { holding = Holds (puts s ws) })
     held p (Lends sid child) = refl
     held p (Zombie status) = refl
 

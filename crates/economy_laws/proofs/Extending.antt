@@ -4,6 +4,7 @@ use Rattle.std.proofs.lemmas.Bool.Decides.{nat_tests}
 use Rattle.std.proofs.lemmas.List.{append_assoc, append-nil, get_or_append_left, take_all}
 use Rattle.std.specs.Prelude.{slice_index}
 use Rattle.std.specs.List.{cons_option}
+use Rattle.run_laws.proofs.Touching.{tested_read}
 use Rattle.flat_state.specs.Space.{Space, stack_top, stack_reach, stack_index, spot_by, spot_at, address_in, byte_at, may_write_at, answers_of}
 use Rattle.vm_facts.specs.declared.memory.ByteRead.{ByteRead}
 use Rattle.vm_facts.specs.declared.memory.ByteRead.TheVariants as bytes
@@ -18,8 +19,7 @@ use Rattle.flat_state.specs.declared.spot.Spot.TheVariants as spots
 use Rattle.flat_state.specs.Change.{resized_bytes, resized}
 use Rattle.flat_state.specs.PageNames.{same_page}
 use Rattle.flat_state.specs.Writes.{IsWithin}
-use Rattle.flat_state.proofs.SpaceLaws.{IsPaged, spot_within}
-use Rattle.kernel_laws.proofs.Machine.Breaks.{resized_length}
+use Rattle.flat_state.proofs.SpaceLaws.{IsPaged, spot_within, length-resized_bytes}
 use Rattle.flat_model.specs.Touched.{page_read, page_tested, page_of_access, distinct}
 use Rattle.economy_laws.specs.Stretch.{Extends}
 
@@ -81,8 +81,8 @@ spot_more a b l m x spot le e f = go (nat_lt x a) (nat_lt x (a + b)) (nat_le (st
 
 spot_kept : (s : Space) (d t a x : ℕ) (spot : Spot) → Bigger s d t a → address_in s x ≡ spot → Found spot → address_in (resized s d t) x ≡ spot
 spot_kept s d t a x spot b e f =
-    ap (λ (n : ℕ). spot_at (length s.text_bytes) n (length (resized_bytes t s.stack_bytes)) x) (resized_length d s.data_bytes ∙ sym b.data_pages)
-    ∙ spot_more (length s.text_bytes) (length s.data_bytes) (length s.stack_bytes) (length (resized_bytes t s.stack_bytes)) x spot (let k = resized_length t s.stack_bytes in let l = b.stack_pages in omega arith) e f
+    ap (λ (n : ℕ). spot_at (length s.text_bytes) n (length (resized_bytes t s.stack_bytes)) x) (length-resized_bytes d s.data_bytes ∙ sym b.data_pages)
+    ∙ spot_more (length s.text_bytes) (length s.data_bytes) (length s.stack_bytes) (length (resized_bytes t s.stack_bytes)) x spot (let k = length-resized_bytes t s.stack_bytes in let l = b.stack_pages in omega arith) e f
 
 bytes_kept : (m i : ℕ) (xs : List ℕ) → length xs ≤ 1024 * m → i < length xs → slice_index (resized_bytes m xs) i ≡ slice_index xs i
 bytes_kept m i xs l k =
@@ -103,14 +103,14 @@ grown_page s a = Stack s.sid (stack_index a / 1024)
 spot_grown : (s : Space) (d t a : ℕ) → Bigger s d t a → address_in s a ≡ spots.Below → address_in (resized s d t) a ≡ spots.Stack (stack_index a)
 unfolding spot_at
 spot_grown s d t a b e =
-    ap (λ (n : ℕ). spot_at (length s.text_bytes) n (length (resized_bytes t s.stack_bytes)) a) (resized_length d s.data_bytes ∙ sym b.data_pages)
+    ap (λ (n : ℕ). spot_at (length s.text_bytes) n (length (resized_bytes t s.stack_bytes)) a) (length-resized_bytes d s.data_bytes ∙ sym b.data_pages)
     ∙ go (nat_lt a (length s.text_bytes)) (nat_lt a (length s.text_bytes + length s.data_bytes)) (nat_le (stack_top - length s.stack_bytes) a && nat_lt a stack_top) (nat_le (stack_top - stack_reach) a && nat_lt a stack_top) e
   where
     in_stack : (n : ℕ) → n ≡ 1024 * t → stack_top ≤ a + 1024 * t → a + length s.stack_bytes + 1 ≤ stack_top → (nat_le (stack_top - n) a && nat_lt a stack_top) ≡ true
     in_stack n h k l = grind (arith, nat_tests)
 
     now : (nat_le (stack_top - length (resized_bytes t s.stack_bytes)) a && nat_lt a stack_top) ≡ true
-    now = in_stack (length (resized_bytes t s.stack_bytes)) (resized_length t s.stack_bytes) b.reach b.room
+    now = in_stack (length (resized_bytes t s.stack_bytes)) (length-resized_bytes t s.stack_bytes) b.reach b.room
 
     go : (p q z w : Bool) → spot_by p q z w (length s.text_bytes) a ≡ spots.Below → spot_by p q (nat_le (stack_top - length (resized_bytes t s.stack_bytes)) a && nat_lt a stack_top) w (length s.text_bytes) a ≡ spots.Stack (stack_index a)
     go true q z w k = absurd cc
@@ -163,13 +163,6 @@ test_page s d t (spots.Data i) = refl
 test_page s d t (spots.Stack i) = refl
 test_page s d t spots.Below = refl
 test_page s d t spots.Outside = refl
-
-tested_read : (s : Space) (spot : Spot) (q : Page) → page_tested s spot ≡ Some q → page_read s spot ≡ Some q
-tested_read s (spots.Text i) q h = absurd cc
-tested_read s (spots.Data i) q h = h
-tested_read s (spots.Stack i) q h = h
-tested_read s spots.Below q h = absurd cc
-tested_read s spots.Outside q h = absurd cc
 
 read_kept : (s : Space) (d t a b : ℕ) (spot : Spot) → Bigger s d t a → address_in s b ≡ spot → Found spot → Kept s d t a (ReadOf b)
 read_kept s d t a b spot g e f = (

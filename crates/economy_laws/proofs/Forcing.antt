@@ -1,15 +1,16 @@
 -- Forcing a frame adds few entries.
 use Rattle.std.proofs.Common.{◌≡◌, ◌⊎◌, inl, inr, ℕ, zero, suc, ◌+◌, ◌/◌, ◌<◌, ◌≤◌, Bool, true, false, List, [], ◌∷◌, length, Option, Some, None, refl, sym, ap, ◌∙◌, subst, arith}
-use Rattle.std.proofs.lemmas.List.{length_push}
+use Rattle.page_laws.proofs.Runs.Sweeping.{launch_all_free}
+use Rattle.page_laws.proofs.Moves.HandRuns.{retire_flies}
 use Rattle.vm_facts.specs.declared.page.Page.{Page}
 use Rattle.vm_facts.specs.declared.page.PageState.{PageState}
 use Rattle.vm_facts.specs.declared.page.PageState.TheVariants.{Unfilled, Valid, Invalid, Coming, Going, OnSwap}
 use Rattle.vm_facts.specs.declared.entry.Entry.{Entry}
 use Rattle.vm_facts.specs.declared.entry.Entry.TheVariants as entries
 use Rattle.flat_state.specs.PageNames.{is_among}
-use Rattle.page_model.specs.Frames.{times}
-use Rattle.page_model.specs.Placement.{Placement, Transfer, Part, Errand, Writes, state_of, is_dirty, page_of}
-use Rattle.page_model.specs.Moves.{launch, launch_to, launch_all, land, land_all, done, done_of, begin, retire, retire_to}
+use Rattle.vm_facts.specs.Lists.{times}
+use Rattle.page_model.specs.Placement.{Placement, Transfer, Errand, Writes, state_of, is_dirty, page_of}
+use Rattle.page_model.specs.Moves.{land_all, done, done_of, begin}
 use Rattle.page_model.specs.Runs.{run_out, pages_of_run}
 use Rattle.page_model.specs.Hands.{expire, sweep, sweep_of, sweep_to, sweep_by, hand_move}
 use Rattle.page_model.specs.Serve.{force, force_by, force_entry, Forces}
@@ -19,7 +20,7 @@ use Rattle.page_laws.proofs.Ownership.Pages.{expire_owner}
 use Rattle.page_laws.proofs.Ownership.Serve.{force_owner}
 use Rattle.page_laws.proofs.Moves.Stays.{expire_free, expire_transfers}
 use Rattle.page_laws.proofs.Ends.Forcing.{Freed, HasWrite, sweep_frees, sweep_idles, far_bound}
-use Rattle.page_laws.proofs.Ends.Serving.{land_all_free, land_all_transfers, force_falls}
+use Rattle.page_laws.proofs.Ends.Serving.{land_all_free, force_falls, done_rest, write_frees}
 use Rattle.page_laws.proofs.Ends.Hands.{force_stands, force_frames}
 use Rattle.page_laws.proofs.Ends.Wholes.{force_room}
 use Rattle.page_laws.proofs.Ownership.Hands.{move_owner}
@@ -28,17 +29,6 @@ use Rattle.economy_laws.proofs.Spanning.{adds_one}
 
 -- What a step leaves.
 
--- a write that ends frees a frame
-pub write_frees : (xs : List Part) (p : Placement) (ts : List Transfer) → (xs ≡ [] → ⊥) → 0 < length (land_all p Writes xs ts).free
-write_frees [] p ts n = absurd (n refl)
-write_frees (x ∷ xs) p ts n =
-    let a = length_push p.free x.frame in
-    let b = land_all_free xs (land p Writes x (record { errand = Writes; parts = xs } ∷ ts)) Writes ts in
-    omega arith
-
-pub done_rest : (p : Placement) (t : Transfer) (ts : List Transfer) → p.transfers ≡ t ∷ ts → (done p).transfers ≡ ts
-done_rest p t ts e = ap (λ (us : List Transfer). (done_of p us).transfers) e ∙ land_all_transfers t.parts p t.errand ts
-
 pub done_free : (p : Placement) → length p.free ≤ length (done p).free
 done_free p = go p.transfers
   where
@@ -46,39 +36,13 @@ done_free p = go p.transfers
     go [] = omega arith
     go (t ∷ ts) = land_all_free t.parts p t.errand ts
 
-launch_free : (p : Placement) (v : Page) → (launch p v).free ≡ p.free
-launch_free p v = go (state_of p v)
-  where
-    go : (s : PageState) → (launch_to p v s).free ≡ p.free
-    go (Valid f) = refl
-    go (Invalid f) = refl
-    go Unfilled = refl
-    go (Coming f) = refl
-    go (Going f) = refl
-    go OnSwap = refl
-
-launch_all_free : (qs : List Page) (p : Placement) → (launch_all p qs).free ≡ p.free
-launch_all_free [] p = refl
-launch_all_free (v ∷ qs) p = launch_all_free qs (launch p v) ∙ launch_free p v
-
-retire_transfers : (p : Placement) (v : Page) → (retire p v).transfers ≡ p.transfers
-retire_transfers p v = go (state_of p v)
-  where
-    go : (s : PageState) → (retire_to p v s).transfers ≡ p.transfers
-    go (Valid f) = refl
-    go (Invalid f) = refl
-    go Unfilled = refl
-    go (Coming f) = refl
-    go (Going f) = refl
-    go OnSwap = refl
-
 -- the back hand frees nothing, or begins nothing
 pub sweep_either : (p : Placement) (locked : List Page) → ((sweep p locked).free ≡ p.free) ⊎ ((sweep p locked).transfers ≡ p.transfers)
 sweep_either p locked = go (page_of p p.back)
   where
     by : (q : Page) (d : Bool) → ((sweep_by p locked q d).free ≡ p.free) ⊎ ((sweep_by p locked q d).transfers ≡ p.transfers)
     by q true = inl (launch_all_free (pages_of_run q (run_out p locked q)) (begin p Writes))
-    by q false = inr (retire_transfers p q)
+    by q false = inr (retire_flies p q)
 
     to : (q : Page) (s : PageState) (n : ℕ) (b : Bool) → ((sweep_to p locked q s n b).free ≡ p.free) ⊎ ((sweep_to p locked q s n b).transfers ≡ p.transfers)
     to q (Invalid f) zero false = by q (is_dirty p q)

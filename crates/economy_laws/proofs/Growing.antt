@@ -19,7 +19,8 @@ use Rattle.kernel_model.specs.Coupled.{Fits, SameTables}
 use Rattle.page_model.specs.Pages.{Slot, no_slot, SpacePages, numbered, changed, data_in, stack_in, is_valid}
 use Rattle.page_model.specs.Placement.{Placement, space_number, state_of}
 use Rattle.page_model.specs.Moves.{touch_all, drop_all}
-use Rattle.page_model.specs.Place.{sized, cut_space, resize, data_count, stack_count, data_from, stack_from, place_change, space_of_process, is_borrower, facts_of}
+use Rattle.page_model.specs.Place.{sized, cut_space, resize, data_count, stack_count, data_from, stack_from, place_change, space_of_process, facts_of}
+use Rattle.flat_state.specs.Change.{is_borrower}
 use Rattle.page_model.specs.Swapper.{is_out}
 use Rattle.page_laws.proofs.Lists.Pages.{mapped, changed_same, changed_other}
 use Rattle.page_laws.proofs.Lists.Runs.{each_page_imp}

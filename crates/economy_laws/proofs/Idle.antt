@@ -32,7 +32,8 @@ use Rattle.run_model.proofs.Wanting.{wanted_splits}
 use Rattle.run_model.specs.Next.{when, work_by, turn_by, turn_unit, goes_on, turn_instructions, under, pid_if, next_ready, or_else, next_turned, last_turned, turn_of, line_or_turn, next_mark, next_unit}
 use Rattle.run_model.specs.Kinds.{GoesOn, Runs, Kind, Fills, Brings, Copies, Serves, Acts, ComesIn, Interrupts, Moves, PutsOut, Notes, Begins}
 use Rattle.run_model.specs.Lawful.{Follows}
-use Rattle.run_model.proofs.NextUnits.{kind_of, both_true}
+use Rattle.run_model.proofs.NextUnits.{kind_of}
+use Rattle.std.proofs.lemmas.Bool.{and_parts}
 use Rattle.run_laws.specs.Running.{IsRun}
 use Rattle.run_laws.proofs.Acts.{Stepper, stepper, Stepped, stepped_flat, stepped_form, Completes, completes}
 use Rattle.run_laws.proofs.Flows.{Acted, Settles, Refuses, Steps, acted, steps_own, on_steps, noted, refused_after, out_of, out_after, plain_point}
@@ -268,7 +269,7 @@ ready_found F above p distinct h = go (find (λ (q : Process). is_ready q && nat
     go : (o : Option Process) → find (λ (q : Process). is_ready q && nat_lt above q.pid) F.processes ≡ o → pid_if o ≡ Some p → can_step F p ≡ true
     go None e k = absurd cc
     go (Some z) e k = subst (λ (n : ℕ). can_step F n ≡ true) (number z k)
-        (ap ready_if (found_by_number (λ (q : Process). is_ready q && nat_lt above q.pid) F.processes z distinct e) ∙ (both_true (is_ready z) (nat_lt above z.pid) (found_passes (λ (q : Process). is_ready q && nat_lt above q.pid) F.processes z e)).0)
+        (ap ready_if (found_by_number (λ (q : Process). is_ready q && nat_lt above q.pid) F.processes z distinct e) ∙ (and_parts (is_ready z) (nat_lt above z.pid) (found_passes (λ (q : Process). is_ready q && nat_lt above q.pid) F.processes z e)).0)
 
 turned_ready : (F : FlatState) (last p : ℕ) → Rattle.flat_state.specs.Numbers.AllDistinct (Rattle.flat_state.specs.Numbers.pids_of F) → next_turned F last ≡ Some p → can_step F p ≡ true
 turned_ready F last p distinct h = go (next_ready F last) refl h

@@ -9,7 +9,7 @@ use Rattle.vm_facts.specs.declared.entry.Entry.TheVariants as entries
 use Rattle.flat_state.specs.Flat.{Inputs, can_step}
 use Rattle.page_model.specs.Pages.{Filling, Zeros, OfImage, is_valid}
 use Rattle.page_model.specs.Placement.{Placement, Transfer, Due, Start, CopyOf, state_of, filling_of, IsThere}
-use Rattle.page_model.specs.Moves.{evict, fill, fill_at, begin, done}
+use Rattle.page_model.specs.Moves.{begin, done}
 use Rattle.page_model.specs.Runs.{pages_of_run, run_in}
 use Rattle.page_model.specs.Place.{place_entry}
 use Rattle.page_model.specs.Serve.{force, force_by, force_entry, read_errand, read_if, bring_by, feed_by, serve_by, serve_step, serve_unit, is_full, Forces, Serves}
@@ -17,8 +17,7 @@ use Rattle.page_model.specs.Swapper.{is_out}
 use Rattle.page_model.specs.Conditions.{EachPage}
 use Rattle.page_model.specs.Dues.{NotDue}
 use Rattle.page_model.specs.Ownership.{OwnsFrames}
-use Rattle.page_laws.proofs.Moves.Steps.{EvictRest, evict_rest}
-use Rattle.page_laws.proofs.Due.Entries.{get_due_list}
+use Rattle.page_laws.proofs.Due.Entries.{get_due_list, fill_due_list}
 use Rattle.kernel_laws.proofs.Stands.Steps.{reclaim_due}
 use Rattle.page_laws.proofs.Moves.Stays.{Steady, Stays, done_steady, force_stays}
 use Rattle.page_laws.proofs.Moves.Units.{unit_is, entry_steps}
@@ -97,13 +96,6 @@ force_takes (t ∷ ts) = refl
 
 -- What units leave alone.
 
-pub fill_due : (p : Placement) (q : Page) → (fill p q).due ≡ p.due
-fill_due p q = go p.free
-  where
-    go : (fr : List ℕ) → (fill_at p q fr).due ≡ p.due
-    go [] = refl
-    go (f ∷ fs) = let r : EvictRest p (evict p f) = evict_rest p f in r.due
-
 pub serve_due_same : (p : Placement) (locked : List Page) (q : Page) → OwnsFrames p → (serve_step p locked q).due ≡ p.due
 serve_due_same p locked q o = go (state_of p q)
   where
@@ -115,7 +107,7 @@ serve_due_same p locked q o = go (state_of p q)
     read false = get_due_list (pages_of_run q (run_in p q)) (begin p (read_errand p q)) (read_errand p q)
 
     bring : (s : PageState) (x : Filling) (full : Bool) → (bring_by p q s x full).due ≡ p.due
-    bring Unfilled Zeros full = fill_due p q
+    bring Unfilled Zeros full = fill_due_list p q
     bring Unfilled OfImage full = read full
     bring (Valid f) x full = read full
     bring (Invalid f) x full = read full
@@ -201,14 +193,6 @@ split_longer p pages before behind q w v i =
     let d = ap (λ (x : Bool). length (present_by x q (before_absent p behind))) i in
     omega arith
 
-pub before_short : (p : Placement) (pages : List Page) → length (before_absent p pages) ≤ length pages
-before_short p [] = omega arith
-before_short p (q ∷ qs) = go (is_valid (state_of p q)) (before_short p qs)
-  where
-    go : (b : Bool) → length (before_absent p qs) ≤ length qs → length (present_by b q (before_absent p qs)) ≤ length (q ∷ qs)
-    go true l = omega arith
-    go false l = omega arith
-
 -- What is left at a state.
 
 abbrev pub is_closed : Option Entry → Bool
@@ -272,9 +256,6 @@ pub record Next (A : Inputs) (s : State) (pid : ℕ) (b : Bool) (u : Entry) (n m
   pub left : Left A (after A s u) pid (is_hands u) x y
   pub some : adds b u + x ≤ n + 8 * Rattle.economy_laws.specs.Stretch.copies u
   pub takers : takes u + y ≤ m + Rattle.economy_laws.specs.Stretch.copies u
-
-some_same : {X : Type 0} (a b : X) → Some a ≡ Some b → a ≡ b
-some_same a b e = cc
 
 -- where nothing is due
 pub ready : (A : Inputs) (s : State) (pid : ℕ) (b : Bool) (n m : ℕ) → FewTouched A → IsRun A s → IsClosing A s pid → s.place.due ≡ []

@@ -12,7 +12,8 @@ use Rattle.flat_state.specs.Flat.{Inputs, process_of}
 use Rattle.page_model.specs.Pages.{Slot}
 use Rattle.page_model.specs.Placement.{Placement, Due, Start, CopyOf, slots_of}
 use Rattle.page_model.specs.Moves.{touch_all}
-use Rattle.page_model.specs.Place.{copy_due, copies_from, enter_image, give_up_unless, place_change, space_of_process, is_borrower, facts_of, facts_numbered}
+use Rattle.page_model.specs.Place.{copy_due, copies_from, enter_image, give_up_unless, place_change, space_of_process, facts_of, facts_numbered}
+use Rattle.flat_state.specs.Change.{is_borrower}
 use Rattle.flat_state.specs.Journal.{appended}
 use Rattle.page_model.specs.Dues.{IsDue}
 use Rattle.kernel_model.specs.Start.{ImagesFit}

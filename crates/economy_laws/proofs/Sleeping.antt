@@ -5,10 +5,10 @@ use Rattle.vm_facts.specs.declared.regs.Regs.{Regs}
 use Rattle.vm_facts.specs.declared.entry.Entry.{Entry}
 use Rattle.vm_facts.specs.declared.entry.Entry.TheVariants as entries
 use Rattle.flat_state.specs.declared.change.Change.TheVariants.{Sleep}
-use Rattle.flat_state.specs.Change.{replaced, with_process, changed_by, changed_if, apply_change, apply_writes}
+use Rattle.flat_state.specs.Change.{replaced, with_process, changed_by, changed_if, apply_change, apply_writes, is_borrower}
 use Rattle.page_model.specs.Placement.{Placement}
 use Rattle.page_model.specs.Moves.{touch_all}
-use Rattle.page_model.specs.Place.{place_change, space_of_process, is_borrower, facts_of}
+use Rattle.page_model.specs.Place.{place_change, space_of_process, facts_of}
 use Rattle.page_model.specs.Swapper.{is_out}
 use Rattle.kernel_laws.proofs.Flat.Lists.{found_is, replaced_at}
 use Rattle.page_laws.proofs.Moves.Units.{unit_is}

@@ -1,17 +1,16 @@
 -- The steps of a process that can step: there is one, and what growth is.
 use Rattle.std.proofs.Common.{◌≡◌, ℕ, ◌==◌, Bool, true, false, List, [], ◌∷◌, Option, Some, None, Result, Ok, Err, ℤ, if◌then◌else◌, refl, sym, ap, ◌∙◌, subst, arith}
 use Rattle.std.proofs.lemmas.Bool.Decides.{nat_tests}
-use Rattle.flat_state.specs.Space.{Space, address_in, byte_at, may_write_at, answers_of}
+use Rattle.run_laws.proofs.Finishing.{never_misses}
+use Rattle.flat_state.specs.Space.{Space}
 use Rattle.flat_state.specs.Flat.{Holds, Process, FlatState, NamedImage, Inputs, process_of, can_step}
 use Rattle.vm_facts.specs.declared.entry.Entry.{Entry}
 use Rattle.vm_facts.specs.declared.entry.Entry.TheVariants as entries
 use Rattle.user_vax.specs.Effects.{Effect}
 use Rattle.user_vax.specs.Instruction.{instruction}
-use Rattle.user_vax.specs.Program.{Program, Gives, Refuses, Reads, Tests, run, after_read, after_test}
+use Rattle.user_vax.specs.Program.{run}
 use Rattle.user_vax.specs.declared.refused.Refused.{Refused}
 use Rattle.user_vax.specs.declared.refused.Refused.TheVariants.{Miss, Below, Signal}
-use Rattle.flat_state.specs.declared.spot.Spot.{Spot}
-use Rattle.flat_state.specs.declared.spot.Spot.TheVariants as spots
 use Rattle.flat_model.specs.declared.calls.Reply.{Reply}
 use Rattle.flat_model.specs.declared.calls.Reply.TheVariants.{Fails, Does, Writes, Waits, Exits}
 use Rattle.flat_model.specs.declared.calls.SystemCall.{SystemCall}
@@ -26,27 +25,6 @@ use Rattle.run_laws.specs.Running.{IsRun}
 use Rattle.run_laws.specs.Flowing.{Awaits, WaitsBy, Flows}
 use Rattle.run_laws.proofs.Acts.{Stepper, stepper}
 use Rattle.run_laws.proofs.Flows.{on_steps}
-
--- a space misses nothing
-pub never_miss : {X : Type 0} (s : Space) (p : Program X) (a : ℕ) (w : Bool) → run (answers_of s) p ≡ Err (Miss a w) → ⊥
-never_miss s (Gives x) a w h = absurd cc
-never_miss s (Refuses signal) a w h = absurd cc
-never_miss s (Reads b next) a w h = go (address_in s b) (λ byte k. never_miss s (next byte) a w k) h
-  where
-    go : (spot : Spot) → ((byte : ℕ) → run (answers_of s) (next byte) ≡ Err (Miss a w) → ⊥) → after_read (byte_at s spot) b (λ byte. run (answers_of s) (next byte)) ≡ Err (Miss a w) → ⊥
-    go (spots.Text i) more k = more (Rattle.std.specs.Prelude.slice_index s.text_bytes i) k
-    go (spots.Data i) more k = more (Rattle.std.specs.Prelude.slice_index s.data_bytes i) k
-    go (spots.Stack i) more k = more (Rattle.std.specs.Prelude.slice_index s.stack_bytes i) k
-    go spots.Below more k = absurd cc
-    go spots.Outside more k = absurd cc
-never_miss s (Tests b next) a w h = go (address_in s b) (λ k. never_miss s next a w k) h
-  where
-    go : (spot : Spot) → (run (answers_of s) next ≡ Err (Miss a w) → ⊥) → after_test (may_write_at spot) b (run (answers_of s) next) ≡ Err (Miss a w) → ⊥
-    go (spots.Text i) more k = absurd cc
-    go (spots.Data i) more k = more k
-    go (spots.Stack i) more k = more k
-    go spots.Below more k = absurd cc
-    go spots.Outside more k = absurd cc
 
 -- Entries.
 
@@ -81,7 +59,7 @@ entries_some : (A : Inputs) (F : FlatState) (pid : ℕ) (refused : Bool) → can
 entries_some A F pid refused c h =
     let x : Stepper F pid = stepper F pid c in
     let q : Process = x.process in
-    of_some A.images F x.process x.space refused (instruction_in x.space q.regs) (λ a w e. never_miss x.space (instruction q.regs) a w e) (sym (ap (λ (S : Step). S.entries) (step_is A F pid refused x.process x.space x.here x.holds)) ∙ h)
+    of_some A.images F x.process x.space refused (instruction_in x.space q.regs) (λ a w e. never_misses x.space (instruction q.regs) a w e) (sym (ap (λ (S : Step). S.entries) (step_is A F pid refused x.process x.space x.here x.holds)) ∙ h)
 
 -- A process that runs acts.
 pub act_some : (A : Inputs) (s : State) (pid : ℕ) (now : Bool) → IsRun A s → Runs A s pid now → act A s pid ≡ None → ⊥

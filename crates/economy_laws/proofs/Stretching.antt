@@ -1,6 +1,7 @@
 -- Each unit of a stretch leaves less to add.
 use Rattle.std.proofs.Common.{◌≡◌, ◌≢◌, inl, inr, ℕ, ◌+◌, ◌-◌, ◌*◌, ◌≤◌, ◌==◌, Bool, true, false, cond, List, [], ◌∷◌, length, Option, Some, None, refl, sym, ap, ◌∙◌, subst, arith}
 use Rattle.std.proofs.lemmas.List.{length-append}
+use Rattle.std.proofs.lemmas.Option.{same_Some}
 use Rattle.vm_facts.specs.declared.page.Page.{Page}
 use Rattle.vm_facts.specs.declared.page.Page.TheVariants.{Data}
 use Rattle.vm_facts.specs.declared.entry.Entry.{Entry}
@@ -19,7 +20,7 @@ use Rattle.page_laws.proofs.Ownership.Serve.{state_there}
 use Rattle.page_laws.proofs.Swapper.Residences.{moved_own}
 use Rattle.page_laws.proofs.Moves.Stays.{Steady, Stays, done_steady, force_stays}
 use Rattle.page_laws.proofs.Moves.Transfers.{fill_count}
-use Rattle.page_laws.proofs.Moves.Units.{unit_is, now_unit}
+use Rattle.page_laws.proofs.Moves.Units.{unit_is, served_valid}
 use Rattle.touch_laws.proofs.Distinct.{among_first}
 use Rattle.flat_model.specs.Run.{Point, process_of_entry, may_follow, is_outcome_of, is_call_of, flat_entry, flat_entry_by, flat_entry_if}
 use Rattle.run_model.specs.State.{State}
@@ -162,13 +163,6 @@ bring_next A s u pid b n m q parent ds r r2 l d i =
       takers = omega (arith, nx.takings_left, k.takers);
     }
 
-none_valid : (p : Placement) (q : Page) → serve_unit p q true ≡ None → is_valid (state_of p q) ≡ true
-none_valid p q h = go (is_valid (state_of p q)) refl
-  where
-    go : (v : Bool) → is_valid (state_of p q) ≡ v → v ≡ true
-    go true e = refl
-    go false e = absurd (let z : None ≡ Some (serve_entry p q) = sym h ∙ now_unit p q e in cc)
-
 copy_next : (A : Inputs) (s : State) (u : Entry) (pid : ℕ) (b : Bool) (n m : ℕ) (q parent : Page) (ds : List Due) → FewTouched A → IsRun A s → IsRun A (after A s u) → IsClosing A (after A s u) pid → Left A s pid b n m
     → s.place.due ≡ CopyOf q parent ∷ ds → serve_unit s.place parent true ≡ None → u ≡ fill_unit s.place (entries.Copy q) → Next A s pid b u n m
 copy_next A s u pid b n m q parent ds few r r2 c2 l d v i = go s.place.free refl i
@@ -177,7 +171,7 @@ copy_next A s u pid b n m q parent ds few r r2 c2 l d v i = go s.place.free refl
     cp = l.copied q parent ds d
 
     valid : is_valid (state_of s.place parent) ≡ true
-    valid = none_valid s.place parent v
+    valid = served_valid s.place parent v
 
     k : CopyLeft b s.place parent n m
     k = cp.2 valid
@@ -401,9 +395,6 @@ pub record Slept (A : Inputs) (s t : State) (pid : ℕ) : Type 0 where
 abbrev pub SleepStops : Inputs → Type 0
 SleepStops A = (s : State) (pid : ℕ) → IsRun A s → next_unit A s ≡ Some (entries.Sleeps pid) → Slept A s (after A s (entries.Sleeps pid)) pid
 
-own_pid : (p pid : ℕ) → Some p ≡ Some pid → p ≡ pid
-own_pid p pid e = cc
-
 act_next : (A : Inputs) (s : State) (u : Entry) (pid : ℕ) (b : Bool) (n m : ℕ) → FewTouched A → AllGrown A → SleepStops A → IsRun A s → IsClosing A s pid → IsRun A (after A s u) → IsClosing A (after A s u) pid → next_unit A s ≡ Some u → begins_stretch u ≡ false → Left A s pid b n m
     → Runs A s pid true → wanted A s ≡ None → act A s pid ≡ Some u → Next A s pid b u n m
 act_next A s u pid b n m few grows stops r c r2 c2 h nb l run w a = by (acted A s pid u a)
@@ -499,8 +490,8 @@ act_next A s u pid b n m few grows stops r c r2 c2 h nb l run w a = by (acted A 
     stepped : (x : Entry) → u ≡ x → Rattle.flat_model.specs.Run.act A s.point pid ≡ Some u → process_of_entry x ≡ Some pid → begins_stretch x ≡ false → is_closed s.point.last ≡ false → Next A s pid b u n m
     stepped (entries.Out p bytes) i f e z o = waits o (ap (λ (y : Entry). is_closed (Some y)) i) (ap takes i)
         (subst (λ (y : Entry). after A s y ≡ noted s y) (sym i) (out_after A s pid p bytes (out_of A s.point pid p bytes (f ∙ ap (λ (y : Entry). Some y) i))))
-    stepped (entries.Grew p pages) i f e z o = grown pages (i ∙ ap (λ (y : ℕ). entries.Grew y pages) (own_pid p pid e)) o
-    stepped (entries.Sleeps p) i f e z o = slept (i ∙ ap (λ (y : ℕ). entries.Sleeps y) (own_pid p pid e)) o
+    stepped (entries.Grew p pages) i f e z o = grown pages (i ∙ ap (λ (y : ℕ). entries.Grew y pages) (same_Some p pid e)) o
+    stepped (entries.Sleeps p) i f e z o = slept (i ∙ ap (λ (y : ℕ). entries.Sleeps y) (same_Some p pid e)) o
     stepped (entries.Refused p) i f e z o = waits o (ap (λ (y : Entry). is_closed (Some y)) i) (ap takes i) (subst (λ (y : Entry). after A s y ≡ noted s y) (sym i) (refused_after A s p))
     stepped _ i f e z o = absurd cc
 

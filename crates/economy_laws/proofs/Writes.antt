@@ -18,8 +18,9 @@ use Rattle.page_model.specs.Serve.{force_entry, is_full, read_entry_if, bring_en
 use Rattle.page_model.specs.Ownership.{OneOwner, OwnsBlocks, text_pieces_while}
 use Rattle.kernel_model.specs.Sound.{Sound, lives}
 use Rattle.kernel_model.specs.Start.{ImagesFit}
-use Rattle.page_laws.proofs.Lists.Pages.{same_page_self}
-use Rattle.page_laws.proofs.Lists.Runs.{and_both, run_each, run_up_in}
+use Rattle.flat_state.proofs.PageNames.{same_page_self}
+use Rattle.page_laws.proofs.Lists.Runs.{run_each, run_up_in}
+use Rattle.std.proofs.lemmas.Bool.{and_parts}
 use Rattle.page_laws.proofs.Swapper.PuttingOut.{unit_case}
 use Rattle.page_laws.proofs.Moves.Units.{unit_is}
 use Rattle.flat_model.specs.Run.{process_of_entry, step_at}
@@ -49,7 +50,7 @@ PutsDirty p _ = Unit {0}
 run_put_dirty : (p : Placement) (v : Page) → is_dirty p v ≡ true → AllDirty p (pages_from v (number_of v) (run_put p v).n)
 run_put_dirty p v d = subst (λ (b : Bool). AllDirty p (pages_from v (number_of v) (run_put_by p v b).n)) (sym d)
     (run_each (λ r. is_dirty p r ≡ true) passes v (run_up passes (number_of v) most_written) (run_up_in passes (number_of v) most_written) d
-    (λ w e. (and_both (is_dirty p (beside v w)) (is_near v w) (and_both (is_seated p (beside v w)) (is_dirty p (beside v w) && is_near v w) e).1).0))
+    (λ w e. (and_parts (is_dirty p (beside v w)) (is_near v w) (and_parts (is_seated p (beside v w)) (is_dirty p (beside v w) && is_near v w) e).1).0))
   where
     passes : ℕ → Bool
     passes w = is_seated p (beside v w) && (is_dirty p (beside v w) && is_near v w)

@@ -23,8 +23,12 @@ use Rattle.flat_state.specs.Numbers.{IsAbsent, AllDistinct, IsNumbered}
 use Rattle.kernel_model.specs.Numbers.{Numbered}
 use Rattle.kernel_model.specs.Start.{ImagesFit}
 use Rattle.kernel_model.specs.Asks.{text_asked, image_asked, change_asks, asked}
-use Rattle.page_laws.proofs.Lists.Local.{none_some, some_is}
-use Rattle.kernel_laws.proofs.Flat.Numbered.{eq_is, eq_self, hit, miss, absent_none}
+use Rattle.page_laws.proofs.Lists.Local.{none_some}
+use Rattle.std.proofs.lemmas.Option.{same_Some}
+use Rattle.kernel_laws.proofs.Flat.Numbered.{absent_none}
+use Rattle.page_laws.proofs.Lists.Pages.{numbered_hit, numbered_miss}
+use Rattle.vm_facts.proofs.Tests.{eq_self}
+use Rattle.std.proofs.lemmas.Bool.{eqb-true}
 use Rattle.kernel_laws.proofs.Flat.Lists.{sid_of, held, held_at, held_own}
 use Rattle.kernel_laws.proofs.Machine.Swaps.{found_self}
 use Rattle.kernel_laws.proofs.Machine.Tables.{all_fit}
@@ -71,10 +75,10 @@ found_some {A} number image n (x ∷ xs) d e = go (image x == n) refl e (found_s
   where
     go : (b : Bool) → (image x == n) ≡ b → cond b true (is_some_of image n xs) ≡ true → (is_some_of image n xs ≡ true → (y : A) × (numbered number (number y) xs ≡ Some y) × (image y ≡ n))
         → (y : A) × (numbered number (number y) (x ∷ xs) ≡ Some y) × (image y ≡ n)
-    go true i e later = (x, hit number (number x) x xs refl, eq_is (image x) n i)
+    go true i e later = (x, numbered_hit number (number x) x xs refl, eqb-true (image x) n i)
     go false i e later =
         let r = later e in
-        (r.0, miss number (number r.0) x xs (λ same. none_some r.0 (sym (absent_none number (number r.0) xs (subst (λ (m : ℕ). IsAbsent m (map number xs)) same d.0)) ∙ r.1)) ∙ r.1, r.2)
+        (r.0, numbered_miss number (number r.0) x xs (λ same. none_some r.0 (sym (absent_none number (number r.0) xs (subst (λ (m : ℕ). IsAbsent m (map number xs)) same d.0)) ∙ r.1)) ∙ r.1, r.2)
 
 some_found : {A : Type 0} (number image : A → ℕ) (m n : ℕ) (xs : List A) (x : A) → numbered number m xs ≡ Some x → image x ≡ n → is_some_of image n xs ≡ true
 some_found number image m n [] x e i = none_some x e
@@ -85,7 +89,7 @@ some_found number image m n (y ∷ ys) x e i = go (number y == m) e (λ k. some_
     or_true false = refl
 
     go : (b : Bool) → cond b (Some y) (numbered number m ys) ≡ Some x → (numbered number m ys ≡ Some x → is_some_of image n ys ≡ true) → cond (image y == n) true (is_some_of image n ys) ≡ true
-    go true k later = ap (λ (b : Bool). cond b true (is_some_of image n ys)) (ap (λ (j : ℕ). j == n) (ap image (some_is y x k) ∙ i) ∙ eq_self n)
+    go true k later = ap (λ (b : Bool). cond b true (is_some_of image n ys)) (ap (λ (j : ℕ). j == n) (ap image (same_Some y x k) ∙ i) ∙ eq_self n)
     go false k later = ap (λ (b : Bool). cond (image y == n) true b) (later k) ∙ or_true (image y == n)
 
 -- a space of the flat state holds the image

@@ -1,7 +1,8 @@
 -- Which entry comes next is determined.
-use Rattle.std.proofs.Common.{◌≡◌, ℕ, ◌==◌, Bool, true, false, ◌&&◌, List, bytes_eq, Option, Some, None, refl, sym, ap, ◌∙◌, subst, arith, if◌then◌else◌}
-use Rattle.std.proofs.lemmas.Bool.Decides.{nat_tests}
+use Rattle.std.proofs.Common.{◌≡◌, ℕ, ◌==◌, Bool, true, false, ◌&&◌, List, bytes_eq, Option, Some, None, refl, sym, ap, ◌∙◌, subst, if◌then◌else◌}
 use Rattle.std.proofs.lemmas.Slice.Eq.{bytes_eq-Decides}
+use Rattle.std.proofs.lemmas.Bool.{eqb-true, and_parts}
+use Rattle.std.proofs.lemmas.Option.{same_Some}
 use Rattle.flat_state.specs.Flat.{FlatState, Inputs, can_step}
 use Rattle.vm_facts.specs.declared.entry.Entry.{Entry}
 use Rattle.vm_facts.specs.declared.entry.Entry.TheVariants as entries
@@ -55,14 +56,6 @@ next_same A point other pid flat refused writing =
 
 -- Entries that are the same.
 
-both_so : (a b : Bool) → (a && b) ≡ true → (a ≡ true) × (b ≡ true)
-both_so true true h = (refl, refl)
-both_so true false h = absurd cc
-both_so false b h = absurd cc
-
-number_is : (a b : ℕ) → (a == b) ≡ true → a ≡ b
-number_is a b h = grind (arith, nat_tests)
-
 carry_is : (a b : Bool) → same_carry a b ≡ true → a ≡ b
 carry_is true true h = refl
 carry_is false false h = refl
@@ -71,26 +64,26 @@ carry_is false true h = absurd cc
 
 entry_is : (e f : Entry) → same_entry e f ≡ true → e ≡ f
 entry_is (entries.Ran a n) (entries.Ran b m) h =
-    let parts = both_so (a == b) (n == m) h in
-    ap (λ (x : ℕ). entries.Ran x n) (number_is a b parts.0) ∙ ap (λ (x : ℕ). entries.Ran b x) (number_is n m parts.1)
+    let parts = and_parts (a == b) (n == m) h in
+    ap (λ (x : ℕ). entries.Ran x n) (eqb-true a b parts.0) ∙ ap (λ (x : ℕ). entries.Ran b x) (eqb-true n m parts.1)
 entry_is (entries.Grew a n) (entries.Grew b m) h =
-    let parts = both_so (a == b) (n == m) h in
-    ap (λ (x : ℕ). entries.Grew x n) (number_is a b parts.0) ∙ ap (λ (x : ℕ). entries.Grew b x) (number_is n m parts.1)
+    let parts = and_parts (a == b) (n == m) h in
+    ap (λ (x : ℕ). entries.Grew x n) (eqb-true a b parts.0) ∙ ap (λ (x : ℕ). entries.Grew b x) (eqb-true n m parts.1)
 entry_is (entries.Ended a n) (entries.Ended b m) h =
-    let parts = both_so (a == b) (n == m) h in
-    ap (λ (x : ℕ). entries.Ended x n) (number_is a b parts.0) ∙ ap (λ (x : ℕ). entries.Ended b x) (number_is n m parts.1)
+    let parts = and_parts (a == b) (n == m) h in
+    ap (λ (x : ℕ). entries.Ended x n) (eqb-true a b parts.0) ∙ ap (λ (x : ℕ). entries.Ended b x) (eqb-true n m parts.1)
 entry_is (entries.Out a xs) (entries.Out b ys) h =
-    let parts = both_so (a == b) (bytes_eq xs ys) h in
-    ap (λ (x : ℕ). entries.Out x xs) (number_is a b parts.0) ∙ ap (λ (x : List ℕ). entries.Out b x) ((bytes_eq-Decides xs ys).0 parts.1)
-entry_is (entries.Sleeps a) (entries.Sleeps b) h = ap (λ (x : ℕ). entries.Sleeps x) (number_is a b h)
+    let parts = and_parts (a == b) (bytes_eq xs ys) h in
+    ap (λ (x : ℕ). entries.Out x xs) (eqb-true a b parts.0) ∙ ap (λ (x : List ℕ). entries.Out b x) ((bytes_eq-Decides xs ys).0 parts.1)
+entry_is (entries.Sleeps a) (entries.Sleeps b) h = ap (λ (x : ℕ). entries.Sleeps x) (eqb-true a b h)
 entry_is (entries.Call a n c r0 r1) (entries.Call b m d s0 s1) h =
-    let p = both_so (a == b) (n == m && (same_carry c d && (r0 == s0 && r1 == s1))) h in
-    let q = both_so (n == m) (same_carry c d && (r0 == s0 && r1 == s1)) p.1 in
-    let r = both_so (same_carry c d) (r0 == s0 && r1 == s1) q.1 in
-    let s = both_so (r0 == s0) (r1 == s1) r.1 in
-    ap (λ (x : ℕ). entries.Call x n c r0 r1) (number_is a b p.0) ∙ ap (λ (x : ℕ). entries.Call b x c r0 r1) (number_is n m q.0)
-    ∙ ap (λ (x : Bool). entries.Call b m x r0 r1) (carry_is c d r.0) ∙ ap (λ (x : ℕ). entries.Call b m d x r1) (number_is r0 s0 s.0)
-    ∙ ap (λ (x : ℕ). entries.Call b m d s0 x) (number_is r1 s1 s.1)
+    let p = and_parts (a == b) (n == m && (same_carry c d && (r0 == s0 && r1 == s1))) h in
+    let q = and_parts (n == m) (same_carry c d && (r0 == s0 && r1 == s1)) p.1 in
+    let r = and_parts (same_carry c d) (r0 == s0 && r1 == s1) q.1 in
+    let s = and_parts (r0 == s0) (r1 == s1) r.1 in
+    ap (λ (x : ℕ). entries.Call x n c r0 r1) (eqb-true a b p.0) ∙ ap (λ (x : ℕ). entries.Call b x c r0 r1) (eqb-true n m q.0)
+    ∙ ap (λ (x : Bool). entries.Call b m x r0 r1) (carry_is c d r.0) ∙ ap (λ (x : ℕ). entries.Call b m d x r1) (eqb-true r0 s0 s.0)
+    ∙ ap (λ (x : ℕ). entries.Call b m d s0 x) (eqb-true r1 s1 s.1)
 entry_is _ _ h = absurd cc
 
 -- An entry that may come next is the one that the step gives.
@@ -99,14 +92,11 @@ record Comes (A : Inputs) (point p : Point) (pid : ℕ) (e : Entry) : Type 0 whe
   same : same_as (act A point pid) e ≡ true
   behind : point_after A point pid ≡ p
 
-some_is : (x y : Point) → Some x ≡ Some y → x ≡ y
-some_is x y h = cc
-
 of_where : (A : Inputs) (point p : Point) (pid : ℕ) (e : Entry) → where_so (same_as (act A point pid) e) (point_after A point pid) ≡ Some p → Comes A point p pid e
 of_where A point p pid e h = go (same_as (act A point pid) e) refl h
   where
     go : (b : Bool) → same_as (act A point pid) e ≡ b → where_so b (point_after A point pid) ≡ Some p → Comes A point p pid e
-    go true k l = record { same = k; behind = some_is (point_after A point pid) p l }
+    go true k l = record { same = k; behind = same_Some (point_after A point pid) p l }
     go false k l = absurd cc
 
 of_if : (A : Inputs) (point p : Point) (pid : ℕ) (b : Bool) (e : Entry) → flat_entry_if b A point pid e ≡ Some p → flat_entry_of A point pid e ≡ Some p

@@ -1,6 +1,7 @@
 -- The process of a number, where the list of processes changes.
 use Rattle.std.proofs.Common.{◌≡◌, ◌≢◌, ℕ, ◌==◌, Bool, true, false, cond, ◌&&◌, List, [], ◌∷◌, ◌++◌, map, filter, find, Some, refl, sym, ap, ◌∙◌, subst, arith, eq-eqb}
 use Rattle.std.proofs.lemmas.Bool.Decides.{nat_tests}
+use Rattle.std.proofs.lemmas.Bool.{eqb-true}
 use Rattle.flat_state.specs.Space.{Space}
 use Rattle.flat_state.specs.Flat.{Holding, Holds, Process}
 use Rattle.flat_state.specs.Change.{replaced_by, replaced, returned_by, returned, lends_to, is_zombie_child, is_zombie}
@@ -11,9 +12,6 @@ pub record FoundHolding (qs : List Process) (pid : ℕ) (s : Space) : Type 0 whe
   pub process : Process
   pub here : find (λ q. q.pid == pid) qs ≡ Some process
   pub holds : process.holding ≡ Holds s
-
-number_is : (a b : ℕ) → (a == b) ≡ true → a ≡ b
-number_is a b h = grind (arith, nat_tests)
 
 -- the first process, or one behind it
 data First (q : Process) (qs : List Process) (pid : ℕ) (s : Space) : Type 0 where
@@ -40,7 +38,7 @@ found_replaced [] p pid s other h = absurd (let k = h.here in cc)
 found_replaced (q ∷ qs) p pid s other h = go (λ k. found_replaced qs p pid s other k) (q.pid == p.pid) refl (first_of q qs pid s h)
   where
     go : (FoundHolding qs pid s → FoundHolding (replaced qs p) pid s) → (b : Bool) → (q.pid == p.pid) ≡ b → First q qs pid s → FoundHolding (replaced_by b p q qs (replaced qs p)) pid s
-    go later true e (Here k holds) = absurd (other (sym (number_is q.pid p.pid e) ∙ number_is q.pid pid k))
+    go later true e (Here k holds) = absurd (other (sym (eqb-true q.pid p.pid e) ∙ eqb-true q.pid pid k))
     go later true e (Behind k found) = found_behind p qs pid s (let apart : (p.pid == pid) ≡ false = grind (arith, nat_tests) in apart) found
     go later false e (Here k holds) = found_here q (replaced qs p) pid s k holds
     go later false e (Behind k found) = found_behind q (replaced qs p) pid s k (later found)
@@ -113,7 +111,7 @@ found_by_number test [] z own h = absurd cc
 found_by_number test (q ∷ qs) z own h = go (λ k. found_by_number test qs z own.1 k) (test q) h
   where
     last : (b : Bool) → (q.pid == z.pid) ≡ b → find test qs ≡ Some z → find (λ r. r.pid == z.pid) qs ≡ Some z → cond b (Some q) (find (λ r. r.pid == z.pid) qs) ≡ Some z
-    last true e k f = absurd (found_present test qs z q.pid own.0 k (sym (number_is q.pid z.pid e)))
+    last true e k f = absurd (found_present test qs z q.pid own.0 k (sym (eqb-true q.pid z.pid e)))
     last false e k f = f
 
     go : (find test qs ≡ Some z → find (λ r. r.pid == z.pid) qs ≡ Some z) → (b : Bool) → cond b (Some q) (find test qs) ≡ Some z → cond (q.pid == z.pid) (Some q) (find (λ r. r.pid == z.pid) qs) ≡ Some z
@@ -127,7 +125,7 @@ pids_replaced [] p = refl
 pids_replaced (q ∷ qs) p = go (pids_replaced qs p) (q.pid == p.pid) refl
   where
     go : pids (replaced qs p) ≡ pids qs → (b : Bool) → (q.pid == p.pid) ≡ b → pids (replaced_by b p q qs (replaced qs p)) ≡ q.pid ∷ pids qs
-    go later true e = ap (λ (n : ℕ). n ∷ pids qs) (sym (number_is q.pid p.pid e))
+    go later true e = ap (λ (n : ℕ). n ∷ pids qs) (sym (eqb-true q.pid p.pid e))
     go later false e = ap (λ (ns : List ℕ). q.pid ∷ ns) later
 
 pub zombie_passes : (pid : ℕ) (qs : List Process) (z : Process) → find (is_zombie_child pid) qs ≡ Some z → is_zombie_child pid z ≡ true

@@ -1,8 +1,9 @@
 -- Each process has a number of its own, and so has each space, below the next ones.
 use Rattle.std.proofs.Common.{◌≡◌, ℕ, ◌+◌, ◌<◌, ◌≤◌, Bool, true, false, List, [], ◌∷◌, ◌++◌, length, map, flat_map, Option, Some, None, Result, Ok, Err, ℤ, refl, sym, ap, ◌∙◌, subst, arith}
+use Rattle.kernel_laws.proofs.Stands.Starts.{start_numbered}
 use Rattle.vm_facts.specs.Answers.{ByteWrite}
 use Rattle.flat_state.specs.Space.{Space, answers_of, puts}
-use Rattle.flat_state.specs.Flat.{Holding, Holds, Lends, Zombie, Process, FlatState, NamedImage, Inputs, image_numbered, process_of, can_step, start_if, start_processes, start_state, space_held}
+use Rattle.flat_state.specs.Flat.{Holding, Holds, Lends, Zombie, Process, FlatState, NamedImage, Inputs, image_numbered, process_of, can_step, start_if, start_processes, space_held}
 use Rattle.vm_facts.specs.declared.entry.Entry.{Entry}
 use Rattle.vm_facts.specs.declared.entry.Entry.TheVariants.{Refused}
 use Rattle.vm_facts.specs.declared.regs.Regs.{Regs}
@@ -11,7 +12,7 @@ use Rattle.user_vax.specs.declared.refused.Refused.{Refused as Refusal}
 use Rattle.user_vax.specs.declared.refused.Refused.TheVariants.{Miss, Below, Signal}
 use Rattle.flat_state.specs.Journal.{units_of}
 use Rattle.flat_state.specs.Change.{changed_by, changed_if, apply_change, apply_writes, wrote_by, wrote_if, NamesChild}
-use Rattle.flat_state.specs.Numbers.{IsAbsent, AllDistinct, AllBelow, AllLower, IsNumbered}
+use Rattle.flat_state.specs.Numbers.{IsAbsent, AllDistinct, AllBelow, IsNumbered}
 use Rattle.kernel_laws.proofs.Flat.Numbers.{writes_numbered, changes_numbered}
 use Rattle.flat_state.specs.declared.change.Change.{Change}
 use Rattle.flat_state.specs.declared.change.Change.TheVariants.{Keep, Sleep, End}
@@ -94,9 +95,9 @@ of_kept images F p t true (Err (Below a)) h = after_kept images F p [] p.regs (E
 of_kept images F p t false (Err (Below a)) h = after_kept images F p [] p.regs _ tt h
 of_kept images F p t refused (Err (Signal n)) h = after_kept images F p [] p.regs (End n) tt h
 
-step_stays : (A : Inputs) (F : FlatState) (of : ℕ) (refused : Bool) → IsNumbered F → IsNumbered (flat_step A F of refused).after
+pub step_numbered : (A : Inputs) (F : FlatState) (of : ℕ) (refused : Bool) → IsNumbered F → IsNumbered (flat_step A F of refused).after
 unfolding flat_step
-step_stays A F of refused h = go (process_of F of)
+step_numbered A F of refused h = go (process_of F of)
   where
     by : (p : Process) (held : Holding) → IsNumbered (step_holding A.images F p refused held).after
     by p (Holds t) = of_kept A.images F p t refused (instruction_in t p.regs) h
@@ -106,9 +107,6 @@ step_stays A F of refused h = go (process_of F of)
     go : (o : Option Process) → IsNumbered (step_if A.images F refused o).after
     go None = h
     go (Some p) = by p p.holding
-
-pub step_numbered : (A : Inputs) (F : FlatState) (pid : ℕ) (refused : Bool) → IsNumbered F → IsNumbered (flat_step A F pid refused).after
-step_numbered A F pid refused h = step_stays A F pid refused h
 
 -- The start.
 
@@ -145,27 +143,6 @@ same_sids images (number ∷ more) n = go (image_numbered images number) (same_s
         → map (λ (s : Space). s.sid) (flat_map (λ (q : Process). space_held q.holding) (start_if n number o ++ start_processes images (n + 1) more)) ≡ pids (start_if n number o ++ start_processes images (n + 1) more)
     go None k = k
     go (Some named) k = ap (λ (ns : List ℕ). n ∷ ns) k
-
-lower_started : (images : List NamedImage) (first : List ℕ) (n : ℕ) → 0 < n → AllLower (start_processes images n first)
-lower_started images [] n some = tt
-lower_started images (number ∷ more) n some = go (image_numbered images number) (lower_started images more (n + 1) (omega arith))
-  where
-    go : (o : Option NamedImage) → AllLower (start_processes images (n + 1) more) → AllLower (start_if n number o ++ start_processes images (n + 1) more)
-    go None k = k
-    go (Some named) k = (some, k)
-
-pub start_numbered : (A : Inputs) → IsNumbered (start_state A)
-start_numbered A =
-    let own : AllDistinct (pids (start_processes A.images 1 A.first)) = distinct_started A.images A.first 1 in
-    let below : AllBelow (length A.first + 1) (pids (start_processes A.images 1 A.first)) = below_started A.images A.first 1 (length A.first + 1) (omega arith) in
-    let same = same_sids A.images A.first 1 in
-    record {
-      pids = own;
-      sids = subst (λ (ns : List ℕ). AllDistinct ns) (sym same) own;
-      pids_below = below;
-      sids_below = subst (λ (ns : List ℕ). AllBelow (length A.first + 1) ns) (sym same) below;
-      parents = lower_started A.images A.first 1 (omega arith);
-    }
 
 -- Runs.
 

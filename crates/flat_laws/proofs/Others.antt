@@ -1,6 +1,7 @@
 -- A step of one process leaves what the others hold.
 use Rattle.std.proofs.Common.{◌≡◌, ◌≢◌, ℕ, ◌==◌, Bool, true, false, not, List, [], find, Option, Some, None, Result, Ok, Err, ℤ, refl, sym, ap, ◌∙◌, subst, arith}
 use Rattle.std.proofs.lemmas.Bool.Decides.{nat_tests}
+use Rattle.std.proofs.lemmas.Bool.{eqb-true}
 use Rattle.vm_facts.specs.Answers.{ByteWrite}
 use Rattle.flat_state.specs.Space.{Space, answers_of, puts}
 use Rattle.flat_state.specs.Flat.{Holding, Holds, Lends, Zombie, Process, FlatState, NamedImage, Inputs, image_numbered, process_of, space_with}
@@ -22,17 +23,14 @@ use Rattle.flat_laws.specs.Others.{HoldsStill}
 use Rattle.flat_laws.proofs.Finding.{FoundHolding, found_replaced, found_returned, found_filtered, found_mapped, found_front, pids_replaced, holder_is_none, found_passes}
 use Rattle.flat_laws.proofs.Replies.{ReplyFits, reply_fits}
 
-number_is : (a b : ℕ) → (a == b) ≡ true → a ≡ b
-number_is a b h = grind (arith, nat_tests)
-
 -- the number of a process that is found by it
 pub number_of_found : (qs : List Process) (pid : ℕ) (p : Process) → find (λ q. q.pid == pid) qs ≡ Some p → p.pid ≡ pid
-number_of_found qs pid p h = number_is p.pid pid (found_passes (λ q. q.pid == pid) qs p h)
+number_of_found qs pid p h = eqb-true p.pid pid (found_passes (λ q. q.pid == pid) qs p h)
 
 -- all but the processes of another number
 pub without_stays : (qs : List Process) (of pid : ℕ) (s : Space) → of ≢ pid → FoundHolding qs pid s → FoundHolding (Rattle.std.specs.Prelude.filter (λ q. not (q.pid == of)) qs) pid s
 without_stays qs of pid s other h =
-    found_filtered (λ q. not (q.pid == of)) qs pid s (λ q holds k. let apart : (q.pid == of) ≡ false = (let is : q.pid ≡ pid = number_is q.pid pid k in grind (arith, nat_tests)) in ap not apart) h
+    found_filtered (λ q. not (q.pid == of)) qs pid s (λ q holds k. let apart : (q.pid == of) ≡ false = (let is : q.pid ≡ pid = eqb-true q.pid pid k in grind (arith, nat_tests)) in ap not apart) h
 
 -- Changes.
 

@@ -22,7 +22,6 @@ ghost use Rattle.user_vax.specs.Effects.{Effect};
 ghost use Rattle.user_vax.specs.Instruction.{instruction};
 ghost use Rattle.user_vax.specs.Program.{run};
 ghost use Rattle.flat_state.specs.declared.change.Change.{Change};
-ghost use Rattle.flat_state.specs.Change.{apply_writes};
 ghost use Rattle.kernel_model.specs.Kernel.{Kernel};
 ghost use Rattle.kernel_model.specs.Coupled.{SameTables};
 ghost use Rattle.kernel_model.specs.Sound.{TextFits};
@@ -32,9 +31,8 @@ ghost use Rattle.kernel_model.specs.Numbers.{Numbered};
 ghost use Rattle.kernel_model.specs.Start.{ImagesFit};
 ghost use Rattle.flat_model.specs.Asked.{change_wanted, asks};
 ghost use Rattle.flat_model.specs.declared.calls.SystemCall.{SystemCall};
-ghost use Rattle.flat_model.specs.Calls.{call_of, reply_of};
 ghost use Rattle.flat_model.specs.Instruction.{instruction_in};
-ghost use Rattle.flat_model.specs.Step.{flat_step, written_process};
+ghost use Rattle.flat_model.specs.Step.{flat_step, reply_asked};
 ghost use Rattle.flat_model.specs.Run.{Point, is_refused, act, process_of_entry, flat_entry, flat_run};
 ghost use Rattle.flat_model.specs.Touched.{touched};
 ghost use Rattle.flat_model.specs.Shown.{shown};
@@ -62,7 +60,8 @@ pub fn touched_is_enough()
         → p.holding ≡ Holds s → run (shown s (touched A F pid)) (instruction p.regs) ≡ instruction_in s p.regs }
     ensures reply { (A : Inputs) (F : FlatState) (pid : ℕ) (p : Process) (s : Space) (effect : Effect) (call : SystemCall)
         → process_of F pid ≡ Some p → is_ready p ≡ true → p.holding ≡ Holds s → instruction_in s p.regs ≡ Ok effect → IsCallOf effect call
-        → run (shown (puts s effect.writes) (touched A F pid)) (reply_of A.images (apply_writes F p.pid effect.writes) (written_process p s effect.writes) (puts s effect.writes) call effect.regs) ≡ run (answers_of (puts s effect.writes)) (reply_of A.images (apply_writes F p.pid effect.writes) (written_process p s effect.writes) (puts s effect.writes) call effect.regs) }
+        → run (shown (puts s effect.writes) (touched A F pid)) (reply_asked A.images F p s call effect)
+        ≡ run (answers_of (puts s effect.writes)) (reply_asked A.images F p s call effect) }
     ensures writes { (A : Inputs) (F : FlatState) (pid : ℕ) (p : Process) (s : Space) (refused : Bool) → process_of F pid ≡ Some p
         → is_ready p ≡ true → p.holding ≡ Holds s → AreOf s (touched A F pid) (flat_step A F pid refused).writes }
 {}

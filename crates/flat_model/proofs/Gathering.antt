@@ -54,7 +54,7 @@ gathered_all memory bytes address = ap (λ (x : List ℕ). Ok x) (append-nil byt
 pub past_one : (address index : ℕ) → past (past address index) 1 ≡ past address (index + 1)
 past_one address index = omega arith
 
-left_one : (count index : ℕ) → index < count → count - index ≡ suc (count - (index + 1))
+pub left_one : (count index : ℕ) → index < count → count - index ≡ suc (count - (index + 1))
 left_one count index below = omega arith
 
 -- The bytes so far and what is left come to all: so it is when the next byte is read, is refused, and at the end.
@@ -163,9 +163,3 @@ spells_none memory limit address index bytes h above =
     h
     ∙ ap (λ (n : ℕ). after_string bytes (run memory (string_from n (past address index)))) (let e : limit - index ≡ 0 = omega arith in e)
     ∙ string_none memory bytes (past address index)
-
--- none read yet
-pub spells_nothing : (rest : Result (Option (List ℕ)) Refused) → rest ≡ after_string [] rest
-spells_nothing (Ok (Some more)) = refl
-spells_nothing (Ok None) = refl
-spells_nothing (Err refused) = refl

@@ -1,6 +1,7 @@
 -- Arguments that are read one after another.
 use Rattle.std.proofs.Common.{◌≡◌, ℕ, zero, suc, ◌+◌, ◌-◌, ◌*◌, ◌<◌, List, [], ◌∷◌, ◌++◌, Option, Some, None, Result, Ok, Err, refl, sym, ap, ◌∙◌, append_assoc, arith}
 use Rattle.std.proofs.lemmas.List.{append-nil}
+use Rattle.flat_model.proofs.Gathering.{left_one}
 use Rattle.vm_facts.specs.Answers.{Answers}
 use Rattle.user_vax.specs.declared.refused.Refused.{Refused}
 use Rattle.user_vax.specs.Program.{Program, Gives, run}
@@ -41,9 +42,6 @@ moved front string (Err refused) = refl
 
 past_four : (address index : ℕ) → past (past address (4 * index)) 4 ≡ past address (4 * (index + 1))
 past_four address index = omega arith
-
-left_one : (count index : ℕ) → index < count → count - index ≡ suc (count - (index + 1))
-left_one count index below = omega arith
 
 -- The arguments so far and what is left come to all.
 abbrev pub Lists : Answers → ℕ → ℕ → ℕ → List (List ℕ) → Type 0

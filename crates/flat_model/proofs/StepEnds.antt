@@ -1,6 +1,7 @@
 -- The entries of a step: none; one that completes it; or an `Out` and its `Call`.
-use Rattle.std.proofs.Common.{◌≡◌, ℕ, ◌==◌, Bool, true, false, List, [], ◌∷◌, Option, Some, None, Result, Ok, Err, ℤ, refl, subst, arith, eq-eqb, cond, find}
+use Rattle.std.proofs.Common.{◌≡◌, ℕ, ◌==◌, Bool, true, false, List, [], ◌∷◌, Option, Some, None, Result, Ok, Err, ℤ, refl, subst, arith, cond, find}
 use Rattle.std.proofs.lemmas.Bool.Decides.{nat_tests}
+use Rattle.vm_facts.proofs.Tests.{eq_self}
 use Rattle.flat_state.specs.Space.{Space}
 use Rattle.flat_state.specs.Flat.{Holding, Holds, Lends, Zombie, Process, FlatState, NamedImage, Inputs, process_of, can_step}
 use Rattle.vm_facts.specs.declared.regs.Regs.{Regs}
@@ -89,13 +90,10 @@ pub data Outcome (pid : ℕ) (es : List Entry) : Type 0 where
   Missed : es ≡ [] → Outcome pid es
   Says : (e : Entry) → IsStepEnd pid e → is_outcome_of pid e ≡ true → es ≡ e ∷ [] → Outcome pid es
 
-self : (n : ℕ) → (n == n) ≡ true
-self n = eq-eqb n n refl
-
 does_outcome : (images : List NamedImage) (F : FlatState) (p : Process) (call : SystemCall) (effect : Effect) (b : Bool) (regs : Regs) (change : Change)
     → Outcome p.pid (replied_step images F p call effect (unless_refused b (Does regs change))).entries
-does_outcome images F p call effect true regs change = Says _ refl (self p.pid) refl
-does_outcome images F p call effect false regs change = Says _ refl (self p.pid) refl
+does_outcome images F p call effect true regs change = Says _ refl (eq_self p.pid) refl
+does_outcome images F p call effect false regs change = Says _ refl (eq_self p.pid) refl
 
 replied_outcome : (images : List NamedImage) (F : FlatState) (p : Process) (s : Space) (call : SystemCall) (effect : Effect) (reply : Reply)
     → (change_wanted images F s (replied_step images F p call effect reply).change ≡ [] → ⊥)
@@ -104,7 +102,7 @@ replied_outcome images F p s call effect (Fails error) n = absurd (n refl)
 replied_outcome images F p s call effect (Does regs change) n = does_outcome images F p call effect (wants_space change) regs change
 replied_outcome images F p s call effect (Writes bytes) n = absurd (n refl)
 replied_outcome images F p s call effect Waits n = absurd (n refl)
-replied_outcome images F p s call effect (Exits status) n = Says _ refl (self p.pid) refl
+replied_outcome images F p s call effect (Exits status) n = Says _ refl (eq_self p.pid) refl
 
 called_outcome : (images : List NamedImage) (F : FlatState) (p : Process) (s : Space) (effect : Effect) (o : Option SystemCall)
     → (change_wanted images F s (called_step images F p s false effect o).change ≡ [] → ⊥) → Outcome p.pid (called_step images F p s true effect o).entries
@@ -120,7 +118,7 @@ of_outcome : (images : List NamedImage) (F : FlatState) (p : Process) (s : Space
     → (change_wanted images F s (step_of images F p s false r).change ≡ [] → ⊥) → Outcome p.pid (step_of images F p s true r).entries
 of_outcome images F p s (Ok effect) n = behind_outcome images F p s effect effect.call n
 of_outcome images F p s (Err (Miss address write)) n = absurd (n refl)
-of_outcome images F p s (Err (Below address)) n = Says _ refl (self p.pid) refl
+of_outcome images F p s (Err (Below address)) n = Says _ refl (eq_self p.pid) refl
 of_outcome images F p s (Err (Signal number)) n = absurd (n refl)
 
 holding_outcome : (images : List NamedImage) (F : FlatState) (p : Process) (h : Holding)
@@ -144,9 +142,6 @@ refused_outcome A F pid n = go (can_step F pid) n
     go false k = absurd (k refl)
 
 -- A step that writes asks for no pieces.
-
-none_begin : (p : ℕ) (bytes : List ℕ) (behind : List Entry) → [] ≡ Out p bytes ∷ behind → ⊥
-none_begin p bytes behind h = absurd cc
 
 replied_writes : (images : List NamedImage) (F : FlatState) (p : Process) (s : Space) (call : SystemCall) (effect : Effect) (reply : Reply) (pid : ℕ) (bytes : List ℕ) (behind : List Entry)
     → (replied_step images F p call effect reply).entries ≡ Out pid bytes ∷ behind → change_wanted images F s (replied_step images F p call effect reply).change ≡ []

@@ -10,12 +10,6 @@ use Rattle.flat_model.specs.Arguments.{AreArguments}
 pub item_more : {X : Type 0} (xs : List X) (i : ℕ) (x : X) → i < length xs → x ≡ get_or xs i x → drop i xs ≡ x ∷ drop (i + 1) xs
 item_more xs i x below e = drop_more xs i x below ∙ ap (λ y. y ∷ drop (i + 1) xs) (sym e)
 
-pub strings_step : (front x : List ℕ) (rest : List (List ℕ)) → ((front ++ x) ++ 0 ∷ []) ++ strings_of rest ≡ front ++ strings_of (x ∷ rest)
-strings_step front x rest =
-    append_assoc (front ++ x) (0 ∷ []) (strings_of rest)
-    ∙ append_assoc front x (0 ∷ strings_of rest)
-    ∙ ap (λ (y : List ℕ). front ++ y) (sym (append_assoc x (0 ∷ []) (strings_of rest)))
-
 pub strings_count : (x : List ℕ) (rest : List (List ℕ)) → length (strings_of (x ∷ rest)) ≡ length x + 1 + length (strings_of rest)
 strings_count x rest =
     length-append (x ++ 0 ∷ []) (strings_of rest) ∙ ap (λ (n : ℕ). n + length (strings_of rest)) (length-append x (0 ∷ []))
@@ -27,10 +21,6 @@ strings_short (x ∷ xs) h =
     let first : length x < 64 = (recursion_from_All (λ (y : List ℕ). length y < 64) (x ∷ xs) h).0 in
     let count = strings_count x xs in
     omega arith
-
-pub pointers_step : (front : List ℕ) (address : ℕ) (x : List ℕ) (rest : List (List ℕ))
-    → (front ++ word_bytes address) ++ pointers_from (address + length x + 1) rest ≡ front ++ pointers_from address (x ∷ rest)
-pointers_step front address x rest = append_assoc front (word_bytes address) (pointers_from (address + length x + 1) rest)
 
 pub pointers_count : (address : ℕ) (xs : List (List ℕ)) → length (pointers_from address xs) ≡ 4 * length xs
 pointers_count address [] = refl

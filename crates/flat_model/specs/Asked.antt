@@ -1,4 +1,7 @@
--- The pieces of swap space that a process's next instruction asks for, and who holds which pieces.
+-- The pieces of swap space that a process's next instruction asks for, and who holds which pieces, as the flat state
+-- says: by the bytes of the spaces, and by whether another process has the image. A machine says the same by its
+-- placement, in `change_asks` and `holdings_after` of kernel_model. The two views are joined by `asks_agree` of flat_laws,
+-- for what is asked, and by `machines_stand` of run_laws, for what is held.
 use Rattle.std.specs.Prelude.{ℕ, ◌+◌, ◌*◌, ◌==◌, Bool, true, false, ◌||◌, List, [], ◌∷◌, ◌++◌, length, drop, find, Option, Some, None, Result, Ok, Err}
 use Rattle.flat_state.specs.Space.{Space}
 use Rattle.flat_state.specs.Flat.{Holding, Holds, Lends, Zombie, Process, FlatState, NamedImage, Inputs, image_numbered, process_of, can_step}
@@ -10,7 +13,7 @@ use Rattle.swap_book.specs.declared.Owner.TheVariants as owners
 use Rattle.swap_book.specs.Owners.{pieces_of}
 use Rattle.swap_book.specs.Holdings.{Holdings, kept}
 use Rattle.swap_book.specs.Placing.{Wanted, wanted, place_all}
-use Rattle.flat_state.specs.Change.{lends_to}
+use Rattle.flat_state.specs.Change.{is_borrower}
 use Rattle.flat_state.specs.Journal.{units_of}
 use Rattle.flat_state.specs.declared.change.Change.{Change}
 use Rattle.flat_state.specs.declared.change.Change.TheVariants.{Keep, Resize, Fork, Lend, Exec, Reap, Sleep, End}
@@ -94,8 +97,8 @@ asks A F pid = asks_by (can_step F pid) A F pid
 -- What is held.
 
 -- the holdings without an owner's
-abbrev pub without : Owner → Holdings → Holdings
-without owner hs = kept owner 0 hs
+abbrev pub without_owner : Owner → Holdings → Holdings
+without_owner owner hs = kept owner 0 hs
 
 -- the holdings with an owner's first pieces alone, which are those of so many pages
 abbrev pub with_pages : Owner → ℕ → Holdings → Holdings
@@ -103,20 +106,16 @@ with_pages owner pages hs = kept owner (length (pieces_for owner pages)) hs
 
 abbrev pub without_text : Bool → ℕ → Holdings → Holdings
 without_text true image hs = hs
-without_text false image hs = without (owners.Text image) hs
+without_text false image hs = without_owner (owners.Text image) hs
 
 -- a space is given up: its text is with the last space that shares it, by the state afterwards
 abbrev pub without_space : FlatState → Space → Holdings → Holdings
 without_space after s hs =
-    without_text (is_shared after s.image) s.image (without (owners.Stack s.sid) (without (owners.Data s.sid) hs))
+    without_text (is_shared after s.image) s.image (without_owner (owners.Stack s.sid) (without_owner (owners.Data s.sid) hs))
 
 abbrev pub without_own : Bool → FlatState → Space → Holdings → Holdings
 without_own true after s hs = hs
 without_own false after s hs = without_space after s hs
-
--- the process borrowed its space
-abbrev pub is_borrower : FlatState → ℕ → Bool
-is_borrower F pid = is_there (find (λ q. lends_to pid q.holding) F.processes)
 
 abbrev pub or_before : Holdings → Result Holdings ℕ → Holdings
 or_before hs (Ok now) = now
@@ -130,8 +129,8 @@ with_pieces A ws hs = or_before hs (place_all A.swap_blocks hs ws)
 abbrev pub given_up : FlatState → FlatState → ℕ → Space → Change → Holdings → Holdings
 given_up F after pid s (Resize data_pages stack_pages) hs =
     with_pages (owners.Stack s.sid) stack_pages (with_pages (owners.Data s.sid) data_pages hs)
-given_up F after pid s (Exec image top) hs = without_own (is_borrower F pid) after s hs
-given_up F after pid s (End status) hs = without_own (is_borrower F pid) after s (without (owners.U pid) hs)
+given_up F after pid s (Exec image top) hs = without_own (is_borrower F.processes pid) after s hs
+given_up F after pid s (End status) hs = without_own (is_borrower F.processes pid) after s (without_owner (owners.U pid) hs)
 given_up F after pid s Keep hs = hs
 given_up F after pid s (Fork child) hs = hs
 given_up F after pid s (Lend child) hs = hs

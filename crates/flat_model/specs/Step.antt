@@ -6,7 +6,7 @@ use Rattle.flat_state.specs.Flat.{Holding, Holds, Lends, Zombie, Process, FlatSt
 use Rattle.vm_facts.specs.declared.regs.Regs.{Regs}
 use Rattle.vm_facts.specs.declared.entry.Entry.{Entry}
 use Rattle.vm_facts.specs.declared.entry.Entry.TheVariants.{Ran, Out, Grew, Call, Sleeps, Ended}
-use Rattle.user_vax.specs.Program.{run}
+use Rattle.user_vax.specs.Program.{Program, run}
 use Rattle.user_vax.specs.Effects.{Effect}
 use Rattle.user_vax.specs.Operands.{register}
 use Rattle.user_vax.specs.declared.refused.Refused.{Refused}
@@ -84,11 +84,15 @@ replied_step images F p call effect (Exits status) = ended_step images F p effec
 abbrev pub written_process : Process → Space → List ByteWrite → Process
 written_process p s writes = record p { holding = Holds (puts s writes) }
 
+-- what a call asks of the memory for its reply, behind the writes of its instruction
+abbrev pub reply_asked : List NamedImage → FlatState → Process → Space → SystemCall → Effect → Program Reply
+reply_asked images F p s call effect =
+    reply_of images (apply_writes F p.pid effect.writes) (written_process p s effect.writes) (puts s effect.writes) call effect.regs
+
 -- the reply of a call, made behind the instruction
 abbrev pub reply_behind : List NamedImage → FlatState → Process → Space → Bool → SystemCall → Effect → Reply
 reply_behind images F p s refused call effect =
-    refused_reply refused (or_fault (run (answers_of (puts s effect.writes))
-    (reply_of images (apply_writes F p.pid effect.writes) (written_process p s effect.writes) (puts s effect.writes) call effect.regs)))
+    refused_reply refused (or_fault (run (answers_of (puts s effect.writes)) (reply_asked images F p s call effect)))
 
 -- a call that isn't one of the eight ends the process by signal 12
 abbrev pub called_step : List NamedImage → FlatState → Process → Space → Bool → Effect → Option SystemCall → Step

@@ -199,18 +199,6 @@ push_last e j p n h = push_joined e j (Ran p n) (λ last k. go last (λ m r. h m
     go (Ran q m) k = by (q == p) q m refl k
     go _ k = refl
 
--- a last `Hands` is raised in place
-pub raise_hands : (e : Entry) (j : List Entry) (m n : ℕ) → get_or (e ∷ j) (length j) Done ≡ Hands m → set (e ∷ j) (length j) (Hands (m + n)) ≡ append_after e j (Hands n)
-raise_hands e j m n h = raise_joined e j (Hands m) (Hands (m + n)) (Hands n) refl h
-
--- another last entry has the `Hands` after it
-pub push_hands : (e : Entry) (j : List Entry) (n : ℕ) → ((m : ℕ) → get_or (e ∷ j) (length j) Done ≡ Hands m → ⊥) → e ∷ j ++ Hands n ∷ [] ≡ append_after e j (Hands n)
-push_hands e j n h = push_joined e j (Hands n) (λ last k. go last (λ m r. h m (k ∙ r)))
-  where
-    go : (x : Entry) → ((m : ℕ) → x ≡ Hands m → ⊥) → join x (Hands n) ≡ x ∷ Hands n ∷ []
-    go (Hands m) k = absurd (k m refl)
-    go _ k = refl
-
 -- a last `Ran` counts no more than the journal
 pub last_counted : (e : Entry) (j : List Entry) (p m : ℕ) → get_or (e ∷ j) (length j) Done ≡ Ran p m → m ≤ instructions_of (e ∷ j)
 last_counted e [] p m h = subst (λ (x : Entry). m ≤ counted x + 0) (sym h) (omega arith)

@@ -1,3 +1,5 @@
 pub mod Joins
+pub mod PageNames
+pub mod Processes
 pub mod Spots
 pub mod SpaceLaws

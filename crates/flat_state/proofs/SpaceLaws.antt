@@ -2,6 +2,7 @@
 use Rattle.std.proofs.Common.{◌≡◌, ℕ, ◌-◌, ◌*◌, ◌/◌, ◌%◌, ◌≤◌, ◌==◌, ◌⊎◌, inl, inr, Bool, false, List, [], ◌∷◌, ◌++◌, length, refl, sym, ap, ◌∙◌, subst, arith, eq-eqb}
 use Rattle.std.proofs.lemmas.Bool.{cases_eq}
 use Rattle.std.proofs.lemmas.Bool.Decides.{nat_tests}
+use Rattle.std.proofs.lemmas.Grind.{common_steps}
 use Rattle.std.proofs.lemmas.List.{length-set, get_or-set_same, get_or-set_other}
 use Rattle.vm_facts.specs.Answers.{Answers, ByteWrite, read_by, put as put_in, written}
 use Rattle.flat_state.specs.Space.{Space, spot_at, stack_top, address_in, byte_at, may_write_at, answers_of, put_at, put, puts}
@@ -9,6 +10,7 @@ use Rattle.vm_facts.specs.declared.memory.ByteRead.TheVariants as reads
 use Rattle.vm_facts.specs.declared.memory.MayWrite.TheVariants as tests
 use Rattle.flat_state.specs.declared.spot.Spot.{Spot}
 use Rattle.flat_state.specs.declared.spot.Spot.TheVariants.{Text, Data, Stack, Below, Outside}
+use Rattle.flat_state.specs.Change.{resized_bytes}
 use Rattle.flat_state.specs.Writes.{IsWithin, MayPut, Wrote}
 use Rattle.flat_state.proofs.Spots.{text_spot, data_spot, stack_spot, OfStack, stack_index_once, stack_index_within}
 
@@ -107,3 +109,21 @@ wrote_more a b c (x ∷ xs) ys h k = (h.0, wrote_more (put a x) b c xs ys h.1 k)
 pub wrote_puts : (old new : Space) (ws : List ByteWrite) → Wrote old ws new → new ≡ puts old ws
 wrote_puts old new [] h = sym h
 wrote_puts old new (w ∷ ws) h = wrote_puts (put old w) new ws h.1
+
+-- A write leaves the number of the space.
+
+pub put_sid : (s : Space) (spot : Spot) (byte : ℕ) → (put_at s spot byte).sid ≡ s.sid
+put_sid s (Text i) byte = refl
+put_sid s (Data i) byte = refl
+put_sid s (Stack i) byte = refl
+put_sid s Below byte = refl
+put_sid s Outside byte = refl
+
+pub puts_sid : (ws : List ByteWrite) (s : Space) → (puts s ws).sid ≡ s.sid
+puts_sid [] s = refl
+puts_sid (w ∷ ws) s = puts_sid ws (put s w) ∙ put_sid s (address_in s w.address) w.byte
+
+-- Other sizes.
+
+pub length-resized_bytes : (pages : ℕ) (bytes : List ℕ) → length (resized_bytes pages bytes) ≡ 1024 * pages
+length-resized_bytes pages bytes = grind (arith, common_steps)

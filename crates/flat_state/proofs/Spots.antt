@@ -1,6 +1,6 @@
 -- What the spot of an address says of the address.
-use Rattle.std.proofs.Common.{◌≡◌, ℕ, ◌+◌, ◌-◌, ◌*◌, ◌<◌, ◌≤◌, Bool, true, false, ◌&&◌, ltb, leb, refl, sym, arith}
-use Rattle.std.proofs.lemmas.Bool.{ltb-true}
+use Rattle.std.proofs.Common.{◌≡◌, ℕ, ◌+◌, ◌-◌, ◌*◌, ◌<◌, ◌≤◌, Bool, true, false, ltb, leb, refl, sym, arith}
+use Rattle.std.proofs.lemmas.Bool.{ltb-true, and_parts}
 use Rattle.std.proofs.lemmas.Bool.Decides.{nat_tests}
 use Rattle.flat_state.specs.declared.spot.Spot.TheVariants.{Text, Data, Stack}
 use Rattle.flat_state.specs.Space.{spot_by, spot_at, stack_top, stack_index}
@@ -25,10 +25,6 @@ by_stack false true d e t a i h = cc
 by_stack false false true e t a i h = (refl, cc)
 by_stack false false false true t a i h = cc
 by_stack false false false false t a i h = cc
-
-both_true : (x y : Bool) → (x && y) ≡ true → (x ≡ true) × (y ≡ true)
-both_true true y h = (refl, h)
-both_true false y h = cc
 
 -- a byte of the text
 pub text_spot : (t d s a i : ℕ) → spot_at t d s a ≡ Text i → (a ≡ i) × (i < t)
@@ -57,7 +53,7 @@ pub stack_spot : (t d s a i : ℕ) → spot_at t d s a ≡ Stack i → OfStack s
 unfolding spot_at
 stack_spot t d s a i h =
     let found = by_stack (ltb a t) (ltb a (t + d)) _ _ t a i h in
-    let tests = both_true (leb (stack_top - s) a) (ltb a stack_top) found.0 in
+    let tests = and_parts (leb (stack_top - s) a) (ltb a stack_top) found.0 in
     let low : leb (stack_top - s) a ≡ true = tests.0 in
     record {
       index = sym found.1;

@@ -1,5 +1,5 @@
 -- What the changes, by which the steps of processes end, do to the flat machine's state.
-use Rattle.std.specs.Prelude.{ℕ, ◌+◌, ◌-◌, ◌*◌, ◌==◌, Bool, true, false, not, ◌&&◌, List, [], ◌∷◌, ◌++◌, length, map, filter, take, replicate, slice_set, Option, Some, None, if◌then◌else◌, ◌≡◌}
+use Rattle.std.specs.Prelude.{ℕ, ◌+◌, ◌-◌, ◌*◌, ◌==◌, Bool, true, false, not, ◌&&◌, ◌||◌, List, [], ◌∷◌, ◌++◌, length, map, filter, take, replicate, slice_set, Option, Some, None, if◌then◌else◌, ◌≡◌}
 use Rattle.vm_facts.specs.Answers.{ByteWrite}
 use Rattle.flat_state.specs.Space.{Space, puts}
 use Rattle.flat_state.specs.Flat.{Holding, Holds, Lends, Zombie, Process, FlatState, NamedImage, image_numbered, process_of, space_with}
@@ -70,6 +70,11 @@ abbrev pub lends_to : ℕ → Holding → Bool
 lends_to pid (Holds s) = false
 lends_to pid (Lends sid child) = child == pid
 lends_to pid (Zombie status) = false
+
+-- somebody lent the process its space
+abbrev pub is_borrower : List Process → ℕ → Bool
+is_borrower [] pid = false
+is_borrower (q ∷ qs) pid = lends_to pid q.holding || is_borrower qs pid
 
 abbrev pub returned_by : Bool → Space → Process → List Process → List Process → List Process
 returned_by true s q more changed = record q { holding = Holds s } ∷ more

@@ -3,7 +3,7 @@ use Rattle.std.proofs.Common.{◌≡◌, ◌≤◌, ◌+◌, ◌*◌, ℕ, List,
 use Rattle.std.proofs.lemmas.List.{append-nil, nil_from_length, length-take-le, length-drop, drop-append-le, take-append-le, take-append-drop, drop-drop}
 use Rattle.std.proofs.lemmas.Slice.{drop-append-drop}
 use Rattle.std.proofs.Math.Seq.{drop-append_seam, take-append_seam, take-add, take-length}
-use Rattle.io_edge.specs.SwapImage.{page_at, put_page}
+use Rattle.vm_facts.specs.Swap.{blocks_at, put_blocks}
 use Rattle.io_edge.specs.Striping.{block_at}
 
 -- so many elements from a place on
@@ -29,49 +29,36 @@ part-append start count xs ys within =
     ap (λ (rest : List ℕ). take count rest) (drop-append-le start xs ys begins) ∙ take-append-le count (drop start xs) ys ends
 
 -- a write into the front
-pub put_page-append : (block : ℕ) (bytes xs ys : List ℕ) → 512 * block + 1024 ≤ length xs → put_page (xs ++ ys) block bytes ≡ put_page xs block bytes ++ ys
-unfolding put_page
-put_page-append block bytes xs ys within =
+pub put_blocks-append : (block : ℕ) (bytes xs ys : List ℕ) → 512 * block + 1024 ≤ length xs → put_blocks (xs ++ ys) block bytes ≡ put_blocks xs block bytes ++ ys
+unfolding put_blocks
+put_blocks-append block bytes xs ys within =
     let begins : 512 * block ≤ length xs = omega arith in
     ap (λ (front : List ℕ). front ++ bytes ++ drop (512 * block + 1024) (xs ++ ys)) (take-append-le (512 * block) xs ys begins)
     ∙ ap (λ (back : List ℕ). take (512 * block) xs ++ bytes ++ back) (drop-append-le (512 * block + 1024) xs ys within)
     ∙ sym (append_assoc (take (512 * block) xs ++ bytes) (drop (512 * block + 1024) xs) ys)
 
 -- a write at the end
-pub put_page_last : (block : ℕ) (bytes front page : List ℕ) → length front ≡ 512 * block → length page ≡ 1024 → put_page (front ++ page) block bytes ≡ front ++ bytes
-unfolding put_page
-put_page_last block bytes front page begins whole =
+pub put_blocks_last : (block : ℕ) (bytes front page : List ℕ) → length front ≡ 512 * block → length page ≡ 1024 → put_blocks (front ++ page) block bytes ≡ front ++ bytes
+unfolding put_blocks
+put_blocks_last block bytes front page begins whole =
     let ends : drop (512 * block + 1024) (front ++ page) ≡ [] = nil_from_length (drop (512 * block + 1024) (front ++ page)) (omega (arith, length-drop (512 * block + 1024) (front ++ page), length-append front page)) in
     ap (λ (xs : List ℕ). xs ++ bytes ++ drop (512 * block + 1024) (front ++ page)) (take_at (512 * block) front page begins)
     ∙ ap (λ (back : List ℕ). front ++ bytes ++ back) ends
     ∙ append-nil (front ++ bytes)
 
 -- a read at the end
-pub page_at_last : (block : ℕ) (front page : List ℕ) → length front ≡ 512 * block → length page ≡ 1024 → page_at (front ++ page) block ≡ page
-unfolding page_at
-page_at_last block front page begins whole =
+pub blocks_at_last : (block : ℕ) (front page : List ℕ) → length front ≡ 512 * block → length page ≡ 1024 → blocks_at (front ++ page) block ≡ page
+unfolding blocks_at
+blocks_at_last block front page begins whole =
     ap (λ (xs : List ℕ). take 1024 xs) (drop_at (512 * block) front page begins)
     ∙ subst (λ (n : ℕ). take n page ≡ page) whole (take-length page)
 
 -- a page is two blocks
-pub page_blocks : (image : List ℕ) (block : ℕ) → page_at image block ≡ block_at image block ++ block_at image (suc block)
-unfolding page_at block_at
+pub page_blocks : (image : List ℕ) (block : ℕ) → blocks_at image block ≡ block_at image block ++ block_at image (suc block)
+unfolding blocks_at block_at
 page_blocks image block =
     take-add 512 512 (drop (512 * block) image)
     ∙ ap (λ (rest : List ℕ). take 512 (drop (512 * block) image) ++ take 512 rest) (drop-drop 512 (512 * block) image ∙ ap (λ (n : ℕ). drop n image) (omega arith))
-
--- a write leaves the length
-pub length-put_part : (start count : ℕ) (bytes xs : List ℕ) → start + count ≤ length xs → length bytes ≡ count → length (put_part start count bytes xs) ≡ length xs
-length-put_part start count bytes xs within whole =
-    omega (arith, length-append (take start xs ++ bytes) (drop (start + count) xs), length-append (take start xs) bytes, length-take-le start xs, length-drop (start + count) xs)
-
--- the part that was written
-pub part-put_part_same : (start count : ℕ) (bytes xs : List ℕ) → start + count ≤ length xs → length bytes ≡ count → part start count (put_part start count bytes xs) ≡ bytes
-part-put_part_same start count bytes xs within whole =
-    let front : length (take start xs) ≡ start = length-take-le start xs (omega arith) in
-    ap (λ (ys : List ℕ). part start count ys) (append_assoc (take start xs) bytes (drop (start + count) xs))
-    ∙ ap (λ (ys : List ℕ). take count ys) (drop_at start (take start xs) (bytes ++ drop (start + count) xs) front)
-    ∙ take_at count bytes (drop (start + count) xs) whole
 
 -- a part before the one that was written
 pub part-put_part_before : (at count start size : ℕ) (bytes xs : List ℕ) → start + size ≤ at → at ≤ length xs → part start size (put_part at count bytes xs) ≡ part start size xs
@@ -87,38 +74,22 @@ pub part-put_part_behind : (at count start size : ℕ) (bytes xs : List ℕ) →
 part-put_part_behind at count start size bytes xs behind within whole =
     ap (λ (ys : List ℕ). take size ys) (drop-append-drop (at + count) xs (take at xs ++ bytes) start behind (length-append (take at xs) bytes ∙ omega (arith, length-take-le at xs)))
 
--- a write leaves the length of the image
-pub length-put_page : (block : ℕ) (bytes image : List ℕ) → 512 * block + 1024 ≤ length image → length bytes ≡ 1024 → length (put_page image block bytes) ≡ length image
-unfolding put_page
-length-put_page block bytes image within whole = length-put_part (512 * block) 1024 bytes image within whole
-
--- the page that was written
-pub page_at-put_page_same : (block : ℕ) (bytes image : List ℕ) → 512 * block + 1024 ≤ length image → length bytes ≡ 1024 → page_at (put_page image block bytes) block ≡ bytes
-unfolding page_at put_page
-page_at-put_page_same block bytes image within whole = part-put_part_same (512 * block) 1024 bytes image within whole
-
--- another page
-pub page_at-put_page_other : (block other : ℕ) (bytes image : List ℕ) → (other + 2 ≤ block) ⊎ (block + 2 ≤ other) → 512 * block + 1024 ≤ length image → length bytes ≡ 1024 → page_at (put_page image block bytes) other ≡ page_at image other
-unfolding page_at put_page
-page_at-put_page_other block other bytes image (inl before) within whole = part-put_part_before (512 * block) 1024 (512 * other) 1024 bytes image (omega arith) (omega arith)
-page_at-put_page_other block other bytes image (inr behind) within whole = part-put_part_behind (512 * block) 1024 (512 * other) 1024 bytes image (omega arith) (omega arith) whole
-
 -- another block
-pub block_at-put_page_other : (block other : ℕ) (bytes image : List ℕ) → (other < block) ⊎ (suc block < other) → 512 * block + 1024 ≤ length image → length bytes ≡ 1024 → block_at (put_page image block bytes) other ≡ block_at image other
-unfolding block_at put_page
-block_at-put_page_other block other bytes image (inl before) within whole = part-put_part_before (512 * block) 1024 (512 * other) 512 bytes image (omega arith) (omega arith)
-block_at-put_page_other block other bytes image (inr behind) within whole = part-put_part_behind (512 * block) 1024 (512 * other) 512 bytes image (omega arith) (omega arith) whole
+pub block_at-put_blocks_other : (block other : ℕ) (bytes image : List ℕ) → (other < block) ⊎ (suc block < other) → 512 * block + 1024 ≤ length image → length bytes ≡ 1024 → block_at (put_blocks image block bytes) other ≡ block_at image other
+unfolding block_at put_blocks
+block_at-put_blocks_other block other bytes image (inl before) within whole = part-put_part_before (512 * block) 1024 (512 * other) 512 bytes image (omega arith) (omega arith)
+block_at-put_blocks_other block other bytes image (inr behind) within whole = part-put_part_behind (512 * block) 1024 (512 * other) 512 bytes image (omega arith) (omega arith) whole
 
 -- a page that is written as it stands
-pub put_page-page_at : (image : List ℕ) (block : ℕ) → put_page image block (page_at image block) ≡ image
-unfolding page_at put_page
-put_page-page_at image block =
+pub put_blocks-blocks_at : (image : List ℕ) (block : ℕ) → put_blocks image block (blocks_at image block) ≡ image
+unfolding blocks_at put_blocks
+put_blocks-blocks_at image block =
     append_assoc (take (512 * block) image) (take 1024 (drop (512 * block) image)) (drop (512 * block + 1024) image)
     ∙ ap (λ (back : List ℕ). take (512 * block) image ++ (take 1024 (drop (512 * block) image) ++ back)) (sym (drop-drop 1024 (512 * block) image))
     ∙ ap (λ (back : List ℕ). take (512 * block) image ++ back) (take-append-drop 1024 (drop (512 * block) image))
     ∙ take-append-drop (512 * block) image
 
 -- the length of a page
-pub length-page_at : (image : List ℕ) (block : ℕ) → 512 * block + 1024 ≤ length image → length (page_at image block) ≡ 1024
-unfolding page_at
-length-page_at image block within = length-take-le 1024 (drop (512 * block) image) (omega (arith, length-drop (512 * block) image))
+pub length-blocks_at : (image : List ℕ) (block : ℕ) → 512 * block + 1024 ≤ length image → length (blocks_at image block) ≡ 1024
+unfolding blocks_at
+length-blocks_at image block within = length-take-le 1024 (drop (512 * block) image) (omega (arith, length-drop (512 * block) image))

@@ -1,9 +1,11 @@
 -- A page that is written to a pair of devices.
 use Rattle.std.proofs.Common.{◌≡◌, ◌≤◌, ◌<◌, ◌+◌, ◌*◌, ◌%◌, ◌⊎◌, inl, inr, ℕ, zero, suc, List, ◌++◌, length, Option, Some, None, ap, subst, sym, refl, ◌∙◌, arith}
 use Rattle.std.proofs.Math.Nat.{eq-or-lt_of_le}
-use Rattle.io_edge.specs.SwapImage.{page_at, put_page, HoldsPage, WritesPage}
+use Rattle.io_edge.specs.SwapImage.{HoldsPage, WritesPage}
+use Rattle.vm_facts.specs.Swap.{blocks_at, put_blocks}
 use Rattle.io_edge.specs.Striping.{device_of, place_of, of_device, block_at, first_blocks, pair_blocks, pair_image}
-use Rattle.io_edge.proofs.Pages.{put_page-append, put_page_last, page_at-put_page_same, block_at-put_page_other}
+use Rattle.vm_facts.proofs.Swap.{blocks_at-put_blocks_same}
+use Rattle.io_edge.proofs.Pages.{put_blocks-append, put_blocks_last, block_at-put_blocks_other}
 use Rattle.io_edge.specs.StripeSizes.{zero_has, one_has, HasBlocks, TellBlocks, length-first_blocks}
 use Rattle.io_edge.proofs.Stripes.{fewer, last_page, length-last_page, page_of_pair, place_of-rises, place_of-next, device_of-next}
 
@@ -19,25 +21,25 @@ front_same blocks (suc last) block evens odds evens' odds' before within others 
     ap (λ (front : List ℕ). front ++ block_at (of_device (device_of last) evens' odds') (place_of last)) (front_same blocks last block evens odds evens' odds' (omega arith) (omega arith) others)
     ∙ ap (λ (back : List ℕ). first_blocks last evens odds ++ back) (others (device_of last) last refl (omega arith) (inl (omega arith)))
 
-put_last : (block : ℕ) (bytes evens odds evens' odds' : List ℕ) → block % 2 ≡ 0 → HasBlocks (suc (suc block)) evens odds → OthersSame (suc (suc block)) block evens odds evens' odds' → page_at (of_device (device_of block) evens' odds') (place_of block) ≡ bytes → put_page (first_blocks (suc (suc block)) evens odds) block bytes ≡ first_blocks (suc (suc block)) evens' odds'
+put_last : (block : ℕ) (bytes evens odds evens' odds' : List ℕ) → block % 2 ≡ 0 → HasBlocks (suc (suc block)) evens odds → OthersSame (suc (suc block)) block evens odds evens' odds' → blocks_at (of_device (device_of block) evens' odds') (place_of block) ≡ bytes → put_blocks (first_blocks (suc (suc block)) evens odds) block bytes ≡ first_blocks (suc (suc block)) evens' odds'
 put_last block bytes evens odds evens' odds' even has others written =
-    let page = page_at (of_device (device_of block) evens odds) (place_of block) in
-    ap (λ (image : List ℕ). put_page image block bytes) (last_page block evens odds even)
-    ∙ put_page_last block bytes (first_blocks block evens odds) page (length-first_blocks block evens odds (fewer (suc (suc block)) block evens odds (omega arith) has)) (length-last_page block evens odds even has)
+    let page = blocks_at (of_device (device_of block) evens odds) (place_of block) in
+    ap (λ (image : List ℕ). put_blocks image block bytes) (last_page block evens odds even)
+    ∙ put_blocks_last block bytes (first_blocks block evens odds) page (length-first_blocks block evens odds (fewer (suc (suc block)) block evens odds (omega arith) has)) (length-last_page block evens odds even has)
     ∙ sym (last_page block evens' odds' even
-    ∙ ap (λ (front : List ℕ). front ++ page_at (of_device (device_of block) evens' odds') (place_of block)) (front_same (suc (suc block)) block block evens odds evens' odds' (omega arith) (omega arith) others)
+    ∙ ap (λ (front : List ℕ). front ++ blocks_at (of_device (device_of block) evens' odds') (place_of block)) (front_same (suc (suc block)) block block evens odds evens' odds' (omega arith) (omega arith) others)
     ∙ ap (λ (back : List ℕ). first_blocks block evens odds ++ back) written)
 
-put_of_pair : (blocks block : ℕ) (bytes evens odds evens' odds' : List ℕ) → block % 2 ≡ 0 → suc (suc block) ≤ blocks → HasBlocks blocks evens odds → OthersSame blocks block evens odds evens' odds' → page_at (of_device (device_of block) evens' odds') (place_of block) ≡ bytes → put_page (first_blocks blocks evens odds) block bytes ≡ first_blocks blocks evens' odds'
+put_of_pair : (blocks block : ℕ) (bytes evens odds evens' odds' : List ℕ) → block % 2 ≡ 0 → suc (suc block) ≤ blocks → HasBlocks blocks evens odds → OthersSame blocks block evens odds evens' odds' → blocks_at (of_device (device_of block) evens' odds') (place_of block) ≡ bytes → put_blocks (first_blocks blocks evens odds) block bytes ≡ first_blocks blocks evens' odds'
 unfolding first_blocks
 put_of_pair zero block bytes evens odds evens' odds' even within has others written = absurd (omega arith)
 put_of_pair (suc last) block bytes evens odds evens' odds' even within has others written =
     elim (eq-or-lt_of_le within) [
-      | inl ends ↦ subst (λ (blocks : ℕ). put_page (first_blocks blocks evens odds) block bytes ≡ first_blocks blocks evens' odds') ends
+      | inl ends ↦ subst (λ (blocks : ℕ). put_blocks (first_blocks blocks evens odds) block bytes ≡ first_blocks blocks evens' odds') ends
           (put_last block bytes evens odds evens' odds' even (fewer (suc last) (suc (suc block)) evens odds within has) (λ device other on below apart. others device other on (omega arith) apart) written)
       | inr below ↦
           let has_front = fewer (suc last) last evens odds (omega arith) has in
-          put_page-append block bytes (first_blocks last evens odds) (block_at (of_device (device_of last) evens odds) (place_of last)) (omega (arith, length-first_blocks last evens odds has_front))
+          put_blocks-append block bytes (first_blocks last evens odds) (block_at (of_device (device_of last) evens odds) (place_of last)) (omega (arith, length-first_blocks last evens odds has_front))
           ∙ ap (λ (front : List ℕ). front ++ block_at (of_device (device_of last) evens odds) (place_of last)) (put_of_pair last block bytes evens odds evens' odds' even (omega arith) has_front (λ device other on lower apart. others device other on (omega arith) apart) written)
           ∙ ap (λ (back : List ℕ). first_blocks last evens' odds' ++ back) (sym (others (device_of last) last refl (omega arith) (inr (omega arith))))
     ]
@@ -54,49 +56,49 @@ page_within blocks block device evens odds even within has on =
     omega (arith, has device (suc block) (device_of-next block even ∙ on) (omega arith), place_of-next block even)
 
 -- a page of an even unit is written on device 0 alone
-others_even : (blocks block : ℕ) (bytes evens odds : List ℕ) → block % 2 ≡ 0 → device_of block ≡ 0 → 512 * place_of block + 1024 ≤ length evens → length bytes ≡ 1024 → OthersSame blocks block evens odds (put_page evens (place_of block) bytes) odds
+others_even : (blocks block : ℕ) (bytes evens odds : List ℕ) → block % 2 ≡ 0 → device_of block ≡ 0 → 512 * place_of block + 1024 ≤ length evens → length bytes ≡ 1024 → OthersSame blocks block evens odds (put_blocks evens (place_of block) bytes) odds
 others_even blocks block bytes evens odds even on within whole zero other other_on below apart =
-    block_at-put_page_other (place_of block) (place_of other) bytes evens (apart_places block other even (other_on ∙ sym on) apart) within whole
+    block_at-put_blocks_other (place_of block) (place_of other) bytes evens (apart_places block other even (other_on ∙ sym on) apart) within whole
 others_even blocks block bytes evens odds even on within whole (suc _) other other_on below apart = refl
 
-put_even : (blocks block : ℕ) (bytes evens odds : List ℕ) → block % 2 ≡ 0 → suc (suc block) ≤ blocks → HasBlocks blocks evens odds → length bytes ≡ 1024 → device_of block ≡ 0 → put_page (first_blocks blocks evens odds) block bytes ≡ first_blocks blocks (put_page evens (place_of block) bytes) odds
+put_even : (blocks block : ℕ) (bytes evens odds : List ℕ) → block % 2 ≡ 0 → suc (suc block) ≤ blocks → HasBlocks blocks evens odds → length bytes ≡ 1024 → device_of block ≡ 0 → put_blocks (first_blocks blocks evens odds) block bytes ≡ first_blocks blocks (put_blocks evens (place_of block) bytes) odds
 put_even blocks block bytes evens odds even within has whole on =
     let inside : 512 * place_of block + 1024 ≤ length evens = page_within blocks block 0 evens odds even within has on in
-    put_of_pair blocks block bytes evens odds (put_page evens (place_of block) bytes) odds even within has
+    put_of_pair blocks block bytes evens odds (put_blocks evens (place_of block) bytes) odds even within has
     (others_even blocks block bytes evens odds even on inside whole)
-    (ap (λ (device : ℕ). page_at (of_device device (put_page evens (place_of block) bytes) odds) (place_of block)) on
-    ∙ page_at-put_page_same (place_of block) bytes evens inside whole)
+    (ap (λ (device : ℕ). blocks_at (of_device device (put_blocks evens (place_of block) bytes) odds) (place_of block)) on
+    ∙ blocks_at-put_blocks_same evens bytes (place_of block) inside whole)
 
 -- and one of an odd unit on device 1
 odd_same : (a b c d : ℕ) → device_of a ≡ suc c → device_of b ≡ suc d → device_of a ≡ device_of b
 unfolding device_of
 odd_same a b c d on_one on_one' = omega arith
 
-others_odd : (blocks block unit : ℕ) (bytes evens odds : List ℕ) → block % 2 ≡ 0 → device_of block ≡ suc unit → 512 * place_of block + 1024 ≤ length odds → length bytes ≡ 1024 → OthersSame blocks block evens odds evens (put_page odds (place_of block) bytes)
+others_odd : (blocks block unit : ℕ) (bytes evens odds : List ℕ) → block % 2 ≡ 0 → device_of block ≡ suc unit → 512 * place_of block + 1024 ≤ length odds → length bytes ≡ 1024 → OthersSame blocks block evens odds evens (put_blocks odds (place_of block) bytes)
 others_odd blocks block unit bytes evens odds even on within whole zero other other_on below apart = refl
 others_odd blocks block unit bytes evens odds even on within whole (suc parity) other other_on below apart =
-    block_at-put_page_other (place_of block) (place_of other) bytes odds (apart_places block other even (odd_same other block parity unit other_on on) apart) within whole
+    block_at-put_blocks_other (place_of block) (place_of other) bytes odds (apart_places block other even (odd_same other block parity unit other_on on) apart) within whole
 
-put_odd : (blocks block unit : ℕ) (bytes evens odds : List ℕ) → block % 2 ≡ 0 → suc (suc block) ≤ blocks → HasBlocks blocks evens odds → length bytes ≡ 1024 → device_of block ≡ suc unit → put_page (first_blocks blocks evens odds) block bytes ≡ first_blocks blocks evens (put_page odds (place_of block) bytes)
+put_odd : (blocks block unit : ℕ) (bytes evens odds : List ℕ) → block % 2 ≡ 0 → suc (suc block) ≤ blocks → HasBlocks blocks evens odds → length bytes ≡ 1024 → device_of block ≡ suc unit → put_blocks (first_blocks blocks evens odds) block bytes ≡ first_blocks blocks evens (put_blocks odds (place_of block) bytes)
 put_odd blocks block unit bytes evens odds even within has whole on =
     let inside : 512 * place_of block + 1024 ≤ length odds = page_within blocks block (suc unit) evens odds even within has on in
-    put_of_pair blocks block bytes evens odds evens (put_page odds (place_of block) bytes) even within has
+    put_of_pair blocks block bytes evens odds evens (put_blocks odds (place_of block) bytes) even within has
     (others_odd blocks block unit bytes evens odds even on inside whole)
-    (ap (λ (device : ℕ). page_at (of_device device evens (put_page odds (place_of block) bytes)) (place_of block)) on
-    ∙ page_at-put_page_same (place_of block) bytes odds inside whole)
+    (ap (λ (device : ℕ). blocks_at (of_device device evens (put_blocks odds (place_of block) bytes)) (place_of block)) on
+    ∙ blocks_at-put_blocks_same odds bytes (place_of block) inside whole)
 
 -- a page that was read from a pair
 pub holds_even : (blocks block : ℕ) (evens odds : Option (List ℕ)) (bytes : List ℕ) → block % 2 ≡ 0 → suc (suc block) ≤ blocks → TellBlocks blocks evens odds → device_of block ≡ 0 → HoldsPage evens (place_of block) bytes → HoldsPage (pair_image blocks evens odds) block bytes
 holds_even blocks block None odds bytes even within tell on held = tt
 holds_even blocks block (Some evens) None bytes even within tell on held = tt
 holds_even blocks block (Some evens) (Some odds) bytes even within tell on held =
-    held ∙ sym (page_of_pair blocks block evens odds even within (tell evens odds refl refl) ∙ ap (λ (device : ℕ). page_at (of_device device evens odds) (place_of block)) on)
+    held ∙ sym (page_of_pair blocks block evens odds even within (tell evens odds refl refl) ∙ ap (λ (device : ℕ). blocks_at (of_device device evens odds) (place_of block)) on)
 
 pub holds_odd : (blocks block unit : ℕ) (evens odds : Option (List ℕ)) (bytes : List ℕ) → block % 2 ≡ 0 → suc (suc block) ≤ blocks → TellBlocks blocks evens odds → device_of block ≡ suc unit → HoldsPage odds (place_of block) bytes → HoldsPage (pair_image blocks evens odds) block bytes
 holds_odd blocks block unit None odds bytes even within tell on held = tt
 holds_odd blocks block unit (Some evens) None bytes even within tell on held = tt
 holds_odd blocks block unit (Some evens) (Some odds) bytes even within tell on held =
-    held ∙ sym (page_of_pair blocks block evens odds even within (tell evens odds refl refl) ∙ ap (λ (device : ℕ). page_at (of_device device evens odds) (place_of block)) on)
+    held ∙ sym (page_of_pair blocks block evens odds even within (tell evens odds refl refl) ∙ ap (λ (device : ℕ). blocks_at (of_device device evens odds) (place_of block)) on)
 
 -- a page that was written to a pair
 pub writes_even : (blocks block : ℕ) (evens odds new : Option (List ℕ)) (bytes : List ℕ) → block % 2 ≡ 0 → suc (suc block) ≤ blocks → TellBlocks blocks evens odds → length bytes ≡ 1024 → device_of block ≡ 0 → WritesPage evens (place_of block) bytes new → WritesPage (pair_image blocks evens odds) block bytes (pair_image blocks new odds)

@@ -1,10 +1,10 @@
 -- The image of a pair of devices, block by block.
 use Rattle.std.proofs.Common.{◌≡◌, ◌≤◌, ◌<◌, ◌+◌, ◌-◌, ◌*◌, ◌/◌, ◌%◌, inl, inr, ℕ, zero, suc, List, ◌++◌, length, ap, subst, sym, refl, ◌∙◌, arith, length-append, append_assoc, add-one}
 use Rattle.std.proofs.Math.Nat.{le_refl, eq-or-lt_of_le}
-use Rattle.io_edge.specs.SwapImage.{page_at}
+use Rattle.vm_facts.specs.Swap.{blocks_at}
 use Rattle.io_edge.specs.Striping.{device_of, place_of, of_device, zero_needs, one_needs, pair_blocks, IsLargestSwap, block_at, first_blocks}
 use Rattle.io_edge.specs.StripeSizes.{HasBlocks, pair_block, length-pair_block, length-first_blocks}
-use Rattle.io_edge.proofs.Pages.{part-append, page_blocks, page_at_last}
+use Rattle.io_edge.proofs.Pages.{part-append, page_blocks, blocks_at_last}
 
 -- the two blocks of a page lie side by side on one device
 pub device_of-next : (block : ℕ) → block % 2 ≡ 0 → device_of (suc block) ≡ device_of block
@@ -55,7 +55,7 @@ largest_swap even_size odd_size =
     )
 
 -- the two blocks of a page are a page of its device
-pair_page : (block : ℕ) (evens odds : List ℕ) → block % 2 ≡ 0 → pair_block block evens odds ++ pair_block (suc block) evens odds ≡ page_at (of_device (device_of block) evens odds) (place_of block)
+pair_page : (block : ℕ) (evens odds : List ℕ) → block % 2 ≡ 0 → pair_block block evens odds ++ pair_block (suc block) evens odds ≡ blocks_at (of_device (device_of block) evens odds) (place_of block)
 pair_page block evens odds even =
     let image = of_device (device_of block) evens odds in
     let next : place_of (suc block) ≡ suc (place_of block) = place_of-next block even ∙ add-one (place_of block) in
@@ -64,13 +64,13 @@ pair_page block evens odds even =
     ∙ sym (page_blocks image (place_of block))
 
 -- the last page of a pair
-pub last_page : (block : ℕ) (evens odds : List ℕ) → block % 2 ≡ 0 → first_blocks (suc (suc block)) evens odds ≡ first_blocks block evens odds ++ page_at (of_device (device_of block) evens odds) (place_of block)
+pub last_page : (block : ℕ) (evens odds : List ℕ) → block % 2 ≡ 0 → first_blocks (suc (suc block)) evens odds ≡ first_blocks block evens odds ++ blocks_at (of_device (device_of block) evens odds) (place_of block)
 unfolding first_blocks
 last_page block evens odds even =
     append_assoc (first_blocks block evens odds) (pair_block block evens odds) (pair_block (suc block) evens odds)
     ∙ ap (λ (page : List ℕ). first_blocks block evens odds ++ page) (pair_page block evens odds even)
 
-pub length-last_page : (block : ℕ) (evens odds : List ℕ) → block % 2 ≡ 0 → HasBlocks (suc (suc block)) evens odds → length (page_at (of_device (device_of block) evens odds) (place_of block)) ≡ 1024
+pub length-last_page : (block : ℕ) (evens odds : List ℕ) → block % 2 ≡ 0 → HasBlocks (suc (suc block)) evens odds → length (blocks_at (of_device (device_of block) evens odds) (place_of block)) ≡ 1024
 length-last_page block evens odds even has =
     omega (arith, ap length (pair_page block evens odds even), length-append (pair_block block evens odds) (pair_block (suc block) evens odds), length-pair_block (suc (suc block)) block evens odds has, length-pair_block (suc (suc block)) (suc block) evens odds has)
 
@@ -78,18 +78,18 @@ pub fewer : (blocks last : ℕ) (evens odds : List ℕ) → last ≤ blocks → 
 fewer blocks last evens odds below has device block on within = has device block on (omega arith)
 
 -- the page of a pair is the page of its device
-page_of_last : (block : ℕ) (evens odds : List ℕ) → block % 2 ≡ 0 → HasBlocks (suc (suc block)) evens odds → page_at (first_blocks (suc (suc block)) evens odds) block ≡ page_at (of_device (device_of block) evens odds) (place_of block)
+page_of_last : (block : ℕ) (evens odds : List ℕ) → block % 2 ≡ 0 → HasBlocks (suc (suc block)) evens odds → blocks_at (first_blocks (suc (suc block)) evens odds) block ≡ blocks_at (of_device (device_of block) evens odds) (place_of block)
 page_of_last block evens odds even has =
-    let page = page_at (of_device (device_of block) evens odds) (place_of block) in
-    ap (λ (image : List ℕ). page_at image block) (last_page block evens odds even)
-    ∙ page_at_last block (first_blocks block evens odds) page (length-first_blocks block evens odds (fewer (suc (suc block)) block evens odds (omega arith) has)) (length-last_page block evens odds even has)
+    let page = blocks_at (of_device (device_of block) evens odds) (place_of block) in
+    ap (λ (image : List ℕ). blocks_at image block) (last_page block evens odds even)
+    ∙ blocks_at_last block (first_blocks block evens odds) page (length-first_blocks block evens odds (fewer (suc (suc block)) block evens odds (omega arith) has)) (length-last_page block evens odds even has)
 
-pub page_of_pair : (blocks block : ℕ) (evens odds : List ℕ) → block % 2 ≡ 0 → suc (suc block) ≤ blocks → HasBlocks blocks evens odds → page_at (first_blocks blocks evens odds) block ≡ page_at (of_device (device_of block) evens odds) (place_of block)
-unfolding first_blocks page_at
+pub page_of_pair : (blocks block : ℕ) (evens odds : List ℕ) → block % 2 ≡ 0 → suc (suc block) ≤ blocks → HasBlocks blocks evens odds → blocks_at (first_blocks blocks evens odds) block ≡ blocks_at (of_device (device_of block) evens odds) (place_of block)
+unfolding first_blocks blocks_at
 page_of_pair zero block evens odds even within has = absurd (omega arith)
 page_of_pair (suc last) block evens odds even within has =
     elim (eq-or-lt_of_le within) [
-      | inl ends ↦ subst (λ (blocks : ℕ). page_at (first_blocks blocks evens odds) block ≡ page_at (of_device (device_of block) evens odds) (place_of block)) ends
+      | inl ends ↦ subst (λ (blocks : ℕ). blocks_at (first_blocks blocks evens odds) block ≡ blocks_at (of_device (device_of block) evens odds) (place_of block)) ends
           (page_of_last block evens odds even (fewer (suc last) (suc (suc block)) evens odds within has))
       | inr below ↦
           let has_front = fewer (suc last) last evens odds (omega arith) has in

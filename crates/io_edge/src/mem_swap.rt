@@ -5,7 +5,8 @@ ghost use Rattle.io_edge.specs.Calls.{ReadsSwap, WritesSwap};
 ghost use Rattle.io_edge.specs.Count.{Counts, OnDone, OnFailed};
 ghost use Rattle.io_edge.specs.Plan.{FailsNext, IsNewPlan, LaterCalls, NextCall};
 ghost use Rattle.io_edge.specs.PlanLaws.{later_itself, later_through};
-ghost use Rattle.io_edge.specs.SwapImage.{HoldsPage, SpoilsPage, page_at, put_page};
+ghost use Rattle.io_edge.specs.SwapImage.{HoldsPage, SpoilsPage};
+ghost use Rattle.vm_facts.specs.Swap.{blocks_at, put_blocks};
 ghost use Rattle.io_edge.specs.Told.{told_length};
 
 use crate::count::{FaultPlan, raised};
@@ -13,20 +14,20 @@ use crate::{Moved, NoMemory, SwapDev};
 use std::alloc::Global;
 
 // Copies out the two blocks from this place on.
-#[tactic(auto, unfolding(crate::specs::SwapImage::page_at))]
+#[tactic(auto, unfolding(vm_facts::specs::Swap::blocks_at))]
 fn copy_page(image: &[u8], block: usize, buf: &mut [u8; 1024])
     requires { 512 * (block + 2) ≤ length image.now }
-    ensures { buf.new ≡ page_at image.now block }
+    ensures { buf.new ≡ blocks_at image.now block }
 {
     let start = 512 * block;
     buf.copy_from_slice(&image[start..start + 1024]);
 }
 
 // Copies in the two blocks from this place on.
-#[tactic(auto, unfolding(crate::specs::SwapImage::put_page))]
-fn put_page(image: &mut [u8], block: usize, bytes: &[u8; 1024])
+#[tactic(auto, unfolding(vm_facts::specs::Swap::put_blocks))]
+fn put_blocks(image: &mut [u8], block: usize, bytes: &[u8; 1024])
     requires { 512 * (block + 2) ≤ length image.old }
-    ensures { image.new ≡ put_page image.old block bytes.now }
+    ensures { image.new ≡ put_blocks image.old block bytes.now }
 {
     let start = 512 * block;
     image[start..start + 1024].copy_from_slice(bytes);
@@ -72,7 +73,7 @@ impl SwapDev for SureSwap {
     }
 
     fn write(&mut self, block: u32, bytes: &[u8; 1024]) -> Moved {
-        put_page(&mut self.image, block as usize, bytes);
+        put_blocks(&mut self.image, block as usize, bytes);
         Moved::Done
     }
 
@@ -165,7 +166,7 @@ impl SwapDev for MemSwap {
         requires even { block % 2 ≡ 0 }
         requires inside { block + 2 ≤ self.old.store.blocks }
         ensures kept { WritesSwap ⟦<MemSwap as SwapDev>⟧ self.old self.new }
-        ensures done { OnDone result (self.new.store.image.items ≡ put_page self.old.store.image.items block bytes.now) }
+        ensures done { OnDone result (self.new.store.image.items ≡ put_blocks self.old.store.image.items block bytes.now) }
         ensures failed { OnFailed result (SpoilsPage (Some self.old.store.image.items) block (Some self.new.store.image.items)) }
         ensures write_faults { Counts result self.old.write_faults self.new.write_faults }
 

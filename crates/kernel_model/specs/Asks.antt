@@ -1,4 +1,6 @@
--- The pieces of swap that a change of a process wants, by its placement, and what is so where it wants no others.
+-- The pieces of swap that a change of a process wants, and what is so where it wants no others, as the placement says:
+-- by the slots of the spaces, and by how many spaces share the image. The flat state says the same in `change_wanted` of
+-- flat_model, and `asks_agree` of flat_laws joins the two views.
 use Rattle.std.specs.Prelude.{◌≡◌, ◌≢◌, ℕ, zero, suc, ◌+◌, ◌*◌, ◌==◌, Bool, true, false, cond, List, [], ◌∷◌, ◌++◌, length, drop, Option, Some, None, Result}
 use Rattle.vm_facts.specs.declared.page.Page.TheVariants.{Text}
 use Rattle.aout_image.specs.declared.Image.{Image}
@@ -12,9 +14,9 @@ use Rattle.swap_book.specs.Placing.{Wanted, wanted, place_all}
 use Rattle.flat_state.specs.declared.change.Change.{Change}
 use Rattle.flat_state.specs.declared.change.Change.TheVariants.{Resize, Fork, Lend, Exec, End}
 use Rattle.page_model.specs.Pages.{numbered}
-use Rattle.page_model.specs.Frames.{times}
 use Rattle.page_model.specs.Placement.{Placement, Starting, space_number, slots_of, sharers, start_placement}
 use Rattle.page_model.specs.Place.{data_count, stack_count, facts_numbered}
+use Rattle.vm_facts.specs.Lists.{times}
 use Rattle.kernel_model.specs.Kernel.{Life, Kernel, Proc}
 use Rattle.kernel_model.specs.Sound.{lives}
 use Rattle.kernel_model.specs.ChangeStep.{space_of_life, life_of_proc, gave_back}

@@ -64,7 +64,8 @@ sid_after next (Fork child) = next + 1
 sid_after next (Exec image top) = next + 1
 sid_after next _ = next
 
--- Holdings that go back.
+-- Holdings that go back, by how many spaces share a text in the placement. The flat state's view is `given_up` of
+-- flat_model, and `machines_stand` of run_laws joins the two.
 
 abbrev pub text_given_back : ℕ → Holdings → ℕ → Holdings
 text_given_back zero hs image = kept (owners.Text image) 0 hs

@@ -7,3 +7,4 @@ pub mod KeptHands
 pub mod Locks
 pub mod Parts
 pub mod Units
+pub mod Puts

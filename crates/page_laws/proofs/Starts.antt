@@ -2,16 +2,18 @@
 use Rattle.std.proofs.Common.{◌≡◌, inl, inr, ℕ, zero, suc, ◌+◌, ◌/◌, ◌<◌, ◌≤◌, ◌==◌, Bool, true, false, cond, List, [], ◌∷◌, length, get_or, replicate, Option, Some, None, refl, sym, ap, ◌∙◌, subst, arith}
 use Rattle.std.proofs.lemmas.Bool.{cases_eq}
 use Rattle.std.proofs.lemmas.List.{length-replicate}
+use Rattle.page_laws.proofs.Moves.Steps.{marked_false}
 use Rattle.vm_facts.specs.declared.page.Page.{Page}
 use Rattle.vm_facts.specs.declared.page.Page.TheVariants.{Data, Stack, Text}
 use Rattle.aout_image.specs.declared.Image.{Image}
 use Rattle.aout_image.specs.Image.{data_pages_of, text_pages_of}
 use Rattle.page_model.specs.Pages.{Filling, Zeros, SpacePages, TextPages, frame_of, numbered, data_in, stack_in, text_in}
-use Rattle.page_model.specs.Frames.{at_frame, times, count_up}
+use Rattle.page_model.specs.Frames.{at_frame, count_up}
+use Rattle.vm_facts.specs.Lists.{times}
 use Rattle.page_model.specs.Placement.{Starting, space_number, image_number, slot_of, unfilled, spaces_from, texts_from, start_placement}
 use Rattle.page_model.specs.Rank.{walk, HandsStand}
 use Rattle.page_model.specs.Ownership.{OwnsFrames, seated, seated_of, is_marked_dirty, TextAside}
-use Rattle.page_laws.proofs.Lists.Frames.{times_head, times_tail}
+use Rattle.vm_facts.proofs.Lists.{times_head, times_other}
 use Rattle.page_laws.proofs.Lists.Local.{none_some}
 use Rattle.page_laws.proofs.Moves.Hands.{walk_up}
 use Rattle.page_laws.proofs.Ownership.Changes.{BlankSlot, AllBlank, blank_slot_at, unfilled_blank}
@@ -82,26 +84,21 @@ no_page n (suc f) = go n f
 -- numbers that rise from one on: none is below it, and each of them stands once
 count_below : (f a n : ℕ) → f < a → times f (count_up a n) ≡ 0
 count_below f a zero l = refl
-count_below f a (suc n) l = times_tail a f (count_up (a + 1) n) (λ e. absurd (omega arith)) ∙ count_below f (a + 1) n (omega arith)
+count_below f a (suc n) l = times_other f a (count_up (a + 1) n) (λ e. absurd (omega arith)) ∙ count_below f (a + 1) n (omega arith)
 
 count_once : (f a n : ℕ) → a ≤ f → f < a + n → times f (count_up a n) ≡ 1
 count_once f a zero l m = absurd (omega arith)
 count_once f a (suc n) l m = elim (cases_eq f a) [
   | inl e ↦ subst (λ (x : ℕ). times f (x ∷ count_up (a + 1) n) ≡ 1) e (let h = times_head f (count_up (a + 1) n) in let z = count_below f (a + 1) n (omega arith) in omega arith)
-  | inr d ↦ times_tail a f (count_up (a + 1) n) d ∙ count_once f (a + 1) n (omega arith) (omega arith)
+  | inr d ↦ times_other f a (count_up (a + 1) n) (λ i. d (sym i)) ∙ count_once f (a + 1) n (omega arith) (omega arith)
 ]
 
 count_some : (f a n : ℕ) → 0 < times f (count_up a n) → (a ≤ f) × (f < a + n)
 count_some f a zero l = absurd (omega arith)
 count_some f a (suc n) l = elim (cases_eq f a) [
   | inl e ↦ (omega arith, omega arith)
-  | inr d ↦ (let t = times_tail a f (count_up (a + 1) n) d in let k = count_some f (a + 1) n (omega arith) in (omega arith, omega arith))
+  | inr d ↦ (let t = times_other f a (count_up (a + 1) n) (λ i. d (sym i)) in let k = count_some f (a + 1) n (omega arith) in (omega arith, omega arith))
 ]
-
-clean_page : (q : Page) → is_marked_dirty q false ≡ false
-clean_page (Data sid v) = refl
-clean_page (Stack sid v) = refl
-clean_page (Text image v) = refl
 
 pub start_owner : (images : List Image) (first : List Starting) (frames : ℕ) → OwnsFrames (start_placement images first frames)
 start_owner images first frames = record {
@@ -111,7 +108,7 @@ start_owner images first frames = record {
   named = λ f q e. none_some q (sym (no_page frames f) ∙ e);
   listed = λ f q l e. none_some q (sym (no_page frames f) ∙ e);
   moves = tt;
-  dirty = λ q e. absurd (let k : true ≡ false = sym e ∙ ap (is_marked_dirty q) (start_blank images first frames q).1 ∙ clean_page q in cc);
+  dirty = λ q e. absurd (let k : true ≡ false = sym e ∙ ap (is_marked_dirty q) (start_blank images first frames q).1 ∙ marked_false q in cc);
 }
   where
     size : length (start_placement images first frames).holds ≡ frames

@@ -8,9 +8,9 @@ use Rattle.vm_facts.specs.declared.entry.Entry.TheVariants as entries
 use Rattle.flat_state.specs.declared.change.Change.{Change}
 use Rattle.flat_state.specs.declared.change.Change.TheVariants as changes
 use Rattle.page_model.specs.Pages.{frame_of, left_state}
-use Rattle.page_model.specs.Frames.{times}
+use Rattle.vm_facts.specs.Lists.{times}
 use Rattle.page_model.specs.Placement.{Placement, state_of, mark_of, is_dirty}
-use Rattle.page_model.specs.Swapper.{is_of_space}
+use Rattle.vm_facts.specs.Pages.{is_of_space}
 use Rattle.page_model.specs.Ownership.{is_marked_dirty}
 
 -- a fill or a read, which takes frames from the free list

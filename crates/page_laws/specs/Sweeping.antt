@@ -3,7 +3,7 @@ use Rattle.std.specs.Prelude.{◌≡◌, ◌⊎◌, ℕ, false, List}
 use Rattle.vm_facts.specs.declared.page.Page.{Page}
 use Rattle.vm_facts.specs.declared.page.PageState.TheVariants.{Valid, Invalid}
 use Rattle.flat_state.specs.PageNames.{is_among}
-use Rattle.page_model.specs.Frames.{times}
+use Rattle.vm_facts.specs.Lists.{times}
 use Rattle.page_model.specs.Placement.{Placement, state_of}
 
 -- A page that a move may take from this frame: it isn't locked, and it was invalid there, off the free list, or is made

@@ -11,7 +11,7 @@ use Rattle.flat_state.specs.PageNames.{number_of, pages_from, is_among}
 use Rattle.flat_state.specs.declared.change.Change.{Change}
 use Rattle.flat_state.specs.declared.change.Change.TheVariants.{Resize, Fork, Exec, End}
 use Rattle.page_model.specs.Place.{data_count, stack_count, remove_space, enter_image, facts_numbered}
-use Rattle.page_model.specs.Frames.{times}
+use Rattle.vm_facts.specs.Lists.{times}
 use Rattle.page_model.specs.Placement.{Placement, Transfer, space_number, state_of, IsThere, sharers, image_of}
 use Rattle.aout_image.specs.declared.Image.{Image}
 

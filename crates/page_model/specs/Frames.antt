@@ -1,4 +1,4 @@
--- Frames, which are numbered from 1: lists of what is said of each, and how often a frame stands in a list.
+-- Frames, which are numbered from 1: lists of what is said of each.
 use Rattle.std.specs.Prelude.{ℕ, zero, suc, ◌+◌, ◌==◌, cond, List, [], ◌∷◌, get_or, set}
 
 -- what a list says of a frame; the default where there is no such frame
@@ -9,16 +9,6 @@ at_frame xs (suc n) d = get_or xs n d
 abbrev pub set_frame : {A : Type 0} → List A → ℕ → A → List A
 set_frame xs zero x = xs
 set_frame xs (suc n) x = set xs n x
-
--- how often a number stands in a list
-abbrev pub times : ℕ → List ℕ → ℕ
-times f [] = 0
-times f (x ∷ xs) = cond (x == f) 1 0 + times f xs
-
--- the list without a number
-abbrev pub without : ℕ → List ℕ → List ℕ
-without f [] = []
-without f (x ∷ xs) = cond (x == f) (without f xs) (x ∷ without f xs)
 
 -- so many numbers, from one on
 abbrev pub count_up : ℕ → ℕ → List ℕ

@@ -4,7 +4,8 @@ use Rattle.vm_facts.specs.declared.page.Page.{Page}
 use Rattle.vm_facts.specs.declared.page.PageState.{PageState}
 use Rattle.vm_facts.specs.declared.page.PageState.TheVariants.{Valid, Invalid}
 use Rattle.flat_state.specs.PageNames.{is_among}
-use Rattle.page_model.specs.Frames.{times, next_frame}
+use Rattle.page_model.specs.Frames.{next_frame}
+use Rattle.vm_facts.specs.Lists.{times}
 use Rattle.page_model.specs.Placement.{Placement, state_of, mark_of, is_dirty, page_of}
 use Rattle.page_model.specs.Moves.{turn, launch_run, retire}
 use Rattle.page_model.specs.Runs.{Run, run_out, pages_of_run}

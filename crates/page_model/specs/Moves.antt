@@ -6,7 +6,8 @@ use Rattle.vm_facts.specs.declared.page.PageState.{PageState}
 use Rattle.vm_facts.specs.declared.page.PageState.TheVariants.{Unfilled, Valid, Invalid, Coming, Going, OnSwap}
 use Rattle.flat_state.specs.PageNames.{same_page}
 use Rattle.page_model.specs.Pages.{written_mark, left_state, frame_of}
-use Rattle.page_model.specs.Frames.{set_frame, times, without}
+use Rattle.page_model.specs.Frames.{set_frame}
+use Rattle.vm_facts.specs.Lists.{times, without}
 use Rattle.page_model.specs.Placement.{Placement, Transfer, Part, Errand, Writes, Reads, Source, FromSwap, FromFile, state_of, mark_of, page_of, put}
 
 -- Taking a frame.

@@ -12,7 +12,7 @@ use Rattle.swap_book.specs.Holdings.{Holdings, lengths, block_in}
 use Rattle.swap_book.specs.Book.{IsBook}
 use Rattle.flat_state.specs.PageNames.{number_of}
 use Rattle.page_model.specs.Pages.{frame_of}
-use Rattle.page_model.specs.Frames.{times}
+use Rattle.vm_facts.specs.Lists.{times}
 use Rattle.page_model.specs.Placement.{Placement, Moving, slots_of, state_of, mark_of, page_of, sharers, IsFrame, parts_of, flying, moving_state}
 
 -- whether a page in this state holds its frame off the free list, where the frame stands `listed` times on that list

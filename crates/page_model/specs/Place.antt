@@ -1,5 +1,5 @@
 -- What each entry of the journal does to a placement.
-use Rattle.std.specs.Prelude.{ℕ, zero, suc, ◌+◌, ◌-◌, ◌==◌, Bool, true, false, cond, not, ◌||◌, List, [], ◌∷◌, ◌++◌, length, map, filter, slice_get, Option, Some, None}
+use Rattle.std.specs.Prelude.{ℕ, zero, suc, ◌+◌, ◌-◌, ◌==◌, Bool, true, false, cond, not, List, [], ◌∷◌, ◌++◌, length, map, filter, slice_get, Option, Some, None}
 use Rattle.vm_facts.specs.declared.page.Page.{Page}
 use Rattle.vm_facts.specs.declared.page.Page.TheVariants.{Data, Stack, Text}
 use Rattle.vm_facts.specs.declared.page.PageState.{PageState}
@@ -8,7 +8,7 @@ use Rattle.vm_facts.specs.declared.entry.Entry.{Entry}
 use Rattle.vm_facts.specs.declared.entry.Entry.TheVariants as entries
 use Rattle.aout_image.specs.declared.Image.{Image}
 use Rattle.flat_state.specs.Flat.{Holding, Holds, Lends, Zombie, Process, FlatState, NamedImage, process_of}
-use Rattle.flat_state.specs.Change.{lends_to}
+use Rattle.flat_state.specs.Change.{is_borrower}
 use Rattle.flat_state.specs.declared.change.Change.{Change}
 use Rattle.flat_state.specs.declared.change.Change.TheVariants.{Keep, Resize, Fork, Lend, Exec, Reap, Sleep, End}
 use Rattle.page_model.specs.Pages.{Slot, Zeros, SpacePages, changed}
@@ -161,11 +161,6 @@ space_of_holding (Zombie status) = 0
 abbrev pub space_of_process : Option Process → ℕ
 space_of_process None = 0
 space_of_process (Some q) = space_of_holding q.holding
-
--- somebody lent the process its space
-abbrev pub is_borrower : List Process → ℕ → Bool
-is_borrower [] pid = false
-is_borrower (q ∷ qs) pid = lends_to pid q.holding || is_borrower qs pid
 
 -- a space that isn't borrowed is given up
 abbrev pub give_up_unless : Bool → Placement → ℕ → Placement

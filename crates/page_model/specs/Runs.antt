@@ -7,7 +7,7 @@ use Rattle.vm_facts.specs.declared.page.PageState.TheVariants.{Unfilled, Valid, 
 use Rattle.swap_dmap.specs.Chunks.{spot, text_spot}
 use Rattle.flat_state.specs.PageNames.{number_of, beside, pages_from, is_among}
 use Rattle.page_model.specs.Pages.{is_on_swap, is_unfilled}
-use Rattle.page_model.specs.Frames.{times}
+use Rattle.vm_facts.specs.Lists.{times}
 use Rattle.page_model.specs.Placement.{Placement, state_of, is_dirty, slots_of}
 
 -- a run: the number of its lowest page, and how many pages it has

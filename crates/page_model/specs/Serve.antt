@@ -1,5 +1,6 @@
 -- Forcing a frame and serving a page: the next unit, by the state of the page.
 use Rattle.std.specs.Prelude.{◌≡◌, ℕ, Bool, true, false, nat_le, List, [], ◌∷◌, length, Option, Some, None}
+use Rattle.vm_facts.specs.Swap.{most_in_flight}
 use Rattle.vm_facts.specs.declared.page.Page.{Page}
 use Rattle.vm_facts.specs.declared.page.PageState.{PageState}
 use Rattle.vm_facts.specs.declared.page.PageState.TheVariants.{Unfilled, Valid, Invalid, Coming, Going, OnSwap}
@@ -22,10 +23,6 @@ force p locked = force_by p locked p.transfers
 abbrev pub force_entry : List Transfer → Entry
 force_entry [] = entries.Hands 1
 force_entry (t ∷ ts) = entries.Done
-
--- the transfers that may be in flight
-abbrev pub most_in_flight : ℕ
-most_in_flight = 16
 
 abbrev pub is_full : Placement → Bool
 is_full p = nat_le most_in_flight (length p.transfers)

@@ -1,17 +1,11 @@
 -- The swap image: pages in their two blocks.
-use Rattle.std.specs.Prelude.{ℕ, ◌+◌, ◌*◌, List, [], ◌++◌, take, drop, Option, Some, None}
+use Rattle.std.specs.Prelude.{ℕ, List, [], Option, Some, None}
 use Rattle.vm_facts.specs.declared.page.Page.{Page}
+use Rattle.vm_facts.specs.Swap.{blocks_at, put_blocks}
 use Rattle.swap_book.specs.Holdings.{Holdings}
 use Rattle.page_model.specs.Ownership.{block_of}
 
 -- The swap image.
-
--- a page's two blocks
-unfoldable pub blocks_at : List ℕ → ℕ → List ℕ
-blocks_at image b = take 1024 (drop (512 * b) image)
-
-unfoldable pub put_blocks : List ℕ → ℕ → List ℕ → List ℕ
-put_blocks image b bytes = take (512 * b) image ++ bytes ++ drop (512 * b + 1024) image
 
 abbrev pub stored_at : List ℕ → Option ℕ → List ℕ
 stored_at image None = []

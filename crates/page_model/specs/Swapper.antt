@@ -1,7 +1,7 @@
 -- The swapper: which process comes in or goes out, and the units of putting one out.
 use Rattle.std.specs.Prelude.{ℕ, ◌+◌, ◌==◌, nat_lt, nat_le, Bool, true, false, cond, not, ◌&&◌, ◌||◌, List, [], ◌∷◌, length, take, filter, Option, Some, None}
 use Rattle.vm_facts.specs.declared.page.Page.{Page}
-use Rattle.vm_facts.specs.declared.page.Page.TheVariants.{Data, Stack, Text}
+use Rattle.vm_facts.specs.Pages.{is_of_space, is_of_text}
 use Rattle.vm_facts.specs.declared.entry.Entry.{Entry}
 use Rattle.vm_facts.specs.declared.entry.Entry.TheVariants as entries
 use Rattle.page_model.specs.Placement.{Placement, Residence, Moving, is_dirty, parts_of, image_of, sharers}
@@ -101,16 +101,6 @@ abbrev pub swap_choice : Placement → List Runner → Choice
 swap_choice p rs = choice_by p rs (nat_le (desired_free p) (length p.free))
 
 -- Settling.
-
-abbrev pub is_of_space : ℕ → Page → Bool
-is_of_space sid (Data t v) = t == sid
-is_of_space sid (Stack t v) = t == sid
-is_of_space sid (Text image v) = false
-
-abbrev pub is_of_text : ℕ → Page → Bool
-is_of_text image (Data t v) = false
-is_of_text image (Stack t v) = false
-is_of_text image (Text i v) = i == image
 
 abbrev pub names_page : (Page → Bool) → List Moving → Bool
 names_page test [] = false

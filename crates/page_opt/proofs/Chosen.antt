@@ -3,7 +3,8 @@ use Rattle.std.proofs.Common.{◌≡◌, ℕ, ◌+◌, ◌<◌, ◌≤◌, Bool,
 use Rattle.std.specs.Prelude.{◌==◌, ◌||◌}
 use Rattle.std.proofs.lemmas.Bool.{cases_Bool, lt-ltb, ltb-true, ltb-false, eq-eqb, ne_eqb}
 use Rattle.page_opt.specs.declared.Victim.{Victim}
-use Rattle.page_opt.specs.Plans.{Run, has, without, due, entered, left, then, served, serve}
+use Rattle.page_opt.specs.Plans.{Run, has, due, entered, left, then, served, serve}
+use Rattle.vm_facts.specs.Lists.{without_first}
 use Rattle.page_opt.specs.Furthest.{furthest, choice, cached, listed, victims_from}
 use Rattle.page_opt.specs.Cache.{IsCache}
 use Rattle.page_opt.proofs.Counts.{hasnt_times, tally-without, length-without}
@@ -77,7 +78,7 @@ after_room n p future cache r =
     ap (λ (b : Bool). cached p b (choice n p future cache) cache) r.away ∙
     ap (λ (o : Option ℕ). cached p false o cache) r.none
 
-pub after_full : (n p : ℕ) (future cache : List ℕ) → (f : IsFull n p future cache) → after n p future cache ≡ p ∷ without f.victim cache
+pub after_full : (n p : ℕ) (future cache : List ℕ) → (f : IsFull n p future cache) → after n p future cache ≡ p ∷ without_first f.victim cache
 unfolding cached
 after_full n p future cache f =
     ap (λ (b : Bool). cached p b (choice n p future cache) cache) f.away ∙
@@ -133,8 +134,8 @@ chosen_served n at p future cache vs faults c (inr (inl r)) =
 chosen_served n at p future cache vs faults c (inr (inr f)) =
     ap (λ (b : Bool). served n p b (choice n p future cache) (record { cache = cache; victims = listed at (choice n p future cache) ++ vs; faults = faults })) f.away ∙
     ap (λ (o : Option ℕ). served n p false o (record { cache = cache; victims = listed at o ++ vs; faults = faults })) f.some ∙
-    ap (λ (b : Bool). then (entered n p) (cond b (Some (record { cache = without f.victim cache; victims = vs; faults = faults })) None)) f.furthest.there ∙
-    ap (λ (b : Bool). cond b (Some (record { cache = p ∷ without f.victim cache; victims = vs; faults = faults + 1 })) None) (lt-ltb (length (without f.victim cache)) n (let l = length-without f.victim cache f.furthest.there in let s = c.small in omega arith)) ∙
+    ap (λ (b : Bool). then (entered n p) (cond b (Some (record { cache = without_first f.victim cache; victims = vs; faults = faults })) None)) f.furthest.there ∙
+    ap (λ (b : Bool). cond b (Some (record { cache = p ∷ without_first f.victim cache; victims = vs; faults = faults + 1 })) None) (lt-ltb (length (without_first f.victim cache)) n (let l = length-without f.victim cache f.furthest.there in let s = c.small in omega arith)) ∙
     ap (λ (o : Option ℕ). Some (record { cache = cached p false o cache; victims = vs; faults = faults + 1 })) (sym f.some) ∙
     ap (λ (b : Bool). Some (record { cache = cached p b (choice n p future cache) cache; victims = vs; faults = counted b faults })) (sym f.away)
 
@@ -159,7 +160,7 @@ after_is_cache n p future cache some c = go (chosen n p future cache some)
       small = let l = r.room in omega arith;
     })
     go (inr (inr f)) = subst (λ (qs : List ℕ). IsCache n qs) (sym (after_full n p future cache f)) (record {
-      once = λ q. times_enter p q (without f.victim cache)
+      once = λ q. times_enter p q (without_first f.victim cache)
           (let t = tally-without (λ r. r == p) f.victim cache f.furthest.there in let z = hasnt_times p cache f.away in omega arith)
           (λ r. let t = tally-without (λ s. s == r) f.victim cache f.furthest.there in let o = c.once r in omega arith);
       small = let l = length-without f.victim cache f.furthest.there in let s = c.small in omega arith;

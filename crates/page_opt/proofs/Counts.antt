@@ -2,7 +2,8 @@
 use Rattle.std.proofs.Common.{◌≡◌, ℕ, ◌+◌, ◌≤◌, Bool, true, false, cond, List, [], ◌∷◌, length, Some, None, refl, sym, ap, arith, inl, inr, ◌⊎◌}
 use Rattle.std.specs.Prelude.{◌==◌, ◌||◌}
 use Rattle.std.proofs.lemmas.Bool.{cases_eq, cases_Bool, eq-eqb, ne_eqb, eqb-true, false≢true, or_cases, or_left, or_right, or_parts}
-use Rattle.page_opt.specs.Plans.{has, without}
+use Rattle.page_opt.specs.Plans.{has}
+use Rattle.vm_facts.specs.Lists.{without_first}
 use Rattle.page_opt.specs.Cache.{bit, tally, times}
 
 -- how many pages of the cache are among some references
@@ -59,17 +60,17 @@ times_hasnt p qs none = elim (cases_Bool (has p qs)) [
   | inr away ↦ away
 ]
 
--- what passes, without a page that is there
-pub tally-without : (f : ℕ → Bool) (v : ℕ) (qs : List ℕ) → has v qs ≡ true → bit (f v) + tally f (without v qs) ≡ tally f qs
-unfolding has without
+-- what passes, without_first a page that is there
+pub tally-without : (f : ℕ → Bool) (v : ℕ) (qs : List ℕ) → has v qs ≡ true → bit (f v) + tally f (without_first v qs) ≡ tally f qs
+unfolding has without_first
 tally-without f v [] h = absurd (false≢true h)
 tally-without f v (q ∷ qs) h = elim (cases_eq q v) [
   | inl same ↦
-      let first = ap (λ (b : Bool). tally f (cond b qs (q ∷ without v qs))) (eq-eqb q v same) in
+      let first = ap (λ (b : Bool). tally f (cond b qs (q ∷ without_first v qs))) (eq-eqb q v same) in
       let moved = ap (λ (r : ℕ). bit (f r)) same in
       omega arith
   | inr other ↦
-      let skip = ap (λ (b : Bool). tally f (cond b qs (q ∷ without v qs))) (ne_eqb q v other) in
+      let skip = ap (λ (b : Bool). tally f (cond b qs (q ∷ without_first v qs))) (ne_eqb q v other) in
       let rest = tally-without f v qs (later other (or_cases (q == v) (has v qs) h)) in
       omega arith
 ]
@@ -78,11 +79,11 @@ tally-without f v (q ∷ qs) h = elim (cases_eq q v) [
     later other (inl same) = absurd (other (eqb-true q v same))
     later other (inr there) = there
 
-pub length-without : (v : ℕ) (qs : List ℕ) → has v qs ≡ true → 1 + length (without v qs) ≡ length qs
+pub length-without : (v : ℕ) (qs : List ℕ) → has v qs ≡ true → 1 + length (without_first v qs) ≡ length qs
 length-without v qs h =
     let all = tally-without (λ q. true) v qs h in
     let one = lengths qs in
-    let two = lengths (without v qs) in
+    let two = lengths (without_first v qs) in
     omega arith
   where
     lengths : (rs : List ℕ) → tally (λ q. true) rs ≡ length rs

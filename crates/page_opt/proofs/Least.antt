@@ -3,7 +3,8 @@
 use Rattle.std.proofs.Common.{◌≡◌, ℕ, ◌+◌, ◌≤◌, Bool, true, false, cond, List, [], ◌∷◌, ◌++◌, length, Option, Some, None, refl, sym, ap, ◌∙◌, subst, arith, inl, inr, ◌⊎◌}
 use Rattle.std.proofs.lemmas.Bool.{cases_Bool}
 use Rattle.page_opt.specs.declared.Victim.{Victim}
-use Rattle.page_opt.specs.Plans.{Run, has, without, then, serve, runs, all_left, faults_of, plan_faults}
+use Rattle.page_opt.specs.Plans.{Run, has, then, serve, runs, all_left, faults_of, plan_faults}
+use Rattle.vm_facts.specs.Lists.{without_first}
 use Rattle.page_opt.specs.Furthest.{furthest_victims}
 use Rattle.page_opt.specs.Cache.{bit, times, IsCache}
 use Rattle.page_opt.proofs.Counts.{count, count_more, tally_all, tally_le, hasnt_times, tally-without}
@@ -28,7 +29,7 @@ pub record BestMiss (n p : ℕ) (xs best later : List ℕ) (b b' : ℕ) : Type 0
 
 -- where the furthest page has left
 full_kept : (n p : ℕ) (xs ys cache : List ℕ) → IsCache n cache → (f : IsFull n p (xs ++ ys) cache)
-    → (bit (has p xs) + count xs (without f.victim cache) ≡ count xs cache + bit (has p xs)) ⊎ (bit (has p xs) + count xs (without f.victim cache) + 1 ≡ n + bit (has p xs))
+    → (bit (has p xs) + count xs (without_first f.victim cache) ≡ count xs cache + bit (has p xs)) ⊎ (bit (has p xs) + count xs (without_first f.victim cache) + 1 ≡ n + bit (has p xs))
 full_kept n p xs ys cache c f =
     let one = tally-without (λ q. has q xs) f.victim cache f.furthest.there in
     elim (cases_Bool (has f.victim xs)) [

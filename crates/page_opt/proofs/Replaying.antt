@@ -5,7 +5,8 @@ use Rattle.std.proofs.lemmas.Bool.{cases_eq, eq-eqb, ne_eqb, lt-ltb, le-ltb, fal
 use Rattle.std.specs.BTreeSet.{BTreeSet, btree_set_len}
 use Rattle.page_opt.specs.declared.Victim.{Victim}
 use Rattle.page_opt.specs.declared.replay.Replay.{Replay}
-use Rattle.page_opt.specs.Plans.{Run, has, without, due, entered, left, then, served, serve, runs, all_left, faults_of, plan_faults}
+use Rattle.page_opt.specs.Plans.{Run, has, due, entered, left, then, served, serve, runs, all_left, faults_of, plan_faults}
+use Rattle.vm_facts.specs.Lists.{without_first}
 use Rattle.page_opt.specs.Held.{in_set, Changes}
 use Rattle.page_opt.specs.Replayed.{Tracks, run_of, Leaving, Entering, Serving, Replays}
 use Rattle.page_opt.proofs.Counts.{hasnt_times, tally-without, length-without}
@@ -52,7 +53,7 @@ tracks_entered page cache s t k away c e = record {
   once = λ q. times_enter page q cache (hasnt_times page cache away) k.once;
 }
 
-tracks_left : (v : ℕ) (cache : List ℕ) (s t : BTreeSet ℕ) → Tracks cache s → has v cache ≡ true → Changes s t v false → btree_set_len t + 1 ≡ btree_set_len s → Tracks (without v cache) t
+tracks_left : (v : ℕ) (cache : List ℕ) (s t : BTreeSet ℕ) → Tracks cache s → has v cache ≡ true → Changes s t v false → btree_set_len t + 1 ≡ btree_set_len s → Tracks (without_first v cache) t
 tracks_left v cache s t k there c e = record {
   same = λ q. elim (cases_eq q v) [
     | inl same ↦
@@ -113,7 +114,7 @@ replay_stuck n at page cache r m None k away d l = absurd (false≢true l.yes)
 replay_stuck n at page cache r m (Some v) k away d l =
     ap (λ (b : Bool). served n page b (due at r.victims.now) (run_of cache r)) (sym (k.same page) ∙ away) ∙
     ap (λ (o : Option ℕ). served n page false o (run_of cache r)) (sym d) ∙
-    ap (λ (b : Bool). then (entered n page) (cond b (Some (record { cache = without v cache; victims = drop 1 r.victims.now; faults = r.faults })) None)) (sym (k.same v) ∙ sym l.test)
+    ap (λ (b : Bool). then (entered n page) (cond b (Some (record { cache = without_first v cache; victims = drop 1 r.victims.now; faults = r.faults })) None)) (sym (k.same v) ∙ sym l.test)
 
 -- another fault
 pub replay_fault : (n at page : ℕ) (cache : List ℕ) (r m s : Replay) (o : Option ℕ) (ok : Bool) → Tracks cache r.cache → in_set r.cache page ≡ false → o ≡ due at r.victims.now
@@ -137,11 +138,11 @@ replay_fault n at page cache r m s o ok k away d l e = go o d l
     go (Some v) d l =
         let there : has v cache ≡ true = sym (k.same v) ∙ sym l.test in
         let page_away : has page cache ≡ false = sym (k.same page) ∙ away in
-        finish (record { cache = without v cache; victims = drop 1 r.victims.now; faults = r.faults }) ok
+        finish (record { cache = without_first v cache; victims = drop 1 r.victims.now; faults = r.faults }) ok
         (start ∙ ap (λ (o : Option ℕ). served n page false o (run_of cache r)) (sym d) ∙
-        ap (λ (b : Bool). then (entered n page) (cond b (Some (record { cache = without v cache; victims = drop 1 r.victims.now; faults = r.faults })) None)) there)
+        ap (λ (b : Bool). then (entered n page) (cond b (Some (record { cache = without_first v cache; victims = drop 1 r.victims.now; faults = r.faults })) None)) there)
         refl
-        (enters_run n page (without v cache) (drop 1 r.victims.now) r.faults m s ok
+        (enters_run n page (without_first v cache) (drop 1 r.victims.now) r.faults m s ok
         (tracks_left v cache r.cache m.cache k there l.cache l.size) (l.victims refl) l.faults
         (has-without v page cache k.once there ∙ ap (λ (b : Bool). b && not (page == v)) page_away) e)
 

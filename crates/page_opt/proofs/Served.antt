@@ -1,7 +1,8 @@
 -- What a reference does to a run of any plan.
 use Rattle.std.proofs.Common.{◌≡◌, ℕ, ◌+◌, ◌<◌, ◌≤◌, Bool, true, false, nat_lt, List, [], ◌∷◌, length, drop, Option, Some, None, refl, sym, ap, subst, arith, inl, inr, ◌⊎◌}
 use Rattle.std.proofs.lemmas.Bool.{ltb-true}
-use Rattle.page_opt.specs.Plans.{Run, has, without, due, entered, left, then, served, serve, runs}
+use Rattle.page_opt.specs.Plans.{Run, has, due, entered, left, then, served, serve, runs}
+use Rattle.vm_facts.specs.Lists.{without_first}
 use Rattle.page_opt.specs.Cache.{bit, times}
 use Rattle.page_opt.proofs.Counts.{count, cond_some, tally_le, has_times, hasnt_times, tally-without}
 
@@ -44,9 +45,9 @@ enters n p c m d away faults fewer e =
       small = let r = parts.0 in omega arith;
     })
 
-pub left_gives : (v : ℕ) (c m : Run) → left v c ≡ Some m → (has v c.cache ≡ true) × (record { cache = without v c.cache; victims = drop 1 c.victims; faults = c.faults } ≡ m)
+pub left_gives : (v : ℕ) (c m : Run) → left v c ≡ Some m → (has v c.cache ≡ true) × (record { cache = without_first v c.cache; victims = drop 1 c.victims; faults = c.faults } ≡ m)
 unfolding left
-left_gives v c m e = cond_some (has v c.cache) (record { cache = without v c.cache; victims = drop 1 c.victims; faults = c.faults }) m e
+left_gives v c m e = cond_some (has v c.cache) (record { cache = without_first v c.cache; victims = drop 1 c.victims; faults = c.faults }) m e
 
 served_gives : (n p : ℕ) (h : Bool) (o : Option ℕ) (c d : Run) → has p c.cache ≡ h → served n p h o c ≡ Some d → Step n p c d
 unfolding served then

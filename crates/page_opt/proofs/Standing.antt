@@ -5,7 +5,8 @@ use Rattle.std.proofs.lemmas.Bool.{cases_lt, eq-eqb, false≢true, true≢false,
 use Rattle.std.proofs.lemmas.List.{append-nil, drop_all, drop_more, get_or-drop, length-drop}
 use Rattle.page_opt.specs.declared.Victim.{Victim}
 use Rattle.page_opt.specs.declared.resident.Resident.{Resident}
-use Rattle.page_opt.specs.Plans.{Run, has, without, then, runs, all_left, faults_of, plan_faults}
+use Rattle.page_opt.specs.Plans.{Run, has, then, runs, all_left, faults_of, plan_faults}
+use Rattle.vm_facts.specs.Lists.{without_first}
 use Rattle.page_opt.specs.Furthest.{next_use, furthest, choice, cached, listed, victims_from, furthest_victims}
 use Rattle.page_opt.specs.Cache.{next_at, Changed, Held}
 use Rattle.page_opt.specs.Held.{in_set, size, IsWithin, Arrives, Leaves, HasRoom, PutAwaited, PutSpent, Puts, Stands}
@@ -105,7 +106,7 @@ gone p inside = ap (λ (b : Bool). inside p && not b) (eq-eqb p p refl) ∙ and-
 
 -- where there is no room, the furthest page leaves
 full_case : (n p : ℕ) (future cache : List ℕ) (v : ℕ) → has p cache ≡ false → n ≤ length cache → IsFurthest future cache v
-    → (choice n p future cache ≡ Some v) × (after n p future cache ≡ p ∷ without v cache)
+    → (choice n p future cache ≡ Some v) × (after n p future cache ≡ p ∷ without_first v cache)
 unfolding choice cached
 full_case n p future cache v away full f =
     let some =
@@ -222,8 +223,8 @@ stands_miss refs n i r s t u victims later faults some l st a (inr made) put =
     let entered = puts_held p (i + 1) future (others v (λ q. has q st.cache)) t u left.1 (and_left (has p st.cache) (not (p == v)) away) put in
     stands_next refs n i r u victims later faults (faults + 1) some l st
     (subst (λ (qs : List ℕ). Holds future (i + 1) (λ q. has q qs) u) (sym now)
-    (held_same future (i + 1) (plus p (others v (λ q. has q st.cache))) (λ q. has q (p ∷ without v st.cache)) (in_set u.awaited) (in_set u.spent)
-    (λ q. sym (has_first p q (without v st.cache) ∙ ap (λ (b : Bool). (q == p) || b) (has-without v q st.cache st.is_cache.once left.0.there))) entered.0))
+    (held_same future (i + 1) (plus p (others v (λ q. has q st.cache))) (λ q. has q (p ∷ without_first v st.cache)) (in_set u.awaited) (in_set u.spent)
+    (λ q. sym (has_first p q (without_first v st.cache) ∙ ap (λ (b : Bool). (q == p) || b) (has-without v q st.cache st.is_cache.once left.0.there))) entered.0))
     (let e = ap (λ (qs : List ℕ). length qs) now in let g = left.2 in let x = entered.1 in let y = length-without v st.cache left.0.there in omega arith)
     (made.victims ∙ sym (ap (λ (o : Option ℕ). victims ++ listed (i + 1) o) is_full.0 ∙ one_listed (i + 1) v victims))
     (sym (ap (λ (b : Bool). counted b faults) away))

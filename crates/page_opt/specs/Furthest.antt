@@ -1,7 +1,8 @@
 -- Belady's rule: the page that leaves is the one that is used again last, or never.
 use Rattle.std.specs.Prelude.{ℕ, suc, ◌+◌, Bool, true, false, ◌||◌, ◌&&◌, ◌==◌, cond, nat_lt, nat_le, List, [], ◌∷◌, ◌++◌, length, Option, Some, None}
 use Rattle.page_opt.specs.declared.Victim.{Victim}
-use Rattle.page_opt.specs.Plans.{has, without}
+use Rattle.page_opt.specs.Plans.{has}
+use Rattle.vm_facts.specs.Lists.{without_first}
 
 -- how many references come before the next one to the page; all of them, where there is none
 unfoldable pub next_use : ℕ → List ℕ → ℕ
@@ -30,7 +31,7 @@ choice n page future cache = cond (has page cache || nat_lt (length cache) n) No
 unfoldable pub cached : ℕ → Bool → Option ℕ → List ℕ → List ℕ
 cached page true victim cache = cache
 cached page false None cache = page ∷ cache
-cached page false (Some victim) cache = page ∷ without victim cache
+cached page false (Some victim) cache = page ∷ without_first victim cache
 
 -- the victim, if there is one, with the number of its reference
 unfoldable pub listed : ℕ → Option ℕ → List Victim

@@ -1,16 +1,12 @@
 -- Plans of replacement: which page leaves the cache at which reference, and how many faults that costs.
 use Rattle.std.specs.Prelude.{ℕ, ◌+◌, ◌<◌, ◌≤◌, Bool, true, false, ◌||◌, ◌==◌, cond, nat_lt, List, [], ◌∷◌, length, drop, Option, Some, None, IsSome}
+use Rattle.vm_facts.specs.Lists.{without_first}
 use Rattle.page_opt.specs.declared.Victim.{Victim}
 
 -- the page is in the cache
 unfoldable pub has : ℕ → List ℕ → Bool
 has page [] = false
 has page (q ∷ qs) = (q == page) || has page qs
-
--- the cache without the page
-unfoldable pub without : ℕ → List ℕ → List ℕ
-without page [] = []
-without page (q ∷ qs) = cond (q == page) qs (q ∷ without page qs)
 
 -- a run in its midst: the pages in the cache, the victims to come, and the faults so far
 pub record Run : Type 0 where
@@ -31,7 +27,7 @@ entered n page run =
 -- the next victim leaves, where it is in the cache
 unfoldable pub left : ℕ → Run → Option Run
 left victim run =
-    cond (has victim run.cache) (Some (record { cache = without victim run.cache; victims = drop 1 run.victims; faults = run.faults })) None
+    cond (has victim run.cache) (Some (record { cache = without_first victim run.cache; victims = drop 1 run.victims; faults = run.faults })) None
 
 -- one step after another
 unfoldable pub then : (Run → Option Run) → Option Run → Option Run

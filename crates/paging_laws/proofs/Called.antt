@@ -1,20 +1,20 @@
 -- Each fill, read and reclaim is of the wanted page, or of what is due.
-use Rattle.std.proofs.Common.{◌≡◌, ◌⊎◌, inl, inr, ℕ, ◌&&◌, cond, Bool, true, false, List, [], ◌∷◌, Some, None, refl, sym, ap, ◌∙◌, subst}
+use Rattle.std.proofs.Common.{◌≡◌, ◌⊎◌, inl, inr, ℕ, ◌&&◌, cond, Bool, true, false, List, [], ◌∷◌, Some, refl, sym, ap, ◌∙◌, subst}
 use Rattle.vm_facts.specs.declared.page.Page.{Page}
 use Rattle.vm_facts.specs.declared.page.PageState.{PageState}
 use Rattle.vm_facts.specs.declared.page.PageState.TheVariants.{Unfilled, Valid, Invalid, Coming, Going, OnSwap}
 use Rattle.vm_facts.specs.declared.entry.Entry.{Entry}
 use Rattle.vm_facts.specs.declared.entry.Entry.TheVariants as entries
 use Rattle.flat_state.specs.Flat.{Inputs, process_of}
-use Rattle.page_model.specs.Pages.{Filling, Zeros, OfImage, is_valid}
+use Rattle.page_model.specs.Pages.{Filling, Zeros, OfImage}
 use Rattle.page_model.specs.Placement.{Placement, Transfer, Due, CopyOf, due_at, state_of, filling_of}
 use Rattle.page_model.specs.Place.{space_of_process}
 use Rattle.page_model.specs.Runs.{run_in}
-use Rattle.page_model.specs.Serve.{force_entry, is_full, read_entry_if, bring_entry_by, feed_entry_by, serve_entry_by, serve_entry, serve_unit}
+use Rattle.page_model.specs.Serve.{force_entry, is_full, read_entry_if, bring_entry_by, feed_entry_by, serve_entry_by, serve_entry}
 use Rattle.page_model.specs.Dues.{DueStand, HasSource, IsDue}
 use Rattle.page_laws.proofs.Swapper.PuttingOut.{unit_case}
-use Rattle.page_laws.proofs.Moves.Units.{now_unit, unit_is}
-use Rattle.page_laws.proofs.Lists.Pages.{same_page_self}
+use Rattle.page_laws.proofs.Moves.Units.{unit_is, served_valid}
+use Rattle.flat_state.proofs.PageNames.{same_page_self}
 use Rattle.flat_model.specs.Run.{process_of_entry}
 use Rattle.run_model.specs.State.{State}
 use Rattle.run_model.specs.Wanted.{locked}
@@ -130,14 +130,6 @@ mark_names A s (entries.Get q lo n) k = absurd k
 mark_names A s (entries.Copy q) k = absurd k
 mark_names A s (entries.Reclaim q) k = absurd k
 mark_names A s _ k = tt
-
--- serving comes to an end at a valid page alone
-served_valid : (p : Placement) (q : Page) → serve_unit p q true ≡ None → is_valid (state_of p q) ≡ true
-served_valid p q e = go (is_valid (state_of p q)) refl
-  where
-    go : (b : Bool) → is_valid (state_of p q) ≡ b → is_valid (state_of p q) ≡ true
-    go true h = h
-    go false h = absurd (let k : Some (serve_entry p q) ≡ None = sym (now_unit p q h) ∙ e in cc)
 
 kind_names : (A : Inputs) (s : State) (u : Entry) → Kind A s u → Names A s u
 kind_names A s u (Fills q due e i) = subst (Names A s) (sym i) (fill_names A s (entries.Zero q) (inl (inr (record { rest = due; first = e }))))

@@ -8,13 +8,14 @@ use Rattle.vm_facts.specs.declared.entry.Entry.{Entry}
 use Rattle.vm_facts.specs.declared.entry.Entry.TheVariants as entries
 use Rattle.flat_state.specs.Flat.{Inputs}
 use Rattle.page_model.specs.Pages.{frame_of, is_dirty_by}
-use Rattle.page_model.specs.Frames.{times}
+use Rattle.vm_facts.specs.Lists.{times}
 use Rattle.page_model.specs.Placement.{Placement, state_of, mark_of}
 use Rattle.page_model.specs.Moves.{touch_all}
-use Rattle.page_model.specs.Place.{is_borrower, place_change, facts_of}
+use Rattle.page_model.specs.Place.{place_change, facts_of}
+use Rattle.flat_state.specs.Change.{is_borrower}
 use Rattle.page_model.specs.Ownership.{OwnsFrames, IsListed, is_marked_dirty, may_be_dirty}
 use Rattle.page_laws.specs.Leaving.{IsDirtyIn, IsUnwritten}
-use Rattle.page_laws.proofs.Lists.Local.{some_is}
+use Rattle.std.proofs.lemmas.Option.{same_Some}
 use Rattle.page_laws.proofs.Leaving.Dirty.{touch_all_dirty, change_dirty}
 use Rattle.page_laws.proofs.Leaving.Held.{held_frame}
 use Rattle.kernel_model.specs.Start.{ImagesFit}
@@ -49,7 +50,7 @@ must_write : (p : Placement) (q : Page) (f : ℕ) → OwnsFrames p → IsDirtyIn
 must_write p q f o d = record { dirty = marked_is q (mark_of p q) d.dirty; held = go (state_of p q) refl (o.dirty q d.dirty) }
   where
     frame : (g : ℕ) (s : PageState) → state_of p q ≡ s → frame_of s ≡ Some g → g ≡ f
-    frame g s e h = some_is g f (sym (ap frame_of e ∙ h) ∙ d.frame)
+    frame g s e h = same_Some g f (sym (ap frame_of e ∙ h) ∙ d.frame)
 
     idle : (g : ℕ) → state_of p q ≡ Invalid g → (state_of p q ≡ Valid f) ⊎ (((state_of p q ≡ Invalid f) × (times f p.free ≡ 0)) ⊎ (state_of p q ≡ Going f))
     idle g e = elim (zero_or (times f p.free)) [

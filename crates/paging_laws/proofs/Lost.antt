@@ -9,7 +9,8 @@ use Rattle.flat_state.specs.declared.change.Change.TheVariants.{Keep, Resize, Fo
 use Rattle.page_model.specs.Pages.{frame_of}
 use Rattle.page_model.specs.Placement.{Placement, state_of}
 use Rattle.page_model.specs.Moves.{touch_all}
-use Rattle.page_model.specs.Place.{is_borrower, place_entry, place_change, facts_of}
+use Rattle.page_model.specs.Place.{place_entry, place_change, facts_of}
+use Rattle.flat_state.specs.Change.{is_borrower}
 use Rattle.page_model.specs.Conditions.{IsNew}
 use Rattle.page_laws.specs.Leaving.{IsGivenUp, StaysOrTaken, IsUnwritten, StaysOrWritten}
 use Rattle.page_laws.proofs.Moves.Stays.{Steady}

@@ -16,7 +16,7 @@ use Rattle.page_model.specs.Conditions.{EachPage, CanEnter}
 use Rattle.page_model.specs.Ownership.{OwnsFrames}
 use Rattle.page_laws.specs.Neighbours.{IsWidestRun, IsLongestRun, MayRead, IsSwappedBeside, IsUnfilledBeside}
 use Rattle.page_laws.proofs.Lists.Local.{none_some}
-use Rattle.page_laws.proofs.Lists.Runs.{beside_number}
+use Rattle.page_laws.proofs.Lists.Pages.{beside_self}
 use Rattle.page_laws.proofs.Ownership.Changes.{each_at}
 use Rattle.page_laws.proofs.Runs.Neighbours.{data_in, text_in, file_in, alone_in}
 use Rattle.run_model.specs.State.{State}
@@ -39,7 +39,7 @@ record IsSmallRun (p : Placement) (q : Page) (r : Run) : Type 0 where
 -- the page itself is in its chunk, and so is each other
 near_by : (p : Placement) (q : Page) (r : Run) → ((w : ℕ) → r.lo ≤ w → w < r.lo + r.n → w ≢ number_of q → IsSwappedBeside p q w) → (w : ℕ) → r.lo ≤ w → w < r.lo + r.n → chunk_of (beside q w) ≡ chunk_of q
 near_by p q r h w l m = elim (cases_eq w (number_of q)) [
-  | inl e ↦ ap (λ (x : ℕ). chunk_of (beside q x)) e ∙ ap chunk_of (beside_number q)
+  | inl e ↦ ap (λ (x : ℕ). chunk_of (beside q x)) e ∙ ap chunk_of (beside_self q)
   | inr n ↦ (let k : IsSwappedBeside p q w = h w l m n in k.near)
 ]
 
@@ -102,7 +102,7 @@ run_has p q c = go (state_of p q) refl
     alone i =
         let k : EachPage (CanEnter p) (pages_from q (number_of q) 1) = subst (λ (r : Run). EachPage (CanEnter p) (pages_from q r.lo r.n)) i c in
         let e : CanEnter p (beside q (number_of q)) = k.0 in
-        ap (λ (x : Page). frame_of (state_of p x)) (sym (beside_number q)) ∙ e.frameless
+        ap (λ (x : Page). frame_of (state_of p x)) (sym (beside_self q)) ∙ e.frameless
 
     held : (q : Page) (s : PageState) (f : ℕ) → frame_of s ≡ Some f → (spare : ℕ) → run_in_by p q s spare ≡ run_alone q
     held (Data sid v) (Valid f) g e spare = refl

@@ -4,7 +4,7 @@ use Rattle.vm_facts.specs.declared.page.Page.{Page}
 use Rattle.vm_facts.specs.declared.entry.Entry.{Entry}
 use Rattle.vm_facts.specs.declared.entry.Entry.TheVariants as entries
 use Rattle.flat_state.specs.Flat.{Inputs}
-use Rattle.page_model.specs.Place.{is_borrower}
+use Rattle.flat_state.specs.Change.{is_borrower}
 use Rattle.page_laws.specs.Leaving.{IsGivenUp, IsWritten}
 use Rattle.flat_model.specs.Run.{process_of_entry, step_at}
 use Rattle.run_model.specs.State.{State}

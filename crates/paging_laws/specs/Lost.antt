@@ -4,8 +4,9 @@ use Rattle.vm_facts.specs.declared.page.Page.{Page}
 use Rattle.vm_facts.specs.declared.entry.Entry.{Entry}
 use Rattle.flat_state.specs.Flat.{Inputs, process_of}
 use Rattle.flat_state.specs.declared.change.Change.TheVariants.{Resize, Exec, End}
-use Rattle.page_model.specs.Place.{space_of_process, is_borrower}
-use Rattle.page_model.specs.Swapper.{is_of_space}
+use Rattle.page_model.specs.Place.{space_of_process}
+use Rattle.flat_state.specs.Change.{is_borrower}
+use Rattle.vm_facts.specs.Pages.{is_of_space}
 use Rattle.page_laws.specs.Leaving.{takes_frames, IsTaken, IsCutOff}
 use Rattle.flat_model.specs.Run.{process_of_entry, step_at}
 use Rattle.run_model.specs.State.{State}

@@ -13,24 +13,8 @@ use Rattle.replay_check.specs.Machine.{no_process, process_at, space_at, space_i
 use Rattle.std.specs.List.{position_or_len}
 use Rattle.std.proofs.lemmas.List.{get_or-set_same, length-set}
 use Rattle.std.proofs.lemmas.List.Folds.{position_or_len-set}
+use Rattle.flat_state.proofs.Processes.{replaced_twice}
 use Rattle.replay_check.proofs.Lists.{with_at, process_found, with_same}
-
--- the later one stays of two that take the place of their number
-replaced_twice : (xs : List Process) (p q : Process) → p.pid ≡ q.pid → replaced (replaced xs p) q ≡ replaced xs q
-unfolding replaced
-replaced_twice [] p q same = refl
-replaced_twice (x ∷ xs) p q same = go (x.pid == p.pid) refl (replaced_twice xs p q same)
-  where
-    go : (b : Bool) → (x.pid == p.pid) ≡ b → replaced (replaced xs p) q ≡ replaced xs q → replaced (replaced_by b p x xs (replaced xs p)) q ≡ replaced_by (x.pid == q.pid) q x xs (replaced xs q)
-    go true e more =
-        let here : (p.pid == q.pid) ≡ true = grind (arith, nat_tests) in
-        let there : (x.pid == q.pid) ≡ true = grind (arith, nat_tests) in
-        ap (λ (b : Bool). replaced_by b q p xs (replaced xs q)) here ∙ sym (ap (λ (b : Bool). replaced_by b q x xs (replaced xs q)) there)
-    go false e more =
-        let there : (x.pid == q.pid) ≡ false = grind (arith, nat_tests) in
-        ap (λ (b : Bool). replaced_by b q x (replaced xs p) (replaced (replaced xs p) q)) there
-        ∙ ap (λ (ys : List Process). x ∷ ys) more
-        ∙ sym (ap (λ (b : Bool). replaced_by b q x xs (replaced xs q)) there)
 
 pub with_twice : (F : FlatState) (p q : Process) → p.pid ≡ q.pid → with_process (with_process F p) q ≡ with_process F q
 with_twice F p q same = ap (λ (xs : List Process). record F { processes = xs }) (replaced_twice F.processes p q same)

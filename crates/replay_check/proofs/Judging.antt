@@ -2,6 +2,7 @@
 use Rattle.std.proofs.Common.{◌≡◌, ℕ, ◌==◌, Bool, true, false, List, [], ◌∷◌, Option, Some, None, refl, sym, ap, ◌∙◌, subst, eq-eqb, arith}
 use Rattle.std.specs.Prelude.{if◌then◌else◌}
 use Rattle.std.proofs.lemmas.Bool.Decides.{nat_tests}
+use Rattle.vm_facts.proofs.Tests.{eq_self}
 use Rattle.flat_state.specs.Flat.{FlatState, Inputs, can_step}
 use Rattle.vm_facts.specs.declared.regs.Regs.{Regs}
 use Rattle.vm_facts.specs.declared.entry.Entry.{Entry}
@@ -15,9 +16,6 @@ use Rattle.replay_check.specs.declared.replaying.Last.{Last}
 use Rattle.replay_check.specs.declared.replaying.Last.TheVariants as lasts
 use Rattle.replay_check.specs.Machine.{entries_of}
 use Rattle.replay_check.specs.Judging.{state_if, entries_if, is_other, refused_in, begins, IsFree, IsAt, IsVerdict}
-
-pub self : (n : ℕ) → (n == n) ≡ true
-self n = eq-eqb n n refl
 
 free_last : (o : Option Entry) (pid : ℕ) (es : List Entry) (e : Entry) → IsFree o → (is_refused o pid ≡ false) × (due o pid es ≡ es) × (may_follow o e ≡ true)
 free_last None pid es e free = (refl, refl, refl)
@@ -59,7 +57,7 @@ free_opens F pid point flat free = record {
 refused_opens : (F : FlatState) (pid : ℕ) (point : Point) → point.flat ≡ F → point.last ≡ Some (entries.Refused pid) → Opens F pid true point
 refused_opens F pid point flat last = record {
   flat = flat;
-  refuses = ap (λ (o : Option Entry). is_refused o pid) last ∙ self pid;
+  refuses = ap (λ (o : Option Entry). is_refused o pid) last ∙ eq_self pid;
   whole = λ es. ap (λ (o : Option Entry). due o pid es) last;
 }
 

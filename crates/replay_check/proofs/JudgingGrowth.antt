@@ -10,7 +10,8 @@ use Rattle.replay_check.specs.declared.replaying.Last.{Last}
 use Rattle.replay_check.specs.declared.replaying.Last.TheVariants as lasts
 use Rattle.replay_check.specs.Machine.{entries_of}
 use Rattle.replay_check.specs.Judging.{state_if, entries_if, is_other, begins, IsAt, IsVerdict}
-use Rattle.replay_check.proofs.Judging.{self, free_at, busy_at, followed, blocked, sole_at}
+use Rattle.replay_check.proofs.Judging.{free_at, busy_at, followed, blocked, sole_at}
+use Rattle.vm_facts.proofs.Tests.{eq_self}
 
 pub other_last : (last : Last) → is_other last ≡ true → last ≡ lasts.Other
 other_last lasts.Other is = refl
@@ -18,7 +19,7 @@ other_last (lasts.Refused q) is = absurd cc
 other_last (lasts.Wrote q call regs) is = absurd cc
 
 pub grown_begins : (pid grown pages : ℕ) → (grown == pages) ≡ begins pid (deeds.Grew grown) (entries.Grew pid pages)
-grown_begins pid grown pages = sym (ap (λ (b : Bool). b && grown == pages) (self pid))
+grown_begins pid grown pages = sym (ap (λ (b : Bool). b && grown == pages) (eq_self pid))
 
 pub grown_at : (A : Inputs) (point : Point) (F G : FlatState) (last new : Last) (pid pages : ℕ) (did : Did) (b : Bool) → is_other last ≡ true → new ≡ last → IsAt A F last point
     → entries_of pid did ≡ entries_if (can_step F pid) (flat_step A F pid false) → G ≡ state_if (can_step F pid) F (flat_step A F pid false)
@@ -34,7 +35,7 @@ grown_busy A point F G last new pid pages other at =
     blocked A point G new pid (entries.Grew pid pages) refl (busy_at A F last (entries.Grew pid pages) point other at (λ q. refl) (λ q. refl))
 
 pub slept_begins : (pid : ℕ) → true ≡ begins pid deeds.Slept (entries.Sleeps pid)
-slept_begins pid = sym (self pid)
+slept_begins pid = sym (eq_self pid)
 
 pub slept_at : (A : Inputs) (point : Point) (F G : FlatState) (last new : Last) (pid : ℕ) (did : Did) (b : Bool) → is_other last ≡ true → new ≡ last → IsAt A F last point
     → entries_of pid did ≡ entries_if (can_step F pid) (flat_step A F pid false) → G ≡ state_if (can_step F pid) F (flat_step A F pid false)

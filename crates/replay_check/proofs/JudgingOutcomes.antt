@@ -14,17 +14,18 @@ use Rattle.replay_check.specs.declared.replaying.Last.{Last}
 use Rattle.replay_check.specs.declared.replaying.Last.TheVariants as lasts
 use Rattle.replay_check.specs.Machine.{entries_of}
 use Rattle.replay_check.specs.Judging.{state_if, entries_if, refused_in, begins, IsAt, IsVerdict}
-use Rattle.replay_check.proofs.Judging.{self, open_at, shut_at, blocked, sole_at}
+use Rattle.replay_check.proofs.Judging.{open_at, shut_at, blocked, sole_at}
+use Rattle.vm_facts.proofs.Tests.{eq_self}
 
 pub ended_begins : (pid ended status : ℕ) → (ended == status) ≡ begins pid (deeds.Ended ended) (entries.Ended pid status)
-ended_begins pid ended status = sym (ap (λ (b : Bool). b && ended == status) (self pid))
+ended_begins pid ended status = sym (ap (λ (b : Bool). b && ended == status) (eq_self pid))
 
 pub ended_at : (A : Inputs) (point : Point) (F G : FlatState) (last new : Last) (pid status : ℕ) (refused : Bool) (did : Did) (b : Bool) → refused_in pid last ≡ Some refused → new ≡ lasts.Other → IsAt A F last point
     → entries_of pid did ≡ entries_if (can_step F pid) (flat_step A F pid refused) → G ≡ state_if (can_step F pid) F (flat_step A F pid refused)
     → b ≡ begins pid did (entries.Ended pid status)
     → IsVerdict A b G new (flat_entry A point (entries.Ended pid status))
 ended_at A point F G last new pid status refused did b taken other at es after is =
-    sole_at A point F G new pid refused (entries.Ended pid status) did b (open_at A F last pid refused (entries.Ended pid status) point taken at (self pid))
+    sole_at A point F G new pid refused (entries.Ended pid status) did b (open_at A F last pid refused (entries.Ended pid status) point taken at (eq_self pid))
     (record { owner = refl; made = λ A point. refl }) (λ bytes. refl) other es after is
 
 pub ended_shut : (A : Inputs) (point : Point) (F G : FlatState) (last new : Last) (pid status : ℕ) → refused_in pid last ≡ None → IsAt A F last point
@@ -36,14 +37,14 @@ ended_shut A point F G last new pid status taken at =
 pub answer_same : (pid number r0 r1 : ℕ) (carry : Bool) (call : SystemCall) (regs : Regs)
     → (number_of call == number && (same_carry regs.c carry && (register regs 0 == r0 && register regs 1 == r1))) ≡ same_entry (call_entry pid call regs) (entries.Call pid number carry r0 r1)
 answer_same pid number r0 r1 carry call regs =
-    sym (ap (λ (b : Bool). b && (number_of call == number && (same_carry regs.c carry && (register regs 0 == r0 && register regs 1 == r1)))) (self pid))
+    sym (ap (λ (b : Bool). b && (number_of call == number && (same_carry regs.c carry && (register regs 0 == r0 && register regs 1 == r1)))) (eq_self pid))
 
 pub called_at : (A : Inputs) (point : Point) (F G : FlatState) (last new : Last) (pid number r0 r1 : ℕ) (carry refused : Bool) (did : Did) (b : Bool) → refused_in pid last ≡ Some refused → new ≡ lasts.Other → IsAt A F last point
     → entries_of pid did ≡ entries_if (can_step F pid) (flat_step A F pid refused) → G ≡ state_if (can_step F pid) F (flat_step A F pid refused)
     → b ≡ begins pid did (entries.Call pid number carry r0 r1)
     → IsVerdict A b G new (flat_entry A point (entries.Call pid number carry r0 r1))
 called_at A point F G last new pid number r0 r1 carry refused did b taken other at es after is =
-    sole_at A point F G new pid refused (entries.Call pid number carry r0 r1) did b (open_at A F last pid refused (entries.Call pid number carry r0 r1) point taken at (self pid))
+    sole_at A point F G new pid refused (entries.Call pid number carry r0 r1) did b (open_at A F last pid refused (entries.Call pid number carry r0 r1) point taken at (eq_self pid))
     (record { owner = refl; made = λ A point. refl }) (λ bytes. refl) other es after is
 
 pub called_shut : (A : Inputs) (point : Point) (F G : FlatState) (last new : Last) (pid number r0 r1 : ℕ) (carry : Bool) → refused_in pid last ≡ None

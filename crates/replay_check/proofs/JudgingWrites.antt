@@ -15,7 +15,8 @@ use Rattle.replay_check.specs.declared.replaying.Last.{Last}
 use Rattle.replay_check.specs.declared.replaying.Last.TheVariants as lasts
 use Rattle.replay_check.specs.Machine.{entries_of}
 use Rattle.replay_check.specs.Judging.{state_if, entries_if, is_other, last_behind, begins, IsWriting, IsAt, IsVerdict}
-use Rattle.replay_check.proofs.Judging.{self, free_at, busy_at, followed, blocked, entry_of, last_verdict}
+use Rattle.replay_check.proofs.Judging.{free_at, busy_at, followed, blocked, entry_of, last_verdict}
+use Rattle.vm_facts.proofs.Tests.{eq_self}
 
 -- where bytes are written, the process can step, and its reply is to come
 begun : (A : Inputs) (F G : FlatState) (pid : ℕ) (reply : Entry) (bytes : List ℕ) (point : Point) → point.flat ≡ F
@@ -77,7 +78,7 @@ replied A point F pid reply e at =
     let rest : due_at A point pid ≡ reply ∷ [] =
     ap (λ (s : Step). due point.last pid s.entries) step ∙ ap (λ (xs : List Entry). due point.last pid xs) at.due
     ∙ ap (λ (o : Option Entry). due o pid (entries.Out pid at.bytes ∷ reply ∷ [])) at.out
-    ∙ ap (λ (b : Bool). if b then reply ∷ [] else (entries.Out pid at.bytes ∷ reply ∷ [])) (self pid) in
+    ∙ ap (λ (b : Bool). if b then reply ∷ [] else (entries.Out pid at.bytes ∷ reply ∷ [])) (eq_self pid) in
     let left : (step_at A point pid).after ≡ F = ap (λ (s : Step). s.after) step ∙ at.after in
     ap (λ (xs : List Entry). where_so (same_as (first_if (can_step point.flat pid) xs) e) (behind point (step_at A point pid).after xs)) rest
     ∙ ap (λ (c : Bool). where_so (same_as (first_if c (reply ∷ [])) e) (record { flat = (step_at A point pid).after; last = Some reply })) at.can
@@ -100,7 +101,7 @@ answered_at A point F last new of pid number r0 r1 carry b call regs was other a
     go true k writing e =
         let same : of ≡ pid = grind (arith, nat_tests) in
         let mine : IsWriting A F pid (call_entry pid call regs) point = subst (λ (n : ℕ). IsWriting A F n (call_entry n call regs) point) same writing in
-        let may : may_follow point.last (entries.Call pid number carry r0 r1) ≡ true = ap (λ (o : Option Entry). may_follow o (entries.Call pid number carry r0 r1)) mine.out ∙ self pid in
+        let may : may_follow point.last (entries.Call pid number carry r0 r1) ≡ true = ap (λ (o : Option Entry). may_follow o (entries.Call pid number carry r0 r1)) mine.out ∙ eq_self pid in
         subst (λ (o : Option Point). IsVerdict A b F lasts.Other o)
         (sym (followed A point pid (entries.Call pid number carry r0 r1) true refl may ∙ replied A point F pid (call_entry pid call regs) (entries.Call pid number carry r0 r1) mine))
         (last_verdict A F (call_entry pid call regs) b (same_entry (call_entry pid call regs) (entries.Call pid number carry r0 r1)) tt e)

@@ -28,19 +28,6 @@ judged_so (Err n) reason h e = absurd cc
 pub images_one : (f : FlatFile) (image : Loaded) → image_of f.bytes ≡ Ok image → images_of (f ∷ []) ≡ record { name = f.name; image = image } ∷ []
 images_one f image h = ap (λ (r : Result Loaded ℕ). named_as f.name r ++ []) h
 
-named_more : (name : List ℕ) (r : Result Loaded ℕ) (p : NamedImage) (rest : List NamedImage) → named_as name r ++ [] ≡ p ∷ [] → named_as name r ++ rest ≡ p ∷ rest
-named_more name (Ok image) p rest h = let e : record { name = name; image = image } ≡ p = cc in ap (λ (x : NamedImage). x ∷ rest) e
-named_more name (Err reason) p rest h = absurd cc
-
--- one more image is loaded
-pub images_more : (front : List NamedImage) (files : List FlatFile) (i : ℕ) (f : FlatFile) (p : NamedImage) → i < length files → f ≡ get_or files i f
-    → images_of (f ∷ []) ≡ p ∷ [] → (front ++ p ∷ []) ++ images_of (drop (i + 1) files) ≡ front ++ images_of (drop i files)
-images_more front files i f p below e h =
-    append_assoc front (p ∷ []) (images_of (drop (i + 1) files))
-    ∙ ap (λ (x : List NamedImage). front ++ x)
-    (sym (named_more f.name (image_of f.bytes) p (images_of (drop (i + 1) files)) h)
-    ∙ ap images_of (ap (λ (x : FlatFile). x ∷ drop (i + 1) files) e ∙ sym (drop_more files i f below)))
-
 -- The search for a name.
 abbrev pub Searches : List NamedImage → List ℕ → ℕ → Type 0
 Searches images name place = image_named 1 images name ≡ image_named (place + 1) (drop place images) name

@@ -19,7 +19,7 @@ use Rattle.flat_state.specs.declared.spot.Spot.{Spot}
 use Rattle.flat_state.specs.declared.spot.Spot.TheVariants.{Text, Data, Stack, Below, Outside}
 use Rattle.flat_state.specs.PageNames.{same_page, is_among}
 use Rattle.flat_state.specs.Writes.{MayPut, Wrote}
-use Rattle.flat_state.proofs.SpaceLaws.{spot_after, put_answers, wrote_puts}
+use Rattle.flat_state.proofs.SpaceLaws.{spot_after, put_answers, wrote_puts, put_sid}
 use Rattle.flat_model.specs.Touched.{page_read, page_tested, page_of_access, distinct, call_accesses, accesses_behind, accesses_after, step_accesses, touched_in, touched_by, touched_if, touched}
 use Rattle.user_vax.specs.Effects.{Effect}
 use Rattle.user_vax.specs.Instruction.{instruction, answer_of, answer_of_call, registers_after, writes_of}
@@ -30,6 +30,7 @@ use Rattle.flat_model.specs.Instruction.{instruction_in}
 use Rattle.flat_model.specs.Calls.{call_of, reply_of, argument, exit_reply, break_reply, break_by, pages_up_to, stack_pages_of, data_limit}
 use Rattle.flat_model.specs.declared.calls.Reply.TheVariants.{Exits}
 use Rattle.std.proofs.lemmas.List.Elements.{filter_map-append}
+use Rattle.flat_state.proofs.PageNames.{same_page_self, same_page_is}
 use Rattle.flat_state.specs.Change.{apply_writes}
 use Rattle.flat_model.specs.declared.calls.SystemCall.{SystemCall}
 use Rattle.flat_model.specs.Step.{written_process}
@@ -41,35 +42,16 @@ use Rattle.replay_check.specs.Present.{WrotePresent, access_of, pages_of, with_p
 
 -- Names of pages.
 
-pub same_self : (p : Page) → same_page p p ≡ true
-same_self (pages.Data sid v) = ap (λ (b : Bool). b && v == v) (eq-eqb sid sid refl) ∙ eq-eqb v v refl
-same_self (pages.Stack sid v) = ap (λ (b : Bool). b && v == v) (eq-eqb sid sid refl) ∙ eq-eqb v v refl
-same_self (pages.Text image v) = ap (λ (b : Bool). b && v == v) (eq-eqb image image refl) ∙ eq-eqb v v refl
-
-both_same : (a b v w : ℕ) → (a == b && v == w) ≡ true → (a ≡ b) × (v ≡ w)
-both_same a b v w h = (grind (arith, nat_tests), grind (arith, nat_tests))
-
-pub same_is : (p q : Page) → same_page p q ≡ true → p ≡ q
-same_is (pages.Data a v) (pages.Data b w) h = let e = both_same a b v w h in ap (λ (n : ℕ). pages.Data n v) e.0 ∙ ap (λ (n : ℕ). pages.Data b n) e.1
-same_is (pages.Stack a v) (pages.Stack b w) h = let e = both_same a b v w h in ap (λ (n : ℕ). pages.Stack n v) e.0 ∙ ap (λ (n : ℕ). pages.Stack b n) e.1
-same_is (pages.Text a v) (pages.Text b w) h = let e = both_same a b v w h in ap (λ (n : ℕ). pages.Text n v) e.0 ∙ ap (λ (n : ℕ). pages.Text b n) e.1
-same_is (pages.Data a v) (pages.Stack b w) h = absurd cc
-same_is (pages.Data a v) (pages.Text b w) h = absurd cc
-same_is (pages.Stack a v) (pages.Data b w) h = absurd cc
-same_is (pages.Stack a v) (pages.Text b w) h = absurd cc
-same_is (pages.Text a v) (pages.Data b w) h = absurd cc
-same_is (pages.Text a v) (pages.Stack b w) h = absurd cc
-
 same_turned : (p q : Page) → same_page p q ≡ same_page q p
 same_turned p q = go (same_page p q) (same_page q p) refl refl
   where
     go : (a b : Bool) → same_page p q ≡ a → same_page q p ≡ b → a ≡ b
     go true true e k = refl
     go true false e k =
-        let self : same_page q p ≡ true = ap (λ (r : Page). same_page q r) (same_is p q e) ∙ same_self q in
+        let self : same_page q p ≡ true = ap (λ (r : Page). same_page q r) (same_page_is p q e) ∙ same_page_self q in
         absurd cc
     go false true e k =
-        let self : same_page p q ≡ true = ap (λ (r : Page). same_page p r) (same_is q p k) ∙ same_self p in
+        let self : same_page p q ≡ true = ap (λ (r : Page). same_page p r) (same_page_is q p k) ∙ same_page_self p in
         absurd cc
     go false false e k = refl
 
@@ -90,7 +72,7 @@ among_kept : (ps : List Page) (p q : Page) → is_among q ps ≡ true → is_amo
 among_kept ps p q h = among_more ps p q ∙ ap (λ (b : Bool). b || same_page p q) h
 
 among_last : (ps : List Page) (p : Page) → is_among p (ps ++ p ∷ []) ≡ true
-among_last ps p = among_more ps p p ∙ go (is_among p ps) (same_page p p) (same_self p)
+among_last ps p = among_more ps p p ∙ go (is_among p ps) (same_page p p) (same_page_self p)
   where
     go : (a b : Bool) → b ≡ true → (a || b) ≡ true
     go true b h = refl
@@ -130,7 +112,7 @@ left_other pages p q h = go (is_among q pages) (same_page p q) refl refl
     go true b e k = refl
     go false false e k = refl
     go false true e k =
-        let same : is_among p pages ≡ is_among q pages = ap (λ (r : Page). is_among r pages) (same_is p q k) in
+        let same : is_among p pages ≡ is_among q pages = ap (λ (r : Page). is_among r pages) (same_page_is p q k) in
         absurd cc
 
 -- none of these pages
@@ -464,13 +446,6 @@ tested_kept s t (Data i) sids = ap (λ (n : ℕ). Some (pages.Data n (i / 1024))
 tested_kept s t (Stack i) sids = ap (λ (n : ℕ). Some (pages.Stack n (i / 1024))) sids
 tested_kept s t Below sids = refl
 tested_kept s t Outside sids = refl
-
-put_sid : (s : Space) (spot : Spot) (byte : ℕ) → (put_at s spot byte).sid ≡ s.sid
-put_sid s (Text i) byte = refl
-put_sid s (Data i) byte = refl
-put_sid s (Stack i) byte = refl
-put_sid s Below byte = refl
-put_sid s Outside byte = refl
 
 put_image : (s : Space) (spot : Spot) (byte : ℕ) → (put_at s spot byte).image ≡ s.image
 put_image s (Text i) byte = refl

@@ -11,11 +11,12 @@ use Rattle.replay_check.specs.declared.deed.Did.TheVariants as deeds
 use Rattle.replay_check.specs.declared.replaying.Last.{Last}
 use Rattle.replay_check.specs.Machine.{entries_of}
 use Rattle.replay_check.specs.Judging.{state_if, entries_if, is_other, begins, IsAt, IsVerdict}
-use Rattle.replay_check.proofs.Judging.{self, free_at, busy_at, blocked, sole_at}
+use Rattle.replay_check.proofs.Judging.{free_at, busy_at, blocked, sole_at}
+use Rattle.vm_facts.proofs.Tests.{eq_self}
 use Rattle.replay_check.proofs.JudgingGrowth.{other_last}
 
 pub ran_begins : (pid : ℕ) → true ≡ begins pid deeds.Ran (entries.Ran pid 1)
-ran_begins pid = sym (ap (λ (b : Bool). b && 1 == 1) (self pid))
+ran_begins pid = sym (ap (λ (b : Bool). b && 1 == 1) (eq_self pid))
 
 pub ran_at : (A : Inputs) (point : Point) (F G : FlatState) (last new : Last) (pid : ℕ) (did : Did) (b : Bool) → is_other last ≡ true → new ≡ last → IsAt A F last point
     → entries_of pid did ≡ entries_if (can_step F pid) (flat_step A F pid false) → G ≡ state_if (can_step F pid) F (flat_step A F pid false)

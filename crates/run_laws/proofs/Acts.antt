@@ -8,9 +8,8 @@ use Rattle.swap_book.specs.Holdings.{Holdings}
 use Rattle.swap_book.specs.Placing.{Wanted, place_all, fits}
 use Rattle.flat_state.specs.declared.change.Change.{Change}
 use Rattle.flat_state.specs.declared.change.Change.TheVariants.{Keep, Sleep}
-use Rattle.flat_state.specs.Change.{apply_change, apply_writes}
+use Rattle.flat_state.specs.Change.{apply_change, apply_writes, is_borrower}
 use Rattle.page_model.specs.Placement.{Placement}
-use Rattle.page_model.specs.Place.{is_borrower}
 use Rattle.page_model.specs.Swapper.{is_settled}
 use Rattle.kernel_model.specs.Start.{ImagesFit}
 use Rattle.flat_state.specs.Numbers.{IsNumbered}
@@ -25,7 +24,8 @@ use Rattle.run_model.specs.Act.{loses_pages, settled_in, settled_if, settled, lo
 use Rattle.flat_model.proofs.StepEnds.{Shape, Empty, One, Two, step_shape}
 use Rattle.flat_laws.specs.Others.{is_writing}
 use Rattle.run_model.specs.Kinds.{Runs}
-use Rattle.run_laws.specs.Standing.{Placed, ExecFits}
+use Rattle.run_laws.specs.Standing.{Placed}
+use Rattle.kernel_model.specs.Invariant.{EntersImage}
 use Rattle.run_laws.proofs.Flows.{Ends, steps_own, on_steps}
 use Rattle.run_laws.proofs.Forms.{Suits, Formed, Form, Missed, Came, step_form}
 use Rattle.run_laws.proofs.Stepping.{Making, step_placed}
@@ -137,7 +137,7 @@ arrives A s pid (entries.Owners a b c d) e o = absurd cc
 
 -- Pieces.
 
-ok_same : (a b : Holdings) → (let x : Result Holdings ℕ = Ok a in x) ≡ Ok b → a ≡ b
+pub ok_same : (a b : Holdings) → (let x : Result Holdings ℕ = Ok a in x) ≡ Ok b → a ≡ b
 ok_same a b e = cc
 
 pub none_found : (A : Inputs) (hs found : Holdings) (ws : List Wanted) → ws ≡ [] → place_all A.swap_blocks hs ws ≡ Ok found → hs ≡ found
@@ -242,7 +242,7 @@ pub record Stepped (A : Inputs) (s : State) (u : Entry) : Type 0 where
 
 -- the execve of a step finds an image, and its stack page is a page
 abbrev pub ExecsFit : Inputs → Type 0
-ExecsFit A = (F : FlatState) (pid : ℕ) (refused : Bool) → ExecFits A.images (flat_step A F pid refused).change
+ExecsFit A = (F : FlatState) (pid : ℕ) (refused : Bool) → EntersImage A.images (flat_step A F pid refused).change
 
 -- where the flat machine stands behind it
 pub stepped_flat : (A : Inputs) (s : State) (u : Entry) → (h : Stepped A s u) → (after A s u).point.flat ≡ (step_at A s.point h.pid).after

@@ -7,7 +7,7 @@ use Rattle.vm_facts.specs.declared.entry.Entry.{Entry}
 use Rattle.vm_facts.specs.declared.entry.Entry.TheVariants as entries
 use Rattle.page_model.specs.Pages.{Filling, Zeros, OfImage, frame_of, is_valid}
 use Rattle.flat_state.specs.PageNames.{same_page, is_among}
-use Rattle.page_model.specs.Frames.{times}
+use Rattle.vm_facts.specs.Lists.{times}
 use Rattle.page_model.specs.Placement.{Placement, Transfer, Due, Start, CopyOf, due_page, due_at, state_of, filling_of, IsThere, page_of, is_dirty}
 use Rattle.page_model.specs.Moves.{done}
 use Rattle.page_model.specs.Place.{due_after, place_entry}
@@ -19,12 +19,13 @@ use Rattle.page_model.specs.Swapper.{put_out_unit}
 use Rattle.page_model.specs.Conditions.{CanEnter, IsShared}
 use Rattle.page_model.specs.Dues.{DueStand, IsDue, NotDue}
 use Rattle.page_model.specs.Ownership.{OwnsFrames, seats}
-use Rattle.page_laws.proofs.Lists.Pages.{same_page_self}
+use Rattle.flat_state.proofs.PageNames.{same_page_self}
 use Rattle.page_laws.proofs.Moves.Stays.{expire_transfers}
 use Rattle.page_laws.proofs.Ownership.Serve.{run_in_enters}
 use Rattle.page_laws.proofs.Due.Entries.{run_in_due}
 use Rattle.page_laws.proofs.Moves.Parts.{run_some}
-use Rattle.page_laws.proofs.Swapper.PuttingOut.{unit_case, unit_can, not_full, run_some as put_some}
+use Rattle.page_laws.proofs.Swapper.PuttingOut.{unit_case, unit_can, run_some as put_some}
+use Rattle.std.proofs.lemmas.Bool.{leb-false}
 use Rattle.page_laws.proofs.Ends.Serving.{in_flight, full_some}
 use Rattle.page_laws.proofs.Moves.Transfers.{entry_count, done_count, retire_count}
 use Rattle.run_model.specs.Next.{fill_by, fill_unit, begins_write, move_by, move_unit}
@@ -115,7 +116,7 @@ served_few locked at p q l = state (state_of p q)
 
     read : (full : Bool) → is_full p ≡ full → length (place_entry locked at p (read_entry_if p q full)).transfers ≤ 16
     read true e = finish
-    read false e = let n = entry_count locked at p (read_entry p q) in let m = not_full (length p.transfers) e in omega arith
+    read false e = let n = entry_count locked at p (read_entry p q) in let m = leb-false 16 (length p.transfers) e in omega arith
 
     zero_few : length (place_entry locked at p (entries.Zero q)).transfers ≤ 16
     zero_few = let n = entry_count locked at p (entries.Zero q) in omega arith
@@ -227,5 +228,5 @@ move_few locked at p l = go (begins_write p locked) (is_full p) refl refl
   where
     go : (a b : Bool) → begins_write p locked ≡ a → is_full p ≡ b → length (place_entry locked at p (move_by (a && b))).transfers ≤ 16
     go true true h e = let n = done_count p in omega arith
-    go true false h e = let n = entry_count locked at p (entries.Hands 1) in let m = not_full (length p.transfers) e in omega arith
+    go true false h e = let n = entry_count locked at p (entries.Hands 1) in let m = leb-false 16 (length p.transfers) e in omega arith
     go false b h e = let n = no_write p locked h in omega arith

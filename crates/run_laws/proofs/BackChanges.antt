@@ -8,11 +8,11 @@ use Rattle.swap_book.specs.Holdings.{Holdings}
 use Rattle.swap_book.specs.Placing.{place_all}
 use Rattle.flat_state.specs.declared.change.Change.{Change}
 use Rattle.flat_state.specs.declared.change.Change.TheVariants.{Exec, End}
-use Rattle.flat_state.specs.Change.{apply_change}
+use Rattle.flat_state.specs.Change.{apply_change, is_borrower}
 use Rattle.flat_state.specs.Journal.{append}
 use Rattle.page_model.specs.Pages.{numbered}
 use Rattle.page_model.specs.Placement.{Placement, space_number}
-use Rattle.page_model.specs.Place.{is_borrower, place_change, facts_of, facts_numbered}
+use Rattle.page_model.specs.Place.{place_change, facts_of, facts_numbered}
 use Rattle.page_model.specs.Dues.{DueStand}
 use Rattle.page_model.specs.Conditions.{HaveParts, CanChange, ApartFrom}
 use Rattle.page_model.specs.Swapper.{is_out}
@@ -41,7 +41,8 @@ use Rattle.kernel_laws.proofs.Machine.Through.{exec_back_tables, end_back_tables
 use Rattle.flat_laws.proofs.Asking.{own_space, change_same}
 use Rattle.flat_model.specs.Asked.{given_up}
 use Rattle.kernel_laws.proofs.Kept.Changes.{GivesBack, takes_none, back_ready}
-use Rattle.run_laws.specs.Standing.{machine_of, EachOnce, Placed, ExecFits}
+use Rattle.run_laws.specs.Standing.{machine_of, EachOnce, Placed}
+use Rattle.kernel_model.specs.Invariant.{EntersImage}
 use Rattle.run_laws.proofs.Bridge.{from_machine}
 use Rattle.run_laws.proofs.Changes.{given_same, change_once}
 use Rattle.run_laws.proofs.OwnChanges.{Changing, with_found}
@@ -52,7 +53,7 @@ pub record Told (A : Inputs) (l : Kernel) (after : FlatState) : Type 0 where
   pub stands : Stands A.images l after
 
 pub back_told : (A : Inputs) (k : Kernel) (flat : FlatState) (pid : ℕ) (regs : Regs) (e : Entry) (q m : Process) (s : Space) (change : Change) → GivesBack change → ImagesFit A.images → IsNumbered flat → process_of flat pid ≡ Some q → q.holding ≡ Holds s → IsLender flat pid s.sid m
-    → is_out k.place pid ≡ false → k.place.due ≡ [] → ExecFits A.images change → SameTables k flat → Stands A.images k flat → Told A (change_step (facts_of A.images) (pass_step k pid m.pid) pid regs e change) (apply_change A.images flat pid regs change)
+    → is_out k.place pid ≡ false → k.place.due ≡ [] → EntersImage A.images change → SameTables k flat → Stands A.images k flat → Told A (change_step (facts_of A.images) (pass_step k pid m.pid) pid regs e change) (apply_change A.images flat pid regs change)
 back_told A k flat pid regs e q m s (Exec number top) gb fit nums f h is out due (named, im, whole) t st =
     let i : ImageFits named = fit number named im in
     record { tables = exec_back_tables k A.images flat pid regs e number top named q m s nums f h is im i.«data» whole t; stands = exec_back_stands A.images k flat pid regs e number top named q m s t due f h is out im st }

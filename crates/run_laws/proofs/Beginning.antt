@@ -1,7 +1,7 @@
 -- What stands of a run stands at its start.
 use Rattle.std.proofs.Common.{◌≡◌, ℕ, suc, ◌+◌, ◌*◌, ◌<◌, ◌==◌, ◌||◌, ◌&&◌, Bool, true, false, cond, List, [], ◌∷◌, ◌++◌, length, map, replicate, Option, Some, None, Result, Ok, Err, refl, sym, ap, ◌∙◌, subst, arith}
 use Rattle.std.proofs.lemmas.List.{length-replicate}
-use Rattle.flat_state.specs.Flat.{Process, NamedImage, Inputs, image_numbered, start_process, start_if, start_processes, start_state}
+use Rattle.flat_state.specs.Flat.{NamedImage, Inputs, image_numbered, start_process, start_if, start_processes, start_state}
 use Rattle.vm_facts.specs.declared.page.Page.TheVariants as pages
 use Rattle.aout_image.specs.declared.Image.{Image}
 use Rattle.aout_image.specs.Image.{data_pages_of, text_pages_of}
@@ -12,7 +12,7 @@ use Rattle.swap_book.specs.Holdings.{Holdings}
 use Rattle.swap_book.specs.Placing.{Wanted, wanted, and_then, place_all}
 use Rattle.swap_book.proofs.GrowthLaws.{place_all-append}
 use Rattle.page_model.specs.Pages.{numbered}
-use Rattle.page_model.specs.Frames.{times}
+use Rattle.vm_facts.specs.Lists.{times}
 use Rattle.page_model.specs.Placement.{Placement, Starting, Due, Start, due_page, due_at, due_from, slots_of, start_placement}
 use Rattle.page_model.specs.Rank.{HandsStand}
 use Rattle.page_model.specs.Dues.{NotDue}
@@ -25,15 +25,15 @@ use Rattle.kernel_model.specs.Numbers.{Numbered}
 use Rattle.kernel_model.specs.Start.{kept_of, start_kernel, AreStarting, ImageFits, ImagesFit}
 use Rattle.flat_state.specs.Numbers.{AllDistinct, AllBelow, IsNumbered}
 use Rattle.kernel_model.specs.Stands.{Stands}
-use Rattle.kernel_laws.proofs.Flat.Numbered.{not_eq}
+use Rattle.std.proofs.lemmas.Bool.{ne_eqb}
+use Rattle.kernel_laws.proofs.Kept.Starts.{kept_pids}
 use Rattle.kernel_laws.proofs.Sound.Steps.{alive_owner}
 use Rattle.kernel_laws.proofs.Pieces.Starts.{start_found}
 use Rattle.kernel_laws.proofs.Sound.Residing.{started_in}
 use Rattle.kernel_laws.proofs.Sound.Allowed.{start_numbers}
 use Rattle.page_laws.proofs.Due.Entries.{start_due}
 use Rattle.kernel_laws.proofs.Machine.Starts.{start_coupled_all}
-use Rattle.kernel_laws.proofs.Stands.Starts.{start_lent, start_beside}
-use Rattle.flat_laws.proofs.Numbers.{start_numbered}
+use Rattle.kernel_laws.proofs.Stands.Starts.{start_lent, start_beside, start_numbered}
 use Rattle.flat_laws.proofs.Asking.{text_same}
 use Rattle.flat_model.specs.Asked.{pieces_for, text_wanted, image_wanted, contains, first_then, first_wanted, first_held, start_held}
 use Rattle.run_model.specs.State.{starting_as, starting, start}
@@ -122,10 +122,6 @@ started_lives images (m ∷ ns) pid n h =
 
 -- Numbers.
 
-kept_pids : (ps : List Process) → map (λ (p : Proc). p.pid) (map kept_of ps) ≡ map (λ (p : Process). p.pid) ps
-kept_pids [] = refl
-kept_pids (p ∷ ps) = ap (λ (l : List ℕ). p.pid ∷ l) (kept_pids ps)
-
 started_count : (images : List NamedImage) (ns : List ℕ) → FirstThere images ns → length (starting images ns) ≡ length ns
 started_count images [] h = refl
 started_count images (n ∷ ns) h = ap (λ (o : Option NamedImage). length (starting_as n o ++ starting images ns)) h.0.1 ∙ ap suc (started_count images ns h.1)
@@ -134,7 +130,7 @@ started_count images (n ∷ ns) h = ap (λ (o : Option NamedImage). length (star
 
 later_not_due : (m n : ℕ) (first : List Starting) → m < n → NotDue (due_from n first) (pages.Stack m 0)
 later_not_due m n [] l = refl
-later_not_due m n (a ∷ more) l = ap (λ (b : Bool). cond (b && (0 == 0)) (Some (Start (pages.Stack n 0))) (due_at (due_from (n + 1) more) (pages.Stack m 0))) (not_eq n m (λ e. absurd (omega arith))) ∙ later_not_due m (n + 1) more (omega arith)
+later_not_due m n (a ∷ more) l = ap (λ (b : Bool). cond (b && (0 == 0)) (Some (Start (pages.Stack n 0))) (due_at (due_from (n + 1) more) (pages.Stack m 0))) (ne_eqb n m (λ e. absurd (omega arith))) ∙ later_not_due m (n + 1) more (omega arith)
 
 start_once : (n : ℕ) (first : List Starting) → EachOnce (due_from n first)
 start_once n [] = tt

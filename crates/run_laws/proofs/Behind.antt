@@ -1,5 +1,5 @@
 -- A process's own step keeps the machine with its bytes at the state of the run.
-use Rattle.std.proofs.Common.{◌≡◌, ℕ, ◌/◌, Bool, true, false, ◌||◌, nat_lt, List, [], ◌∷◌, length, Option, Some, None, Result, Ok, refl, sym, ap, ap₂, ◌∙◌, subst}
+use Rattle.std.proofs.Common.{◌≡◌, ℕ, ◌/◌, Bool, true, ◌||◌, nat_lt, List, [], ◌∷◌, length, Option, Some, None, Result, Ok, refl, sym, ap, ap₂, ◌∙◌, subst}
 use Rattle.std.specs.Prelude.{filter_map}
 use Rattle.vm_facts.specs.Answers.{ByteWrite}
 use Rattle.flat_state.specs.Space.{Space, address_in, puts}
@@ -11,13 +11,12 @@ use Rattle.swap_book.specs.Holdings.{Holdings}
 use Rattle.swap_book.specs.Placing.{place_all}
 use Rattle.flat_state.specs.declared.change.Change.{Change}
 use Rattle.flat_state.specs.declared.change.Change.TheVariants.{Keep, Resize, Fork, Lend, Exec, Reap, Sleep, End}
-use Rattle.flat_state.specs.Change.{apply_writes, apply_change, NamesChild}
+use Rattle.flat_state.specs.Change.{apply_writes, apply_change, NamesChild, is_borrower}
 use Rattle.flat_state.specs.Journal.{append}
-use Rattle.page_model.specs.Pages.{numbered, is_valid}
-use Rattle.flat_state.specs.PageNames.{same_page, is_among}
-use Rattle.page_model.specs.Placement.{Placement, space_number, state_of}
+use Rattle.page_model.specs.Pages.{numbered}
+use Rattle.page_model.specs.Placement.{Placement, space_number}
 use Rattle.page_model.specs.Moves.{touch_all}
-use Rattle.page_model.specs.Place.{is_borrower, place_change, space_of_holding, space_of_process, facts_of}
+use Rattle.page_model.specs.Place.{place_change, space_of_holding, space_of_process, facts_of}
 use Rattle.page_model.specs.Swapper.{is_out, is_settled}
 use Rattle.kernel_model.specs.Kernel.{Kernel}
 use Rattle.kernel_model.specs.Coupled.{Fits, SameTables, Coupled}
@@ -28,7 +27,6 @@ use Rattle.kernel_model.specs.Start.{ImagesFit}
 use Rattle.flat_state.specs.Numbers.{IsNumbered}
 use Rattle.flat_state.specs.Lenders.{LendsStand}
 use Rattle.kernel_model.specs.Stands.{Stands}
-use Rattle.page_laws.proofs.Lists.Pages.{same_page_is}
 use Rattle.kernel_laws.proofs.Machine.Swaps.{found_at, found_self, ran_coupled}
 use Rattle.kernel_laws.proofs.Stands.Changes.{ran_stands}
 use Rattle.kernel_laws.proofs.Machine.Takes.{takes_coupled}
@@ -54,7 +52,7 @@ use Rattle.run_laws.proofs.Writing.{SameSpace, space_tables}
 use Rattle.run_laws.proofs.Written.{Mid, Rest, IsValidAt, AllWritable, WroteAll, write_all}
 use Rattle.run_laws.proofs.Landing.{Landed, Found, step_landed}
 use Rattle.run_laws.proofs.OwnChanges.{Changing}
-use Rattle.run_laws.proofs.Flows.{steps_own, on_steps}
+use Rattle.run_laws.proofs.Flows.{steps_own, on_steps, valid_among}
 use Rattle.run_laws.proofs.Forms.{Suits, Formed}
 use Rattle.run_laws.proofs.Stepping.{Wrote, wrote, wrote_process, borrows_same, touched_out, touched_settled, settles_for, given_written}
 use Rattle.run_laws.proofs.Acts.{Stepper, stepper, Completes, completes, Arrives, arrives, held_is, found_pieces, settled_when, Stepped, ExecsFit, stepped_flat, stepped_form}
@@ -62,17 +60,9 @@ use Rattle.run_laws.proofs.Outs.{change_out, regs_stay}
 
 -- Bytes of touched pages are of valid ones.
 
-among_valid : (p : Placement) (qs : List Page) (q : Page) → AllValid p qs → is_among q qs ≡ true → is_valid (state_of p q) ≡ true
-among_valid p [] q a e = absurd cc
-among_valid p (r ∷ rs) q a e = go (same_page q r) refl e (among_valid p rs q a.1)
-  where
-    go : (b : Bool) → same_page q r ≡ b → (b || is_among q rs) ≡ true → (is_among q rs ≡ true → is_valid (state_of p q) ≡ true) → is_valid (state_of p q) ≡ true
-    go true i k later = subst (λ (x : Page). is_valid (state_of p x) ≡ true) (sym (same_page_is q r i)) a.0
-    go false i k later = later k
-
 one_valid : (p : Placement) (qs : List Page) (o : Option Page) → AllValid p qs → IsOneOf qs o → IsValidAt p o
 one_valid p qs None a h = h
-one_valid p qs (Some q) a h = among_valid p qs q a h
+one_valid p qs (Some q) a h = valid_among p qs q a h
 
 all_writable : (p : Placement) (s : Space) (qs : List Page) (ws : List ByteWrite) → AllValid p qs → AreOf s qs ws → AllWritable p s ws
 all_writable p s qs [] a h = tt

@@ -1,5 +1,6 @@
 -- What stands of a machine stands of a state with the same tables.
 use Rattle.std.proofs.Common.{◌≡◌, ℕ, Bool, false, List, [], ◌∷◌, length, map, Option, Some, None, refl, sym, ap, ◌∙◌, subst}
+use Rattle.kernel_laws.proofs.Machine.Starts.{start_outlines}
 use Rattle.flat_state.specs.Flat.{Process, FlatState, Inputs}
 use Rattle.page_model.specs.Pages.{numbered}
 use Rattle.page_model.specs.Placement.{Placement}
@@ -7,7 +8,7 @@ use Rattle.page_model.specs.Conditions.{HaveParts}
 use Rattle.page_model.specs.Dues.{DueStand}
 use Rattle.page_model.specs.Ownership.{OneOwner}
 use Rattle.kernel_model.specs.Kernel.{Kernel, Proc}
-use Rattle.kernel_model.specs.Coupled.{Outline, outline_of, outline_kept, SameTables}
+use Rattle.kernel_model.specs.Coupled.{Outline, outline_kept, SameTables}
 use Rattle.kernel_model.specs.Sound.{has_life, lives_in, lives, Sound}
 use Rattle.kernel_model.specs.Start.{kept_of}
 use Rattle.flat_state.specs.Numbers.{AllBelow, AllDistinct}
@@ -20,10 +21,6 @@ use Rattle.kernel_laws.proofs.Flat.Lists.{pid_of}
 use Rattle.kernel_laws.proofs.Machine.Processes.{pids_same}
 use Rattle.run_laws.specs.Standing.{machine_of, EachOnce, Placed}
 use Rattle.run_laws.proofs.Paging.{bare_sound}
-
-pub kept_outlines : (ps : List Process) → map outline_kept (map kept_of ps) ≡ map outline_of ps
-kept_outlines [] = refl
-kept_outlines (p ∷ ps) = ap (λ (l : List Outline). outline_of p ∷ l) (kept_outlines ps)
 
 abbrev alive_by : Option Outline → Bool
 alive_by None = false
@@ -47,7 +44,7 @@ kept_numbers (p ∷ ps) = ap (λ (l : List ℕ). p.pid ∷ l) (kept_numbers ps)
 pub from_machine : (A : Inputs) (flat : FlatState) (k : Kernel) → Sound A.swap_blocks k → Numbered k → SameTables k flat → Stands A.images k flat → DueStand k.place → EachOnce k.place.due → HaveParts k.place.transfers → length k.place.holds ≡ A.frames → Placed A flat k.place k.holdings
 from_machine A flat k so n t st d o h f =
     let w : OneOwner A.swap_blocks (lives k.processes) k.place k.holdings = so.owner in
-    let e : map outline_kept (map kept_of flat.processes) ≡ map outline_kept k.processes = kept_outlines flat.processes ∙ sym t.processes in
+    let e : map outline_kept (map kept_of flat.processes) ≡ map outline_kept k.processes = start_outlines flat.processes ∙ sym t.processes in
     let p : map (λ (x : Proc). x.pid) (map kept_of flat.processes) ≡ map (λ (x : Proc). x.pid) k.processes = kept_numbers flat.processes ∙ sym (pids_same k.processes flat.processes t.processes) in
     record {
       sound = bare_sound A.swap_blocks flat k.place k.holdings (alive_owner A.swap_blocks (lives k.processes) (lives (map kept_of flat.processes)) k.place k.holdings (lives_same (map kept_of flat.processes) k.processes e) w) so.hands so.few_transfers;
@@ -58,7 +55,7 @@ from_machine A flat k so n t st d o h f =
         pids_below = subst (λ (m : ℕ). AllBelow m (map (λ (x : Proc). x.pid) (map kept_of flat.processes))) t.next_pid (subst (AllBelow k.next_pid) (sym p) n.pids_below);
         residents = λ m a. n.residents m (sym (lives_same (map kept_of flat.processes) k.processes e m) ∙ a);
       };
-      tables = tables_of (machine_of flat k.place k.holdings) flat (kept_outlines flat.processes) refl refl t.spaces;
+      tables = tables_of (machine_of flat k.place k.holdings) flat (start_outlines flat.processes) refl refl t.spaces;
       stands = record { starts = λ q e. refl; texts = st.texts; out = st.out };
       dues = d;
       once = o;

@@ -1,7 +1,8 @@
 -- A byte of a valid page is read from the page's frame.
-use Rattle.std.proofs.Common.{◌≡◌, ℕ, ◌+◌, ◌*◌, ◌/◌, ◌%◌, ◌==◌, Bool, true, false, cond, List, [], ◌∷◌, find, get_or, drop, Option, Some, sym, ap, ◌∙◌, subst, arith}
+use Rattle.std.proofs.Common.{◌≡◌, ℕ, ◌+◌, ◌*◌, ◌/◌, ◌%◌, List, get_or, drop, Option, Some, sym, ap, ◌∙◌, subst, arith}
 use Rattle.std.specs.Prelude.{slice_index}
 use Rattle.std.proofs.lemmas.List.{get_or-take, get_or-drop}
+use Rattle.run_laws.proofs.Touching.{found_process}
 use Rattle.vm_facts.specs.declared.page.Page.{Page}
 use Rattle.vm_facts.specs.declared.page.Page.TheVariants as pages
 use Rattle.vm_facts.specs.declared.page.PageState.TheVariants.{Valid}
@@ -22,7 +23,7 @@ use Rattle.page_laws.proofs.Bytes.Pages.{keeps_at}
 use Rattle.page_laws.proofs.Moves.Steps.{page_in}
 use Rattle.kernel_laws.proofs.Flat.Lists.{sid_of}
 use Rattle.flat_laws.proofs.Asking.{own_space}
-use Rattle.run_laws.specs.Standing.{EachProcess, IsText, HasText}
+use Rattle.run_laws.specs.Standing.{IsText, HasText}
 use Rattle.run_laws.specs.Running.{IsRun}
 use Rattle.run_laws.specs.Machine.{Keeps, StandsAt, place_in}
 
@@ -31,15 +32,6 @@ byte_there : (bytes : List ℕ) (i : ℕ) → slice_index bytes i ≡ slice_inde
 byte_there bytes i =
     let whole : 1024 * (i / 1024) + i % 1024 ≡ i = omega arith in
     sym (get_or-take 1024 (drop (1024 * (i / 1024)) bytes) (i % 1024) 0 (omega arith) ∙ get_or-drop (1024 * (i / 1024)) bytes (i % 1024) 0 ∙ ap (λ n. get_or bytes n 0) whole)
-
--- what is so of each process is so of one that is found
-found_each : (P : Process → Type 0) (qs : List Process) (pid : ℕ) (q : Process) → EachProcess P qs → find (λ x. x.pid == pid) qs ≡ Some q → P q
-found_each P [] pid q h e = absurd cc
-found_each P (x ∷ xs) pid q h e = go (λ k. found_each P xs pid q h.1 k) (x.pid == pid) e
-  where
-    go : (find (λ y. y.pid == pid) xs ≡ Some q → P q) → (b : Bool) → cond b (Some x) (find (λ y. y.pid == pid) xs) ≡ Some q → P q
-    go more true k = let same : x ≡ q = cc in subst P same h.0
-    go more false k = more k
 
 pub byte_read : (A : Inputs) (s : State) (k : Kernel) (image : List ℕ) (pid : ℕ) (q : Process) (x : Space) (spot : Spot) (v : Page) (f : ℕ) → IsRun A s → StandsAt A s k image
     → process_of s.point.flat pid ≡ Some q → q.holding ≡ Holds x → page_read x spot ≡ Some v → state_of k.place v ≡ Valid f
@@ -65,7 +57,7 @@ byte_read A s k image pid q x spot v f run at here holds named valid = go spot n
     own = own_space flat pid q x run.numbers here holds
 
     text : IsText A.images x
-    text = subst (HasText A.images) holds (found_each (λ p. HasText A.images p.holding) flat.processes pid q run.texts here)
+    text = subst (HasText A.images) holds (found_process (λ p. HasText A.images p.holding) flat.processes pid q run.texts here)
 
     at_byte : (segment : List ℕ) (i : ℕ) → frame_bytes k f ≡ page_at (i / 1024) segment → slice_index segment i ≡ slice_index (frame_bytes k f) (i % 1024)
     at_byte segment i e = byte_there segment i ∙ ap (λ (b : List ℕ). slice_index b (i % 1024)) (sym e)

@@ -1,7 +1,8 @@
 -- A change of a process leaves what stands.
-use Rattle.std.proofs.Common.{◌≡◌, ℕ, zero, suc, ◌+◌, ◌*◌, ◌<◌, ◌≤◌, ◌==◌, ◌||◌, ◌&&◌, Bool, true, false, cond, List, [], ◌∷◌, ◌++◌, length, map, find, Option, Some, None, refl, sym, ap, ap₂, ◌∙◌, subst, arith}
+use Rattle.std.proofs.Common.{◌≡◌, ℕ, zero, suc, ◌+◌, ◌*◌, ◌<◌, ◌≤◌, ◌==◌, ◌&&◌, Bool, true, false, cond, List, [], ◌∷◌, ◌++◌, length, map, Option, Some, None, refl, sym, ap, ap₂, ◌∙◌, subst, arith}
+use Rattle.std.proofs.Math.Bool.{and-false}
 use Rattle.flat_state.specs.Space.{Space}
-use Rattle.flat_state.specs.Flat.{Process, FlatState}
+use Rattle.flat_state.specs.Flat.{FlatState}
 use Rattle.vm_facts.specs.declared.page.Page.{Page}
 use Rattle.vm_facts.specs.declared.page.Page.TheVariants as pages
 use Rattle.vm_facts.specs.declared.page.PageState.{PageState}
@@ -15,26 +16,18 @@ use Rattle.swap_book.specs.Holdings.{Holdings, kept}
 use Rattle.swap_book.specs.Placing.{Wanted, place_all}
 use Rattle.flat_state.specs.declared.change.Change.{Change}
 use Rattle.flat_state.specs.declared.change.Change.TheVariants.{Keep, Resize, Fork, Lend, Exec, Reap, Sleep, End}
-use Rattle.flat_state.specs.Change.{lends_to}
+use Rattle.flat_state.specs.Change.{is_borrower}
 use Rattle.page_model.specs.Pages.{Slot}
 use Rattle.flat_state.specs.PageNames.{same_page}
 use Rattle.page_model.specs.Placement.{Placement, Due, CopyOf, due_page, due_at, image_of, sharers, slots_of}
-use Rattle.page_model.specs.Place.{is_borrower, place_change, copy_due, copies_from, give_up_unless, facts_numbered}
+use Rattle.page_model.specs.Place.{place_change, copy_due, copies_from, give_up_unless, facts_numbered}
 use Rattle.page_model.specs.Dues.{NotDue}
 use Rattle.kernel_model.specs.ChangeStep.{holdings_after, given_back_unless, text_given_back}
-use Rattle.flat_model.specs.Asked.{is_there, is_shared, without, without_text, without_own, given_up}
+use Rattle.flat_model.specs.Asked.{is_shared, without_text, without_own, given_up, without_owner}
 use Rattle.run_laws.specs.Standing.{EachOnce}
 use Rattle.aout_image.specs.declared.Image.{Image}
 
 -- What goes back.
-
-pub borrower_same : (ps : List Process) (pid : ℕ) → is_there (find (λ q. lends_to pid q.holding) ps) ≡ is_borrower ps pid
-borrower_same [] pid = refl
-borrower_same (q ∷ ps) pid = go (lends_to pid q.holding) (borrower_same ps pid)
-  where
-    go : (b : Bool) → is_there (find (λ q. lends_to pid q.holding) ps) ≡ is_borrower ps pid → is_there (cond b (Some q) (find (λ q. lends_to pid q.holding) ps)) ≡ (b || is_borrower ps pid)
-    go true ih = refl
-    go false ih = ih
 
 -- all pieces of two owners go, in either order
 kept_twice : (a b : Owner) (hs : Holdings) → kept a 0 (kept b 0 hs) ≡ kept b 0 (kept a 0 hs)
@@ -58,7 +51,7 @@ own_back : (borrowed : Bool) (after : FlatState) (s : Space) (hs : Holdings) (im
     → without_own borrowed after s hs ≡ given_back_unless borrowed hs s.sid image left
 own_back true after s hs image left i h = refl
 own_back false after s hs image left i h =
-    text_back (is_shared after s.image) left s.image (without (owners.Stack s.sid) (without (owners.Data s.sid) hs)) (h refl).0 (h refl).1
+    text_back (is_shared after s.image) left s.image (without_owner (owners.Stack s.sid) (without_owner (owners.Data s.sid) hs)) (h refl).0 (h refl).1
     ∙ ap (text_given_back left (kept (owners.Stack s.sid) 0 (kept (owners.Data s.sid) 0 hs))) i
 
 u_back : (borrowed : Bool) (hs : Holdings) (sid image left pid : ℕ) → given_back_unless borrowed (kept (owners.U pid) 0 hs) sid image left ≡ kept (owners.U pid) 0 (given_back_unless borrowed hs sid image left)
@@ -85,11 +78,11 @@ given_same flat after pid s (Resize d t) hs p q borrowed b i h =
 given_same flat after pid s (Fork child) hs p q borrowed b i h = refl
 given_same flat after pid s (Lend child) hs p q borrowed b i h = refl
 given_same flat after pid s (Exec image top) hs p q borrowed b i h =
-    ap (λ (x : Bool). without_own x after s hs) (borrower_same flat.processes pid ∙ b) ∙ own_back borrowed after s hs (image_of p s.sid) (sharers q (image_of p s.sid)) (sym i) h
+    ap (λ (x : Bool). without_own x after s hs) b ∙ own_back borrowed after s hs (image_of p s.sid) (sharers q (image_of p s.sid)) (sym i) h
 given_same flat after pid s (Reap child) hs p q borrowed b i h = refl
 given_same flat after pid s Sleep hs p q borrowed b i h = refl
 given_same flat after pid s (End status) hs p q borrowed b i h =
-    ap (λ (x : Bool). without_own x after s (kept (owners.U pid) 0 hs)) (borrower_same flat.processes pid ∙ b)
+    ap (λ (x : Bool). without_own x after s (kept (owners.U pid) 0 hs)) b
     ∙ own_back borrowed after s (kept (owners.U pid) 0 hs) (image_of p s.sid) (sharers q (image_of p s.sid)) (sym i) h ∙ u_back borrowed hs s.sid (image_of p s.sid) (sharers q (image_of p s.sid)) pid
 
 -- No page is due twice.
@@ -110,11 +103,7 @@ absent_copies child parent r v (x ∷ xs) h = go x.state (absent_copies child pa
     go OnSwap ih = skip ih
 
 later_apart : (v w : ℕ) → v < w → (w == v) ≡ false
-later_apart v w l = Rattle.kernel_laws.proofs.Flat.Numbered.not_eq w v (λ e. absurd (omega arith))
-
-and_false : (b : Bool) → (b && false) ≡ false
-and_false true = refl
-and_false false = refl
+later_apart v w l = Rattle.std.proofs.lemmas.Bool.ne_eqb w v (λ e. absurd (omega arith))
 
 append_absent : (xs ys : List Due) (r : Page) → NotDue xs r → NotDue ys r → NotDue (xs ++ ys) r
 append_absent [] ys r a b = b
@@ -163,8 +152,8 @@ change_once images p pid sid borrowed next at Keep e = none_once p e
 change_once images p pid sid borrowed next at (Resize d s) e = none_once (place_change images p pid sid borrowed next at (Resize d s)) ((Rattle.page_laws.proofs.Bytes.Changes.drop_all_rest (Rattle.page_laws.proofs.Ownership.Changes.dropped_pages p sid d s) p).1 ∙ e)
 change_once images p pid sid borrowed next at (Fork child) e =
     append_once (copies_from (pages.Data next) (pages.Data sid) 0 (slots_of p (pages.Data sid 0))) (copies_from (pages.Stack next) (pages.Stack sid) 0 (slots_of p (pages.Stack sid 0)))
-    (copies_once (pages.Data next) (pages.Data sid) 0 (slots_of p (pages.Data sid 0)) (λ u w l. ap (λ (b : Bool). (next == next) && b) (later_apart u w l) ∙ and_false (next == next)))
-    (copies_once (pages.Stack next) (pages.Stack sid) 0 (slots_of p (pages.Stack sid 0)) (λ u w l. ap (λ (b : Bool). (next == next) && b) (later_apart u w l) ∙ and_false (next == next)))
+    (copies_once (pages.Data next) (pages.Data sid) 0 (slots_of p (pages.Data sid 0)) (λ u w l. ap (λ (b : Bool). (next == next) && b) (later_apart u w l) ∙ and-false (next == next)))
+    (copies_once (pages.Stack next) (pages.Stack sid) 0 (slots_of p (pages.Stack sid 0)) (λ u w l. ap (λ (b : Bool). (next == next) && b) (later_apart u w l) ∙ and-false (next == next)))
     (stack_absent next sid (slots_of p (pages.Data sid 0)) (slots_of p (pages.Stack sid 0)))
 change_once images p pid sid borrowed next at (Lend child) e = none_once p e
 change_once images p pid sid borrowed next at (Exec image top) e = go (facts_numbered images image)

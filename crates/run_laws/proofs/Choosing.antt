@@ -3,13 +3,14 @@ use Rattle.std.proofs.Common.{◌≡◌, inl, inr, ℕ, ◌==◌, Bool, true, fa
 use Rattle.std.specs.List.{cons_option}
 use Rattle.flat_state.specs.Flat.{Holding, Holds, Lends, Zombie, Process, FlatState, process_of, holds_space}
 use Rattle.page_model.specs.Placement.{Placement}
-use Rattle.page_model.specs.Place.{is_borrower}
+use Rattle.flat_state.specs.Change.{is_borrower}
 use Rattle.page_model.specs.Swapper.{is_out, Runner, In, Out, swap_choice}
 use Rattle.flat_state.specs.Numbers.{IsAbsent, AllDistinct, IsNumbered}
 use Rattle.kernel_model.specs.Stands.{holds_some}
 use Rattle.page_model.specs.Swapping.{OneOf, ComesIn, MayGo, GoesOut}
 use Rattle.page_laws.proofs.Swapper.Choices.{chosen_in, chosen_out}
-use Rattle.kernel_laws.proofs.Flat.Numbered.{eq_self, not_eq}
+use Rattle.vm_facts.proofs.Tests.{eq_self}
+use Rattle.std.proofs.lemmas.Bool.{ne_eqb}
 use Rattle.run_model.specs.State.{runner_by, runners}
 
 some_runner : (x y : Runner) → Some x ≡ Some y → x ≡ y
@@ -30,7 +31,7 @@ held_in F (q ∷ ps) r d o = go (runner_by F q q.holding) refl (held_in F ps r d
 
     absent : (qs : List Process) (n : ℕ) → IsAbsent n (map (λ (q : Process). q.pid) qs) → holds_some (find (λ x. x.pid == n) qs) ≡ true → ⊥
     absent [] n a e = absurd cc
-    absent (x ∷ qs) n a e = absent_go (absent qs n a.1) (sym (ap (λ (b : Bool). holds_some (cond b (Some x) (find (λ y. y.pid == n) qs))) (not_eq x.pid n a.0)) ∙ e)
+    absent (x ∷ qs) n a e = absent_go (absent qs n a.1) (sym (ap (λ (b : Bool). holds_some (cond b (Some x) (find (λ y. y.pid == n) qs))) (ne_eqb x.pid n a.0)) ∙ e)
       where
         absent_go : (holds_some (find (λ y. y.pid == n) qs) ≡ true → ⊥) → holds_some (find (λ y. y.pid == n) qs) ≡ true → ⊥
         absent_go f k = f k
@@ -39,7 +40,7 @@ held_in F (q ∷ ps) r d o = go (runner_by F q q.holding) refl (held_in F ps r d
     behind e = pick (q.pid == r.pid) refl
       where
         pick : (b : Bool) → (q.pid == r.pid) ≡ b → holds_some (cond b (Some q) (find (λ x. x.pid == r.pid) ps)) ≡ true
-        pick true k = absurd (absent ps q.pid d.0 (ap (λ (n : ℕ). holds_some (find (λ x. x.pid == n) ps)) (Rattle.kernel_laws.proofs.Flat.Numbered.eq_is q.pid r.pid k) ∙ e))
+        pick true k = absurd (absent ps q.pid d.0 (ap (λ (n : ℕ). holds_some (find (λ x. x.pid == n) ps)) (Rattle.std.proofs.lemmas.Bool.eqb-true q.pid r.pid k) ∙ e))
         pick false k = e
 
     here : (q.pid ≡ r.pid) × (holds_space q.holding ≡ true) → holds_some (cond (q.pid == r.pid) (Some q) (find (λ x. x.pid == r.pid) ps)) ≡ true

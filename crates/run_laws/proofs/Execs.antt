@@ -25,7 +25,7 @@ use Rattle.flat_model.specs.declared.calls.SystemCall.{SystemCall}
 use Rattle.flat_model.specs.declared.calls.SystemCall.TheVariants as calls
 use Rattle.flat_model.specs.Calls.{call_of, argument, three_arguments, bytes_from, before, string_after, string_from, string_before, last_pointer, pointer_after, arguments_from, arguments_at, argument_limit, string_limit, write_limit, data_limit, process_limit, child_by, written_to, break_by, pages_up_to, stack_pages_of, numbered_by, image_named, path_image, starts, execve_of, wait_by, reply_of, exit_reply, write_reply, break_reply, execve_reply, or_fault, unless_refused, wants_space, refused_reply}
 use Rattle.flat_model.specs.Step.{replied_step, reply_behind, called_step, step_behind, step_of, step_holding, step_if, flat_step, written_process}
-use Rattle.run_laws.specs.Standing.{ExecFits}
+use Rattle.kernel_model.specs.Invariant.{EntersImage}
 use Rattle.run_laws.proofs.Acts.{ExecsFit}
 
 -- What computations give.
@@ -144,7 +144,7 @@ found_image images (Some name) found e =
 -- Replies.
 
 abbrev ReplyExecs : List NamedImage → Reply → Type 0
-ReplyExecs images (Does regs change) = ExecFits images change
+ReplyExecs images (Does regs change) = EntersImage images change
 ReplyExecs images (Fails error) = Unit {0}
 ReplyExecs images (Writes bytes) = Unit {0}
 ReplyExecs images Waits = Unit {0}
@@ -222,25 +222,25 @@ refused_execs images true (Exits status) h = tt
 
 -- Steps.
 
-replied_execs : (images : List NamedImage) (F : FlatState) (p : Process) (call : SystemCall) (effect : Effect) (reply : Reply) → ReplyExecs images reply → ExecFits images (replied_step images F p call effect reply).change
+replied_execs : (images : List NamedImage) (F : FlatState) (p : Process) (call : SystemCall) (effect : Effect) (reply : Reply) → ReplyExecs images reply → EntersImage images (replied_step images F p call effect reply).change
 replied_execs images F p call effect (Fails error) h = tt
 replied_execs images F p call effect (Does regs change) h = h
 replied_execs images F p call effect (Writes bytes) h = tt
 replied_execs images F p call effect Waits h = tt
 replied_execs images F p call effect (Exits status) h = tt
 
-called_execs : (images : List NamedImage) (F : FlatState) (p : Process) (s : Space) (refused : Bool) (effect : Effect) (o : Option SystemCall) → ExecFits images (called_step images F p s refused effect o).change
+called_execs : (images : List NamedImage) (F : FlatState) (p : Process) (s : Space) (refused : Bool) (effect : Effect) (o : Option SystemCall) → EntersImage images (called_step images F p s refused effect o).change
 called_execs images F p s refused effect None = tt
 called_execs images F p s refused effect (Some call) = replied_execs images F p call effect (reply_behind images F p s refused call effect)
     (refused_execs images refused (or_fault (run (answers_of (puts s effect.writes)) (reply_of images (apply_writes F p.pid effect.writes) (written_process p s effect.writes) (puts s effect.writes) call effect.regs)))
     (run_execs images (answers_of (puts s effect.writes)) (reply_of images (apply_writes F p.pid effect.writes) (written_process p s effect.writes) (puts s effect.writes) call effect.regs)
     (all_execs images (apply_writes F p.pid effect.writes) (written_process p s effect.writes) (puts s effect.writes) call effect.regs)))
 
-behind_execs : (images : List NamedImage) (F : FlatState) (p : Process) (s : Space) (refused : Bool) (effect : Effect) (o : Option ℤ) → ExecFits images (step_behind images F p s refused effect o).change
+behind_execs : (images : List NamedImage) (F : FlatState) (p : Process) (s : Space) (refused : Bool) (effect : Effect) (o : Option ℤ) → EntersImage images (step_behind images F p s refused effect o).change
 behind_execs images F p s refused effect None = tt
 behind_execs images F p s refused effect (Some number) = called_execs images F p s refused effect (call_of number)
 
-of_execs : (images : List NamedImage) (F : FlatState) (p : Process) (s : Space) (refused : Bool) (r : Result Effect Refused) → ExecFits images (step_of images F p s refused r).change
+of_execs : (images : List NamedImage) (F : FlatState) (p : Process) (s : Space) (refused : Bool) (r : Result Effect Refused) → EntersImage images (step_of images F p s refused r).change
 of_execs images F p s refused (Ok effect) = behind_execs images F p s refused effect effect.call
 of_execs images F p s refused (Err (Miss address write)) = tt
 of_execs images F p s true (Err (Below address)) = tt
@@ -251,11 +251,11 @@ pub execs_fit : (A : Inputs) → ExecsFit A
 unfolding flat_step
 execs_fit A F pid refused = go (process_of F pid)
   where
-    by : (p : Process) (h : Holding) → ExecFits A.images (step_holding A.images F p refused h).change
+    by : (p : Process) (h : Holding) → EntersImage A.images (step_holding A.images F p refused h).change
     by p (Holds s) = of_execs A.images F p s refused (instruction_in s p.regs)
     by p (Lends sid child) = tt
     by p (Zombie status) = tt
 
-    go : (o : Option Process) → ExecFits A.images (step_if A.images F refused o).change
+    go : (o : Option Process) → EntersImage A.images (step_if A.images F refused o).change
     go None = tt
     go (Some p) = by p p.holding

@@ -1,6 +1,8 @@
 -- Where there is no next unit the run is finished; a process that runs has one; and no more than the limit is counted.
 use Rattle.std.proofs.Common.{◌≡◌, ◌⊎◌, inl, inr, ℕ, ◌<◌, ◌≤◌, ◌==◌, ◌&&◌, Bool, true, false, cond, nat_lt, List, [], ◌∷◌, length, find, Option, Some, None, Result, Ok, Err, ℤ, refl, sym, ap, ◌∙◌, subst, arith}
 use Rattle.std.proofs.lemmas.Bool.Decides.{nat_tests}
+use Rattle.std.proofs.lemmas.Bool.{ltb-false}
+use Rattle.flat_laws.proofs.Others.{number_of_found}
 use Rattle.flat_state.specs.Space.{Space, address_in, answers_of}
 use Rattle.flat_state.specs.Flat.{Holding, Process, FlatState, NamedImage, Inputs, process_of, can_step, is_ready, ready_if}
 use Rattle.vm_facts.specs.declared.entry.Entry.{Entry}
@@ -33,14 +35,11 @@ use Rattle.run_laws.specs.Flowing.{Awaits, WaitsBy, Flows}
 use Rattle.run_laws.specs.Running.{IsRun, IsReady, IsIdle}
 use Rattle.run_laws.proofs.Refusals.{HasEntry}
 use Rattle.run_laws.proofs.Acts.{Stepper, stepper}
-use Rattle.run_laws.proofs.Flows.{acts_some, on_steps, on_running, runs_next}
+use Rattle.run_laws.proofs.Flows.{acts_some, on_steps, on_running, runs_next, has_some}
 use Rattle.run_laws.proofs.Lawful.{next_is_unit}
-use Rattle.run_laws.proofs.Wholes.{unit_ready}
+use Rattle.run_laws.proofs.Wholes.{unit_ready, flat_or}
 
 -- No next unit.
-
-lt_not : (a b : ℕ) → nat_lt a b ≡ false → b ≤ a
-lt_not a b e = grind (arith, nat_tests)
 
 -- none of these passes
 none_passes : (test : Process → Bool) (ps : List Process) (pid : ℕ) (q : Process) → find test ps ≡ None → find (λ x. x.pid == pid) ps ≡ Some q → test q ≡ false
@@ -51,14 +50,6 @@ none_passes test (x ∷ ps) pid q n f = go (none_passes test ps pid q) (test x) 
     go ih true e n b f = absurd cc
     go ih false e n true f = ap test (let same : q ≡ x = cc in same) ∙ e
     go ih false e n false f = ih n f
-
-number_found : (ps : List Process) (pid : ℕ) (q : Process) → find (λ x. x.pid == pid) ps ≡ Some q → q.pid ≡ pid
-number_found [] pid q f = absurd cc
-number_found (x ∷ ps) pid q f = go (number_found ps pid q) (x.pid == pid) refl f
-  where
-    go : (find (λ y. y.pid == pid) ps ≡ Some q → q.pid ≡ pid) → (b : Bool) → (x.pid == pid) ≡ b → cond b (Some x) (find (λ y. y.pid == pid) ps) ≡ Some q → q.pid ≡ pid
-    go ih true e k = ap (λ (y : Process). y.pid) (let same : q ≡ x = cc in same) ∙ (let z : x.pid ≡ pid = grind (arith, nat_tests) in z)
-    go ih false e k = ih k
 
 none_ready : (F : FlatState) (pid : ℕ) → next_ready F 0 ≡ None → 0 < pid → can_step F pid ≡ false
 none_ready F pid n l = go (process_of F pid) refl
@@ -76,7 +67,7 @@ none_ready F pid n l = go (process_of F pid) refl
 
     go : (o : Option Process) → process_of F pid ≡ o → ready_if o ≡ false
     go None e = refl
-    go (Some q) e = both (is_ready q) (nat_lt 0 q.pid) (let i = number_found F.processes pid q e in let m : 0 < q.pid = omega (arith, i, l) in grind (arith, nat_tests)) (none_passes (λ x. is_ready x && nat_lt 0 x.pid) F.processes pid q nobody e)
+    go (Some q) e = both (is_ready q) (nat_lt 0 q.pid) (let i = number_of_found F.processes pid q e in let m : 0 < q.pid = omega (arith, i, l) in grind (arith, nat_tests)) (none_passes (λ x. is_ready x && nat_lt 0 x.pid) F.processes pid q nobody e)
 
 -- As many instructions as may are counted; or all lines are taken, and no process can step.
 pub none_ends : (A : Inputs) (s : State) → next_unit A s ≡ None → (A.limit ≤ s.count) ⊎ IsIdle A s
@@ -89,10 +80,10 @@ none_ends A s h = due s.place.due h
     nobody (Some n) p e = absurd cc
 
     by : (a b : Bool) → nat_lt s.count A.limit ≡ a → nat_lt s.lines (length A.lines) ≡ b → when a (line_or_turn s b) ≡ None → (A.limit ≤ s.count) ⊎ IsIdle A s
-    by false b e f k = inl (lt_not s.count A.limit e)
+    by false b e f k = inl (ltb-false s.count A.limit e)
     by true true e f k = absurd cc
     by true false e f k = inr (record {
-      lines = lt_not s.lines (length A.lines) f;
+      lines = ltb-false s.lines (length A.lines) f;
       idle = λ pid l. none_ready s.point.flat pid (nobody (next_ready s.point.flat (last_turned s.mark)) (next_ready s.point.flat 0) k) l;
     })
 
@@ -107,7 +98,7 @@ none_ends A s h = due s.place.due h
 
 -- The flat machine's instructions never miss.
 
-never_misses : {A : Type 0} (s : Space) (p : Program A) (a : ℕ) (w : Bool) → run (answers_of s) p ≡ Err (Miss a w) → ⊥
+pub never_misses : {A : Type 0} (s : Space) (p : Program A) (a : ℕ) (w : Bool) → run (answers_of s) p ≡ Err (Miss a w) → ⊥
 never_misses s (Gives x) a w e = cc
 never_misses s (Refuses signal) a w e = cc
 never_misses s (Reads b next) a w e = go (address_in s b) (λ byte. never_misses s (next byte) a w) e
@@ -160,10 +151,6 @@ step_some A F pid refused c =
     (subst (λ (h : Holding). HasEntry (step_holding A.images F x.process refused h).entries) (sym x.holds)
     (of_some A.images F x.process x.space refused (instruction_in x.space x.process.regs) (λ a w e. never_misses x.space (instruction x.process.regs) a w e)))
 
-has_not : (es : List Entry) → HasEntry es → es ≡ [] → ⊥
-has_not [] h e = h
-has_not (x ∷ xs) h e = absurd cc
-
 -- a process that runs, all of whose pages are valid, has a next unit
 pub runs_some : (A : Inputs) (s : State) (pid : ℕ) (now : Bool) → IsRun A s → Runs A s pid now → wanted A s ≡ None → (u : Entry) × (next_unit A s ≡ Some u)
 runs_some A s pid now r x w = (a.0, runs_next A s pid now a.0 x w a.1)
@@ -175,7 +162,7 @@ runs_some A s pid now r x w = (a.0, runs_next A s pid now a.0 x w a.1)
     c = on_steps A s s.mark pid now x.on
 
     some : (step_at A s.point pid).entries ≡ [] → ⊥
-    some e = has_not (step_at A s.point pid).entries (step_some A s.point.flat pid (is_refused s.point.last pid) c) e
+    some e = has_some (step_at A s.point pid).entries (step_some A s.point.flat pid (is_refused s.point.last pid) c) e
 
     -- bytes that are out are the running process's
     own : (p : ℕ) → Awaits A s p → p ≡ pid
@@ -220,13 +207,6 @@ counted_flat (entries.Ran p n) k (inl e) = absurd cc
 counted_flat (entries.Call p n c r0 r1) k (inl e) = absurd cc
 counted_flat (entries.Ended p n) k (inl e) = absurd cc
 counted_flat _ k (inl e) = inl refl
-
-flat_or : (u : Entry) → (process_of_entry u ≡ None) ⊎ ((pid : ℕ) × (process_of_entry u ≡ Some pid))
-flat_or u = go (process_of_entry u)
-  where
-    go : (o : Option ℕ) → (o ≡ None) ⊎ ((pid : ℕ) × (o ≡ Some pid))
-    go None = inl refl
-    go (Some pid) = inr (pid, refl)
 
 -- no more instructions than the limit are counted
 pub unit_below : (A : Inputs) (s : State) (u : Entry) → next_unit A s ≡ Some u → s.count ≤ A.limit → (after A s u).count ≤ A.limit

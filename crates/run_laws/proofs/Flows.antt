@@ -1,5 +1,5 @@
 -- Each flat entry that the policy gives is an entry of the flat machine's run.
-use Rattle.std.proofs.Common.{◌≡◌, ◌⊎◌, inl, inr, ℕ, ◌+◌, ◌==◌, Bool, true, false, not, ◌&&◌, ◌||◌, nat_lt, if◌then◌else◌, List, [], ◌∷◌, Option, Some, None, refl, sym, ap, ◌∙◌, subst, eq-eqb}
+use Rattle.std.proofs.Common.{◌≡◌, ◌⊎◌, inl, inr, ℕ, ◌+◌, ◌==◌, Bool, true, false, not, ◌&&◌, ◌||◌, nat_lt, if◌then◌else◌, List, [], ◌∷◌, Option, Some, None, refl, sym, ap, ◌∙◌, subst}
 use Rattle.vm_facts.specs.declared.page.Page.{Page}
 use Rattle.vm_facts.specs.declared.entry.Entry.{Entry}
 use Rattle.vm_facts.specs.declared.entry.Entry.TheVariants as entries
@@ -14,7 +14,7 @@ use Rattle.page_model.specs.Swapper.{is_out, residence_of}
 use Rattle.page_model.specs.Ownership.{OwnsFrames}
 use Rattle.flat_state.specs.Journal.{append}
 use Rattle.page_laws.proofs.Moves.Locks.{done_spares}
-use Rattle.page_laws.proofs.Lists.Pages.{same_page_is}
+use Rattle.flat_state.proofs.PageNames.{same_page_is}
 use Rattle.page_laws.proofs.Moves.Stays.{Steady, done_steady}
 use Rattle.kernel_laws.proofs.Machine.Shapes.{done_shaped}
 use Rattle.flat_laws.specs.Others.{is_writing}
@@ -33,15 +33,18 @@ use Rattle.run_model.specs.Act.{must_refuse, must_settle, act_by, act_if, act, a
 use Rattle.run_model.proofs.Acting.{next_says}
 use Rattle.run_model.specs.Next.{when, or_else, goes_on, turn_instructions, work, work_by, turn_by, turn_unit, under, next_mark, next_unit}
 use Rattle.run_model.specs.Kinds.{GoesOn, Runs, Kind, Fills, Brings, Copies, Serves, Acts, ComesIn, Interrupts, Moves, PutsOut, Notes, Begins}
-use Rattle.run_model.proofs.NextUnits.{both_true, kind_of}
+use Rattle.run_model.proofs.NextUnits.{kind_of}
+use Rattle.std.proofs.lemmas.Bool.{and_parts}
+use Rattle.std.proofs.lemmas.Option.{same_Some}
+use Rattle.vm_facts.proofs.Tests.{eq_self}
 use Rattle.run_laws.specs.Flowing.{Awaits, WaitsBy, Flows}
 use Rattle.run_laws.proofs.Refusals.{HasEntry, refused_entry}
 
 -- The unit of a process that runs.
 
 pub on_steps : (A : Inputs) (s : State) (m : Mark) (pid : ℕ) (now : Bool) → GoesOn A s m pid now → can_step s.point.flat pid ≡ true
-on_steps A s (marks.Dispatch p count since) pid false g = (both_true (can_step s.point.flat pid) (nat_lt s.count A.limit && nat_lt s.count (since + count)) g.1).0
-on_steps A s (marks.Turn p since) pid true g = (both_true (can_step s.point.flat pid) (nat_lt s.count A.limit && nat_lt s.count (since + turn_instructions)) g.1).0
+on_steps A s (marks.Dispatch p count since) pid false g = (and_parts (can_step s.point.flat pid) (nat_lt s.count A.limit && nat_lt s.count (since + count)) g.1).0
+on_steps A s (marks.Turn p since) pid true g = (and_parts (can_step s.point.flat pid) (nat_lt s.count A.limit && nat_lt s.count (since + turn_instructions)) g.1).0
 on_steps A s _ pid now g = absurd g
 
 pub on_running : (A : Inputs) (s : State) (m : Mark) (pid : ℕ) (now : Bool) → GoesOn A s m pid now → running m ≡ Some pid
@@ -91,18 +94,12 @@ acts_some A s pid c n = can (can_step s.point.flat pid) c
     can true e = by (must_refuse A s pid) (must_settle A s pid)
     can false e = absurd cc
 
-some_entry : (x y : Entry) → Some x ≡ Some y → x ≡ y
-some_entry x y e = cc
-
 -- behind `Refused` and `Out` their process acts
 pub awaits_next : (A : Inputs) (s : State) (u : Entry) (pid : ℕ) → Awaits A s pid → next_unit A s ≡ Some u → act A s pid ≡ Some u
 awaits_next A s u pid a h =
     let r : Runs A s pid a.now = a.runs in
     let x = acts_some A s pid (on_steps A s s.mark pid a.now r.on) a.left in
     x.1 ∙ (sym (runs_next A s pid a.now x.0 r a.unwanted x.1) ∙ h)
-
-self : (n : ℕ) → (n == n) ≡ true
-self n = eq-eqb n n refl
 
 -- who acts is no other than the one that the last flat entry leaves next
 awaited_by : (A : Inputs) (s : State) (u : Entry) (pid : ℕ) (now : Bool) → Runs A s pid now → (o : Option Entry) → WaitsBy A s o → awaits o pid ≡ true
@@ -114,8 +111,8 @@ awaited_by A s u pid now r o w = go o w
         let k : Some p ≡ Some pid = sym (on_running A s s.mark p a.now q.on) ∙ on_running A s s.mark pid now r.on in cc
 
     go : (o : Option Entry) → WaitsBy A s o → awaits o pid ≡ true
-    go (Some (entries.Refused p)) w = ap (λ (x : ℕ). x == pid) (one p w) ∙ self pid
-    go (Some (entries.Out p bytes)) w = ap (λ (x : ℕ). x == pid) (one p w) ∙ self pid
+    go (Some (entries.Refused p)) w = ap (λ (x : ℕ). x == pid) (one p w) ∙ eq_self pid
+    go (Some (entries.Out p bytes)) w = ap (λ (x : ℕ). x == pid) (one p w) ∙ eq_self pid
     go None w = refl
     go (Some (entries.Event line)) w = refl
     go (Some (entries.Turn p)) w = refl
@@ -243,7 +240,7 @@ done_on A s (marks.Dispatch p count since) pid false g = g
 done_on A s (marks.Turn p since) pid true g = g
 done_on A s _ pid now g = absurd g
 
-valid_among : (p : Placement) (ts : List Page) (q : Page) → AllValid p ts → is_among q ts ≡ true → is_valid (state_of p q) ≡ true
+pub valid_among : (p : Placement) (ts : List Page) (q : Page) → AllValid p ts → is_among q ts ≡ true → is_valid (state_of p q) ≡ true
 valid_among p [] q a e = absurd cc
 valid_among p (t ∷ ts) q a e = go (valid_among p ts q a.1) (same_page q t) refl e
   where
@@ -351,8 +348,8 @@ unfolding act
 acted A s pid u h = can (can_step s.point.flat pid) h
   where
     by : (r t : Bool) → must_refuse A s pid ≡ r → must_settle A s pid ≡ t → act_by A s pid r t ≡ Some u → Acted A s pid u
-    by true t f g e = Refuses (sym (some_entry (entries.Refused pid) u e))
-    by false true f g e = Settles (sym (some_entry entries.Done u e))
+    by true t f g e = Refuses (sym (same_Some (entries.Refused pid) u e))
+    by false true f g e = Settles (sym (same_Some entries.Done u e))
     by false false f g e = Steps f g e
 
     can : (b : Bool) → act_if b A s pid ≡ Some u → Acted A s pid u
@@ -464,10 +461,7 @@ steps_shape A point pid u h = step point.last h
     step (Some (entries.Out p bytes)) e = out (p == pid) e
     step _ e = of entries_at shape e
 
-some_number : (a b : ℕ) → Some a ≡ Some b → a ≡ b
-some_number a b e = cc
-
-has_some : (es : List Entry) → HasEntry es → es ≡ [] → ⊥
+pub has_some : (es : List Entry) → HasEntry es → es ≡ [] → ⊥
 has_some [] h e = h
 has_some (x ∷ xs) h e = absurd cc
 
@@ -483,17 +477,17 @@ step_waits A s pid now (entries.Out p bytes) r w h says =
   where
     left : LastSays A s.point.flat (Some (entries.Out p bytes)) → due_at A (noted s (entries.Out p bytes)).point p ≡ [] → ⊥
     left (behind, k) z = reply behind (flat_step A s.point.flat p false).entries k (step_shape A s.point.flat p false)
-        (sym (ap (λ (b : Bool). if b then behind_first (flat_step A s.point.flat p false).entries else (flat_step A s.point.flat p false).entries) (self p) ∙ ap behind_first k) ∙ z)
+        (sym (ap (λ (b : Bool). if b then behind_first (flat_step A s.point.flat p false).entries else (flat_step A s.point.flat p false).entries) (eq_self p) ∙ ap behind_first k) ∙ z)
       where
         reply : (behind es : List Entry) → es ≡ entries.Out p bytes ∷ behind → Shape p es → behind ≡ [] → ⊥
         reply behind es k (Empty l) z = absurd (let y : [] ≡ entries.Out p bytes ∷ behind = sym l ∙ k in cc)
         reply behind es k (One e i l) z = absurd (let y : e ∷ [] ≡ entries.Out p bytes ∷ behind = sym l ∙ k in let same : e ≡ entries.Out p bytes = cc in subst (IsStepEnd p) same i)
         reply behind es k (Two others n c r0 r1 l) z = absurd (let y : entries.Out p others ∷ entries.Call p n c r0 r1 ∷ [] ≡ entries.Out p bytes ∷ behind = sym l ∙ k in let same : entries.Call p n c r0 r1 ∷ [] ≡ behind = cc in let no : entries.Call p n c r0 r1 ∷ [] ≡ [] = same ∙ z in cc)
-step_waits A s pid now (entries.Ran p n) r w h says = subst (WaitsBy A (after A s (entries.Ran p n))) (sym (subst (λ (x : ℕ). (Rattle.flat_model.specs.Run.point_after A s.point x).last ≡ Some (entries.Ran p n)) (sym (some_number p pid (steps_own A s.point pid (entries.Ran p n) h))) (head_last A s.point pid (entries.Ran p n) h))) tt
-step_waits A s pid now (entries.Grew p n) r w h says = subst (WaitsBy A (after A s (entries.Grew p n))) (sym (subst (λ (x : ℕ). (Rattle.flat_model.specs.Run.point_after A s.point x).last ≡ Some (entries.Grew p n)) (sym (some_number p pid (steps_own A s.point pid (entries.Grew p n) h))) (head_last A s.point pid (entries.Grew p n) h))) tt
-step_waits A s pid now (entries.Call p n c r0 r1) r w h says = subst (WaitsBy A (after A s (entries.Call p n c r0 r1))) (sym (subst (λ (x : ℕ). (Rattle.flat_model.specs.Run.point_after A s.point x).last ≡ Some (entries.Call p n c r0 r1)) (sym (some_number p pid (steps_own A s.point pid (entries.Call p n c r0 r1) h))) (head_last A s.point pid (entries.Call p n c r0 r1) h))) tt
-step_waits A s pid now (entries.Sleeps p) r w h says = subst (WaitsBy A (after A s (entries.Sleeps p))) (sym (subst (λ (x : ℕ). (Rattle.flat_model.specs.Run.point_after A s.point x).last ≡ Some (entries.Sleeps p)) (sym (some_number p pid (steps_own A s.point pid (entries.Sleeps p) h))) (head_last A s.point pid (entries.Sleeps p) h))) tt
-step_waits A s pid now (entries.Ended p n) r w h says = subst (WaitsBy A (after A s (entries.Ended p n))) (sym (subst (λ (x : ℕ). (Rattle.flat_model.specs.Run.point_after A s.point x).last ≡ Some (entries.Ended p n)) (sym (some_number p pid (steps_own A s.point pid (entries.Ended p n) h))) (head_last A s.point pid (entries.Ended p n) h))) tt
+step_waits A s pid now (entries.Ran p n) r w h says = subst (WaitsBy A (after A s (entries.Ran p n))) (sym (subst (λ (x : ℕ). (Rattle.flat_model.specs.Run.point_after A s.point x).last ≡ Some (entries.Ran p n)) (sym (same_Some p pid (steps_own A s.point pid (entries.Ran p n) h))) (head_last A s.point pid (entries.Ran p n) h))) tt
+step_waits A s pid now (entries.Grew p n) r w h says = subst (WaitsBy A (after A s (entries.Grew p n))) (sym (subst (λ (x : ℕ). (Rattle.flat_model.specs.Run.point_after A s.point x).last ≡ Some (entries.Grew p n)) (sym (same_Some p pid (steps_own A s.point pid (entries.Grew p n) h))) (head_last A s.point pid (entries.Grew p n) h))) tt
+step_waits A s pid now (entries.Call p n c r0 r1) r w h says = subst (WaitsBy A (after A s (entries.Call p n c r0 r1))) (sym (subst (λ (x : ℕ). (Rattle.flat_model.specs.Run.point_after A s.point x).last ≡ Some (entries.Call p n c r0 r1)) (sym (same_Some p pid (steps_own A s.point pid (entries.Call p n c r0 r1) h))) (head_last A s.point pid (entries.Call p n c r0 r1) h))) tt
+step_waits A s pid now (entries.Sleeps p) r w h says = subst (WaitsBy A (after A s (entries.Sleeps p))) (sym (subst (λ (x : ℕ). (Rattle.flat_model.specs.Run.point_after A s.point x).last ≡ Some (entries.Sleeps p)) (sym (same_Some p pid (steps_own A s.point pid (entries.Sleeps p) h))) (head_last A s.point pid (entries.Sleeps p) h))) tt
+step_waits A s pid now (entries.Ended p n) r w h says = subst (WaitsBy A (after A s (entries.Ended p n))) (sym (subst (λ (x : ℕ). (Rattle.flat_model.specs.Run.point_after A s.point x).last ≡ Some (entries.Ended p n)) (sym (same_Some p pid (steps_own A s.point pid (entries.Ended p n) h))) (head_last A s.point pid (entries.Ended p n) h))) tt
 step_waits A s pid now (entries.Refused p) r w h says = absurd (never (steps_shape A s.point pid (entries.Refused p) h))
   where
     never : Ends (entries.Refused p) ⊎ ((bytes : List ℕ) × (entries.Refused p ≡ entries.Out pid bytes)) → ⊥
@@ -568,7 +562,7 @@ flows_on A s u o f h = go (kind_of A s u h)
             (noted_awaits A s (entries.Refused pid) pid now r w
             (λ z. has_some (flat_step A s.point.flat pid true).entries
             (refused_entry A s.point.flat pid (subst (λ (t : State). LastSays A t.point.flat t.point.last) (refused_after A s pid) (subst (λ (x : Entry). LastSays A (after A s x).point.flat (after A s x).point.last) e says)))
-            (sym (ap (λ (b : Bool). (flat_step A s.point.flat pid b).entries) (self pid)) ∙ z))))
+            (sym (ap (λ (b : Bool). (flat_step A s.point.flat pid b).entries) (eq_self pid)) ∙ z))))
     act_by_kind pid now r w (Steps f g e) = record { says = says; waits = step_waits A s pid now u r w e says }
 
     go : Kind A s u → Flows A (after A s u)

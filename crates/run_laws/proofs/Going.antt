@@ -13,7 +13,8 @@ use Rattle.flat_state.specs.declared.change.Change.{Change}
 use Rattle.flat_state.specs.declared.change.Change.TheVariants.{Keep, Resize, Fork, Lend, Exec, Reap, Sleep, End}
 use Rattle.page_model.specs.Pages.{numbered}
 use Rattle.page_model.specs.Placement.{state_of}
-use Rattle.page_model.specs.Place.{is_borrower, facts_of}
+use Rattle.page_model.specs.Place.{facts_of}
+use Rattle.flat_state.specs.Change.{is_borrower}
 use Rattle.kernel_model.specs.Kernel.{Kernel, Proc}
 use Rattle.kernel_model.specs.ChangeStep.{change_if, change_step, pass_step}
 use Rattle.flat_model.specs.Touched.{page_tested}

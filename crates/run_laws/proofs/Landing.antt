@@ -8,11 +8,11 @@ use Rattle.swap_book.specs.Holdings.{Holdings}
 use Rattle.swap_book.specs.Placing.{place_all}
 use Rattle.flat_state.specs.declared.change.Change.{Change}
 use Rattle.flat_state.specs.declared.change.Change.TheVariants.{Keep, Resize, Fork, Lend, Exec, Reap, Sleep, End}
-use Rattle.flat_state.specs.Change.{apply_change}
+use Rattle.flat_state.specs.Change.{apply_change, is_borrower}
 use Rattle.flat_state.specs.Journal.{append}
 use Rattle.page_model.specs.Pages.{numbered}
 use Rattle.page_model.specs.Placement.{space_number, image_of, sharers}
-use Rattle.page_model.specs.Place.{is_borrower, place_change, facts_of}
+use Rattle.page_model.specs.Place.{place_change, facts_of}
 use Rattle.page_model.specs.Conditions.{MayForget}
 use Rattle.page_model.specs.Ownership.{OneOwner}
 use Rattle.kernel_model.specs.Kernel.{Kernel, Life}

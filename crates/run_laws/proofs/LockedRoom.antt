@@ -11,7 +11,7 @@ use Rattle.touch_laws.specs.Whole.{EachWhole}
 use Rattle.touch_laws.proofs.Few.{touched_few, room}
 
 -- no more pages stand before the first absent one than there are
-before_few : (p : Placement) (qs : List Page) → length (before_absent p qs) ≤ length qs
+pub before_few : (p : Placement) (qs : List Page) → length (before_absent p qs) ≤ length qs
 before_few p [] = omega arith
 before_few p (q ∷ qs) = go (is_valid (state_of p q)) (before_few p qs)
   where

@@ -1,5 +1,7 @@
 -- A machine with its bytes that stands at a state of a run stands at the next one, behind the unit's own step.
 use Rattle.std.proofs.Common.{◌≡◌, ◌⊎◌, inl, inr, ℕ, ◌*◌, ◌≤◌, Bool, true, false, List, [], ◌∷◌, length, map, Option, Some, None, refl, sym, ap, ◌∙◌, subst, arith}
+use Rattle.std.proofs.lemmas.Option.{same_Some}
+use Rattle.run_model.proofs.After.{after_journal}
 use Rattle.flat_state.specs.Space.{Space}
 use Rattle.flat_state.specs.Flat.{Holding, Holds, Process, FlatState, NamedImage, Inputs, process_of}
 use Rattle.vm_facts.specs.declared.page.Page.{Page}
@@ -28,8 +30,7 @@ use Rattle.kernel_model.specs.Start.{ImagesFit, kept_of}
 use Rattle.flat_state.specs.Numbers.{AllBelow, AllDistinct}
 use Rattle.kernel_model.specs.Numbers.{Numbered}
 use Rattle.kernel_model.specs.Stands.{Stands, holds_some}
-use Rattle.page_laws.proofs.Lists.Local.{some_is}
-use Rattle.page_laws.proofs.Blocks.Places.{length_put}
+use Rattle.vm_facts.proofs.Swap.{length-put_blocks}
 use Rattle.kernel_laws.proofs.Sound.Steps.{alive_owner}
 use Rattle.kernel_laws.proofs.Machine.Tables.{kept_pid, kept_at, outline_at, regs_at}
 use Rattle.kernel_laws.proofs.Machine.Swaps.{found_at, out_coupled, in_coupled_any, u_length, u_found}
@@ -52,7 +53,8 @@ use Rattle.run_laws.specs.Running.{IsRun}
 use Rattle.kernel_model.specs.Unit.{proc_of, u_bytes}
 use Rattle.run_laws.specs.Machine.{written_step, taken_step, process_step, ran_step, unit_step, unit_image, IsGiven, OutRegs, Keeps, StandsAt}
 use Rattle.run_laws.proofs.Paging.{Leaver, entry_out}
-use Rattle.run_laws.proofs.Bridge.{kept_outlines, lives_same, kept_numbers}
+use Rattle.run_laws.proofs.Bridge.{lives_same, kept_numbers}
+use Rattle.kernel_laws.proofs.Machine.Starts.{start_outlines}
 use Rattle.run_laws.proofs.Units.{plain_place, plain_holdings}
 use Rattle.run_laws.proofs.Flows.{Ends, plain_point, on_running, steps_own, noted}
 use Rattle.run_laws.proofs.Acts.{ExecsFit}
@@ -70,7 +72,7 @@ pub sound_of : (A : Inputs) (flat : FlatState) (k : Kernel) → Placed A flat k.
 sound_of A flat k st t f =
     let so : Sound A.swap_blocks (machine_of flat k.place k.holdings) = st.sound in
     record {
-      owner = alive_owner A.swap_blocks (lives (map kept_of flat.processes)) (lives k.processes) k.place k.holdings (lives_same k.processes (map kept_of flat.processes) (t.processes ∙ sym (kept_outlines flat.processes))) so.owner;
+      owner = alive_owner A.swap_blocks (lives (map kept_of flat.processes)) (lives k.processes) k.place k.holdings (lives_same k.processes (map kept_of flat.processes) (t.processes ∙ sym (start_outlines flat.processes))) so.owner;
       tokens = f ∙ sym st.frames;
       hands = so.hands;
       few_transfers = so.few_transfers;
@@ -85,7 +87,7 @@ numbered_of A flat k st t =
       spaces_below = subst (λ (m : ℕ). AllBelow m (map space_number k.place.spaces)) (sym t.next_sid) n.spaces_below;
       pids_differ = subst AllDistinct p n.pids_differ;
       pids_below = subst (AllBelow k.next_pid) p (subst (λ (m : ℕ). AllBelow m (map (λ (x : Proc). x.pid) (map kept_of flat.processes))) (sym t.next_pid) n.pids_below);
-      residents = λ m a. n.residents m (sym (lives_same k.processes (map kept_of flat.processes) (t.processes ∙ sym (kept_outlines flat.processes)) m) ∙ a);
+      residents = λ m a. n.residents m (sym (lives_same k.processes (map kept_of flat.processes) (t.processes ∙ sym (start_outlines flat.processes)) m) ∙ a);
     }
 
 -- a machine with the placement and the holdings of a state
@@ -192,10 +194,6 @@ page_lands k locked at read (entries.SwapOut p) n y = absurd y
 page_lands k locked at read (entries.SwapIn p) n y = absurd y
 page_lands k locked at read _ n y = absurd cc
 
-journal_is : (A : Inputs) (s : State) (u : Entry) → (after A s u).journal ≡ append s.journal u
-unfolding after
-journal_is A s u = refl
-
 no_leaver : (u : Entry) (n : ℕ) → Stays u → Leaver u n → ⊥
 no_leaver (entries.SwapOut p) n y l = absurd y
 no_leaver _ n y l = absurd l
@@ -236,7 +234,7 @@ pub paged_behind : (A : Inputs) (s : State) (k : Kernel) (image : List ℕ) (rea
 paged_behind A s k image read u r at are kind n y = record {
   place = lands.place ∙ ap (λ (p : Placement). place_entry (locked A s) (place_at s u) p u) at.place ∙ sym (plain_place A s u n);
   holdings = lands.holdings ∙ at.holdings ∙ sym (plain_holdings A s u n);
-  journal = lands.journal ∙ ap (λ (j : List Entry). append j u) at.journal ∙ sym (journal_is A s u);
+  journal = lands.journal ∙ ap (λ (j : List Entry). append j u) at.journal ∙ sym (after_journal A s u);
   coupled = subst (λ (x : Point). Coupled (page_step k (locked A s) read u) A.images (page_image k image u) x.flat) (sym (plain_point A s u n)) goes.coupled;
   stands = subst (λ (x : Point). Stands A.images (page_step k (locked A s) read u) x.flat) (sym (plain_point A s u n)) goes.stands;
   frames = goes.tokens ∙ frames_at A s k image r.placed at;
@@ -286,7 +284,7 @@ in_behind : (A : Inputs) (s : State) (k : Kernel) (image : List ℕ) (pid : ℕ)
 in_behind A s k image pid r at out = record {
   place = ap (λ (j : List Entry). place_entry [] (length (append j (entries.SwapIn pid))) k.place (entries.SwapIn pid)) at.journal ∙ ap (λ (p : Placement). place_entry [] (place_at s (entries.SwapIn pid)) p (entries.SwapIn pid)) at.place ∙ sym (plain_place A s (entries.SwapIn pid) refl);
   holdings = at.holdings ∙ sym (plain_holdings A s (entries.SwapIn pid) refl);
-  journal = ap (λ (j : List Entry). append j (entries.SwapIn pid)) at.journal ∙ sym (journal_is A s (entries.SwapIn pid));
+  journal = ap (λ (j : List Entry). append j (entries.SwapIn pid)) at.journal ∙ sym (after_journal A s (entries.SwapIn pid));
   coupled = subst (λ (x : Point). Coupled l A.images image x.flat) (sym (plain_point A s (entries.SwapIn pid) refl)) (in_coupled_any k A.images image s.point.flat pid regs x.0 x.2 here (kp.out_regs pid x.0 here x.2) refl kp.coupled);
   stands = subst (λ (x : Point). Stands A.images l x.flat) (sym (plain_point A s (entries.SwapIn pid) refl)) (in_stands A.images k s.point.flat pid regs st);
   frames = frames_at A s k image r.placed at;
@@ -354,14 +352,14 @@ out_length size k image pid p d t so li are alive =
     let x : (x : ℕ) × (block_in k.holdings (owners.U pid) 0 ≡ Some x) = some_of (block_in k.holdings (owners.U pid) 0) (u_found size k pid so alive) in
     let w : IsPlace size k.holdings (owners.U pid) x.0 = a.own (owners.U pid) 0 x.0 x.1 in
     let i = w.within in
-    ap (λ (y : Option ℕ). length (store_at image y (u_page p.regs d t))) x.1 ∙ length_put image (u_page p.regs d t) x.0 (omega arith) (u_length p.regs d t are)
+    ap (λ (y : Option ℕ). length (store_at image y (u_page p.regs d t))) x.1 ∙ length-put_blocks image (u_page p.regs d t) x.0 (omega arith) (u_length p.regs d t are)
 
 off_behind : (A : Inputs) (s : State) (k : Kernel) (image : List ℕ) (pid : ℕ) → IsRun A s → StandsAt A s k image → ((p : Proc) → proc_of k pid ≡ Some p → AreRegs p.regs) → is_out s.place pid ≡ false → holds_some (process_of s.point.flat pid) ≡ true
     → Behind A (after A s (entries.SwapOut pid)) (out_step k pid) (store_at image (block_in k.holdings (owners.U pid) 0) (u_bytes k (proc_of k pid)))
 off_behind A s k image pid r at given out h = subst (λ (o : Option Proc). Behind A (after A s (entries.SwapOut pid)) (out_step k pid) (store_at image (block_in k.holdings (owners.U pid) 0) (u_bytes k o))) (sym x.kept) (record {
   place = ap (λ (j : List Entry). place_entry [] (length (append j (entries.SwapOut pid))) k.place (entries.SwapOut pid)) at.journal ∙ ap (λ (p : Placement). place_entry [] (place_at s (entries.SwapOut pid)) p (entries.SwapOut pid)) at.place ∙ sym (plain_place A s (entries.SwapOut pid) refl);
   holdings = at.holdings ∙ sym (plain_holdings A s (entries.SwapOut pid) refl);
-  journal = ap (λ (j : List Entry). append j (entries.SwapOut pid)) at.journal ∙ sym (journal_is A s (entries.SwapOut pid));
+  journal = ap (λ (j : List Entry). append j (entries.SwapOut pid)) at.journal ∙ sym (after_journal A s (entries.SwapOut pid));
   coupled = subst (λ (x : Point). Coupled l A.images behind x.flat) (sym (plain_point A s (entries.SwapOut pid) refl)) (out_coupled A.swap_blocks k A.images image s.point.flat pid x.proc kp.sound kp.room x.kept x.life are (n.residents pid (ap lives_in x.kept ∙ x.life)) here kp.coupled);
   stands = subst (λ (x : Point). Stands A.images l x.flat) (sym (plain_point A s (entries.SwapOut pid) refl)) (out_stands A.images k s.point.flat pid x.process x.space x.here x.holds kp.stands);
   frames = frames_at A s k image r.placed at;
@@ -399,21 +397,18 @@ off_behind A s k image pid r at given out h = subst (λ (o : Option Proc). Behin
     outs : OutRegs l.place s.point.flat
     outs n q e f = elim (entry_out [] (length (append k.journal (entries.SwapOut pid))) k.place (entries.SwapOut pid) n e) [
       | inl was ↦ kp.out_regs n q was f
-      | inr i ↦ subst AreRegs (own_regs ∙ ap (λ (y : Process). y.regs) (some_is x.process q (sym x.here ∙ ap (process_of s.point.flat) i ∙ f))) are
+      | inr i ↦ subst AreRegs (own_regs ∙ ap (λ (y : Process). y.regs) (same_Some x.process q (sym x.here ∙ ap (process_of s.point.flat) i ∙ f))) are
     ]
 
 -- A process's step.
 
-number_same : (p pid : ℕ) → Some p ≡ Some pid → p ≡ pid
-number_same p pid e = cc
-
 stepped_is : (A : Inputs) (s : State) (k : Kernel) (image : List ℕ) (read : List (List ℕ)) (u : Entry) (pid : ℕ) (P : Kernel → List ℕ → Type 0) → Ends u → process_of_entry u ≡ Some pid → P (process_step A s k pid u) image → ((n : ℕ) → u ≡ entries.Ran pid n → P (ran_step A s k pid n) image)
     → P (unit_step A s k image read u) (unit_image k image u)
-stepped_is A s k image read (entries.Ran p n) pid P e o a b = subst (λ (x : ℕ). P (ran_step A s k x n) image) (sym (number_same p pid o)) (b n (ap (λ (x : ℕ). entries.Ran x n) (number_same p pid o)))
-stepped_is A s k image read (entries.Grew p n) pid P e o a b = subst (λ (x : ℕ). P (process_step A s k x (entries.Grew p n)) image) (sym (number_same p pid o)) a
-stepped_is A s k image read (entries.Call p n c r0 r1) pid P e o a b = subst (λ (x : ℕ). P (process_step A s k x (entries.Call p n c r0 r1)) image) (sym (number_same p pid o)) a
-stepped_is A s k image read (entries.Sleeps p) pid P e o a b = subst (λ (x : ℕ). P (process_step A s k x (entries.Sleeps p)) image) (sym (number_same p pid o)) a
-stepped_is A s k image read (entries.Ended p n) pid P e o a b = subst (λ (x : ℕ). P (process_step A s k x (entries.Ended p n)) image) (sym (number_same p pid o)) a
+stepped_is A s k image read (entries.Ran p n) pid P e o a b = subst (λ (x : ℕ). P (ran_step A s k x n) image) (sym (same_Some p pid o)) (b n (ap (λ (x : ℕ). entries.Ran x n) (same_Some p pid o)))
+stepped_is A s k image read (entries.Grew p n) pid P e o a b = subst (λ (x : ℕ). P (process_step A s k x (entries.Grew p n)) image) (sym (same_Some p pid o)) a
+stepped_is A s k image read (entries.Call p n c r0 r1) pid P e o a b = subst (λ (x : ℕ). P (process_step A s k x (entries.Call p n c r0 r1)) image) (sym (same_Some p pid o)) a
+stepped_is A s k image read (entries.Sleeps p) pid P e o a b = subst (λ (x : ℕ). P (process_step A s k x (entries.Sleeps p)) image) (sym (same_Some p pid o)) a
+stepped_is A s k image read (entries.Ended p n) pid P e o a b = subst (λ (x : ℕ). P (process_step A s k x (entries.Ended p n)) image) (sym (same_Some p pid o)) a
 stepped_is A s k image read (entries.Out p bytes) pid P e o a b = absurd e
 stepped_is A s k image read (entries.Refused p) pid P e o a b = absurd e
 stepped_is A s k image read _ pid P e o a b = absurd cc
@@ -425,7 +420,7 @@ reach_behind A s u l image room st outs x =
     record {
       place = x.place;
       holdings = x.holdings;
-      journal = x.journal ∙ sym (journal_is A s u);
+      journal = x.journal ∙ sym (after_journal A s u);
       keeps = record { sound = m.sound; numbered = m.numbered; coupled = m.coupled; stands = m.stands; room = room; out_regs = subst (λ (p : Placement). OutRegs p (after A s u).point.flat) (sym x.place) outs };
     }
 
@@ -539,5 +534,5 @@ mid_stands A s k image u pid images execs r at h ends own = go (sort_of A s u r.
         let runs : Runs A s x.pid x.now = x.runs in
         let valid : AllValid s.place (touched A s.point.flat x.pid) = subst (AllValid s.place) (ap (touched_by A s.point.flat) (on_running A s s.mark x.pid x.now runs.on)) (wanted_none A s runs.clear w) in
         let z : Whole A s k u image x = step_reaches A s k image u images execs r.numbers r.lenders at x valid in
-        let i : x.pid ≡ pid = number_same x.pid pid (sym (steps_own A s.point x.pid u x.next) ∙ own) in
+        let i : x.pid ≡ pid = same_Some x.pid pid (sym (steps_own A s.point x.pid u x.next) ∙ own) in
         subst (λ (n : ℕ). Mid A (apply_writes s.point.flat n (step_at A s.point n).writes) (written_step A s k n) image × Coupled (taken_step A s k n) A.images image (apply_writes s.point.flat n (step_at A s.point n).writes)) i (z.written, z.taken)

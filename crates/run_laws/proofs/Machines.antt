@@ -12,7 +12,7 @@ use Rattle.kernel_model.specs.Kernel.{Kernel, Proc, plain_step, zero_step, copy_
 use Rattle.kernel_model.specs.UPage.{AreRegs, regs_in}
 use Rattle.page_model.specs.Stored.{stored_at, store_at}
 use Rattle.kernel_model.specs.Start.{ImagesFit, AreStarting, start_kernel}
-use Rattle.page_laws.proofs.Lists.Local.{some_is}
+use Rattle.std.proofs.lemmas.Option.{same_Some}
 use Rattle.kernel_laws.proofs.Machine.Starts.{start_coupled_all, all_in}
 use Rattle.kernel_laws.proofs.Stands.Starts.{start_beside}
 use Rattle.run_model.specs.State.{State, starting, start}
@@ -90,7 +90,7 @@ done_keeps A s k image read x g = unit_keeps A s k image read entries.Done x g
 pub out_keeps : (A : Inputs) (s : State) (k : Kernel) (image : List ℕ) (pid : ℕ) (p : Proc) → Next A s k image (entries.SwapOut pid) → proc_of k pid ≡ Some p → AreRegs p.regs
     → StandsAt A (after A s (entries.SwapOut pid)) (out_step k pid) (store_at image (block_in k.holdings (owners.U pid) 0) (u_bytes k (Some p)))
 out_keeps A s k image pid p x e are = subst (λ (o : Option Proc). StandsAt A (after A s (entries.SwapOut pid)) (out_step k pid) (store_at image (block_in k.holdings (owners.U pid) 0) (u_bytes k o))) e
-    (unit_keeps A s k image [] (entries.SwapOut pid) x (λ q f. subst (λ (y : Proc). AreRegs y.regs) (some_is p q (sym e ∙ f)) are))
+    (unit_keeps A s k image [] (entries.SwapOut pid) x (λ q f. subst (λ (y : Proc). AreRegs y.regs) (same_Some p q (sym e ∙ f)) are))
 
 pub in_keeps : (A : Inputs) (s : State) (k : Kernel) (image : List ℕ) (pid : ℕ) → Next A s k image (entries.SwapIn pid) → StandsAt A (after A s (entries.SwapIn pid)) (in_step k pid (regs_in (stored_at image (block_in k.holdings (owners.U pid) 0)))) image
 in_keeps A s k image pid x = unit_keeps A s k image [] (entries.SwapIn pid) x tt

@@ -67,5 +67,5 @@ regs_stay images flat p r pid ws regs change inside o may was old n a e f =
     let other : pid ≢ n = λ i. (let z : true ≡ false = sym (was n e) ∙ ap (is_out p) (sym i) ∙ inside in cc) in
     let y : FoundRegs (apply_change images (apply_writes flat pid ws) pid regs change).processes n x.1 x.0.regs =
     change_stays images (apply_writes flat pid ws) pid regs change n x.1 x.0.regs may other (writes_stay flat pid ws n x.1 x.0.regs other (record { process = x.0; here = x.2; holds = x.3; regs = refl })) in
-    let same : y.process ≡ a = Rattle.page_laws.proofs.Lists.Local.some_is y.process a (sym y.here ∙ f) in
+    let same : y.process ≡ a = Rattle.std.proofs.lemmas.Option.same_Some y.process a (sym y.here ∙ f) in
     subst AreRegs (sym y.regs ∙ ap (λ (q : Process). q.regs) same) (old n x.0 (was n e) x.2)

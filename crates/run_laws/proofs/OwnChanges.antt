@@ -8,11 +8,11 @@ use Rattle.swap_book.specs.Holdings.{Holdings}
 use Rattle.swap_book.specs.Placing.{place_all}
 use Rattle.flat_state.specs.declared.change.Change.{Change}
 use Rattle.flat_state.specs.declared.change.Change.TheVariants.{Keep, Resize, Fork, Lend, Exec, Reap, Sleep, End}
-use Rattle.flat_state.specs.Change.{apply_change, NamesChild}
+use Rattle.flat_state.specs.Change.{apply_change, NamesChild, is_borrower}
 use Rattle.flat_state.specs.Journal.{append}
 use Rattle.page_model.specs.Pages.{SpacePages, numbered}
 use Rattle.page_model.specs.Placement.{Placement, space_number, image_of, sharers}
-use Rattle.page_model.specs.Place.{is_borrower, place_change, facts_of}
+use Rattle.page_model.specs.Place.{place_change, facts_of}
 use Rattle.page_model.specs.Dues.{DueStand}
 use Rattle.page_model.specs.Conditions.{HaveParts, CanChange, ApartFrom}
 use Rattle.page_model.specs.Swapper.{is_out}
@@ -40,7 +40,8 @@ use Rattle.kernel_laws.proofs.Stands.Changes.{keep_stands, sleep_stands, reap_st
 use Rattle.flat_laws.proofs.Asking.{own_space, shared_same, no_sharers, some_sharers, change_same}
 use Rattle.flat_model.specs.Asked.{is_shared, given_up, change_wanted}
 use Rattle.kernel_laws.proofs.Kept.Changes.{takes_next, may_reap, lend_lives}
-use Rattle.run_laws.specs.Standing.{machine_of, EachOnce, Placed, ExecFits, Own}
+use Rattle.run_laws.specs.Standing.{machine_of, EachOnce, Placed, Own}
+use Rattle.kernel_model.specs.Invariant.{EntersImage}
 use Rattle.kernel_model.specs.Unit.{keeps_step as next_of}
 use Rattle.run_laws.proofs.Bridge.{from_machine}
 use Rattle.run_laws.proofs.Changes.{given_same, change_once}
@@ -84,7 +85,7 @@ end_false true status o = absurd o
 end_false false status o = refl
 
 pub own_told : (A : Inputs) (k : Kernel) (flat : FlatState) (pid : ℕ) (regs : Regs) (e : Entry) (q : Process) (s : Space) (b : Bool) (change : Change) → ImagesFit A.images → IsNumbered flat → process_of flat pid ≡ Some q → q.holding ≡ Holds s → is_borrower flat.processes pid ≡ b → Own b change
-    → is_out k.place pid ≡ false → k.place.due ≡ [] → NamesChild flat change → ExecFits A.images change → SameTables k flat → Stands A.images k flat → Told A (next_of (facts_of A.images) k pid regs e change) (apply_change A.images flat pid regs change)
+    → is_out k.place pid ≡ false → k.place.due ≡ [] → NamesChild flat change → EntersImage A.images change → SameTables k flat → Stands A.images k flat → Told A (next_of (facts_of A.images) k pid regs e change) (apply_change A.images flat pid regs change)
 own_told A k flat pid regs e q s b Keep fit nums f h w o out due m x t st = record { tables = keep_tables k A.images flat pid regs e q s nums f h t; stands = keep_stands A.images k flat pid regs e q s t f h out st }
 own_told A k flat pid regs e q s b (Resize d r) fit nums f h w o out due m x t st = record { tables = resize_tables k A.images flat pid regs e d r q s nums f h t; stands = resize_stands A.images k flat pid regs e d r q s t f h out st }
 own_told A k flat pid regs e q s b (Fork child) fit nums f h w o out due m x t st = subst (λ (c : ℕ). Told A (next_of (facts_of A.images) k pid regs e (Fork c)) (apply_change A.images flat pid regs (Fork c))) (sym m)
@@ -152,7 +153,7 @@ pub record Changing (A : Inputs) (flat : FlatState) (p : Placement) (hs found : 
   pub resident : is_out p pid ≡ false
   pub clear : p.due ≡ []
   pub may : NamesChild flat change
-  pub execs : ExecFits A.images change
+  pub execs : EntersImage A.images change
   pub pieces : place_all A.swap_blocks hs (change_wanted A.images flat s change) ≡ Ok found
 
 abbrev pub with_found : FlatState → Placement → Holdings → List Entry → Kernel

@@ -1,5 +1,5 @@
 -- A paging entry leaves what stands.
-use Rattle.std.proofs.Common.{◌≡◌, ◌⊎◌, inl, inr, ℕ, zero, suc, ◌*◌, ◌==◌, ◌≤◌, Bool, true, false, cond, List, [], ◌∷◌, length, refl, sym, ap, ◌∙◌, subst}
+use Rattle.std.proofs.Common.{◌≡◌, ◌⊎◌, inl, inr, ℕ, ◌*◌, ◌==◌, ◌≤◌, Bool, true, false, cond, List, [], ◌∷◌, length, refl, sym, ap, ◌∙◌, subst}
 use Rattle.std.proofs.lemmas.List.{length-replicate}
 use Rattle.flat_state.specs.Flat.{FlatState, Inputs, process_of, spaces_of}
 use Rattle.vm_facts.specs.declared.page.Page.{Page}
@@ -11,7 +11,7 @@ use Rattle.page_model.specs.Pages.{changed, numbered}
 use Rattle.flat_state.specs.PageNames.{pages_from, number_of, same_page}
 use Rattle.page_model.specs.Placement.{Placement, Residence, Due, due_page, space_number, slots_of}
 use Rattle.page_model.specs.Moves.{begin, done, reclaim, get_run}
-use Rattle.page_model.specs.Hands.{hand_moves, hand_move}
+use Rattle.page_model.specs.Hands.{hand_moves}
 use Rattle.page_model.specs.Place.{due_after, filled, put_step, place_entry}
 use Rattle.page_model.specs.Serve.{read_errand}
 use Rattle.page_model.specs.Swapper.{is_out, residence_of}
@@ -22,9 +22,9 @@ use Rattle.page_model.specs.Rank.{HandsStand}
 use Rattle.flat_state.specs.Numbers.{AllBelow, AllDistinct}
 use Rattle.kernel_model.specs.Numbers.{Numbered}
 use Rattle.kernel_model.specs.Stands.{Stands, holds_some}
-use Rattle.kernel_laws.proofs.Flat.Numbered.{eq_is}
+use Rattle.std.proofs.lemmas.Bool.{eqb-true}
 use Rattle.page_laws.proofs.Moves.KeptHands.{KeepsHands, entry_keep}
-use Rattle.page_laws.proofs.Moves.Stays.{Steady, Stays, move_stays, done_steady}
+use Rattle.page_laws.proofs.Moves.Stays.{Steady, done_steady}
 use Rattle.page_laws.proofs.Bytes.Others.{put_steady}
 use Rattle.page_laws.proofs.Blocks.Steps.{place_entry_one}
 use Rattle.page_laws.proofs.Moves.Parts.{entry_parts}
@@ -32,7 +32,7 @@ use Rattle.page_laws.proofs.Due.Entries.{entry_due, get_due_list}
 use Rattle.kernel_laws.proofs.Sound.Residing.{entry_resides}
 use Rattle.kernel_laws.proofs.Sound.NumbersApart.{entry_numbers}
 use Rattle.kernel_laws.proofs.Flat.Lists.{sid_of}
-use Rattle.kernel_laws.proofs.Stands.Steps.{reclaim_due}
+use Rattle.kernel_laws.proofs.Stands.Steps.{reclaim_due, moves_due}
 use Rattle.kernel_laws.proofs.Machine.Shapes.{Shaped, shape_in, shaped_self, fit_shapes, filled_shaped, get_run_shaped, reclaim_shaped, put_step_shaped, moves_shaped, done_shaped}
 use Rattle.run_laws.specs.Standing.{IsAllowed, machine_of, EachOnce, Placed}
 
@@ -77,7 +77,7 @@ moved_or b (r ∷ rs) pid at n h = go (moved_or b rs pid at n) (r.pid == pid) re
 
     go : ((residence_of tail n).out ≡ true → ((residence_of rs n).out ≡ true) ⊎ ((pid ≡ n) × (b ≡ true)))
         → (c : Bool) → (r.pid == pid) ≡ c → (d : Bool) → (r.pid == n) ≡ d → (residence_of (cond c (record r { out = b; since = at } ∷ rs) (r ∷ tail)) n).out ≡ true → ((residence_of (r ∷ rs) n).out ≡ true) ⊎ ((pid ≡ n) × (b ≡ true))
-    go more true e true k h = inr (sym (eq_is r.pid pid e) ∙ eq_is r.pid n k, sym (ap (λ (x : Bool). (cond x (record r { out = b; since = at }) (residence_of rs n)).out) k) ∙ h)
+    go more true e true k h = inr (sym (eqb-true r.pid pid e) ∙ eqb-true r.pid n k, sym (ap (λ (x : Bool). (cond x (record r { out = b; since = at }) (residence_of rs n)).out) k) ∙ h)
     go more true e false k h = inl (ap (λ (x : Bool). (cond x r (residence_of rs n)).out) k ∙ (sym (ap (λ (x : Bool). (cond x (record r { out = b; since = at }) (residence_of rs n)).out) k) ∙ h))
     go more false e true k h = inl (ap (λ (x : Bool). (cond x r (residence_of rs n)).out) k ∙ (sym (ap (λ (x : Bool). (cond x r (residence_of tail n)).out) k) ∙ h))
     go more false e false k h = elim (more (sym (ap (λ (x : Bool). (cond x r (residence_of tail n)).out) k) ∙ h)) [
@@ -133,16 +133,12 @@ once_after (d ∷ ds) q o = go (same_page (due_page d) q)
 as_before : (p q : Placement) → q.due ≡ p.due → EachOnce p.due → EachOnce q.due
 as_before p q e o = subst EachOnce (sym e) o
 
-moves_list : (n : ℕ) (p : Placement) (locked : List Page) → (hand_moves p locked n).due ≡ p.due
-moves_list zero p locked = refl
-moves_list (suc n) p locked = let s : Stays p (hand_move p locked) = move_stays p locked in moves_list n (hand_move p locked) locked ∙ s.due
-
 pub entry_once : (locked : List Page) (at : ℕ) (p : Placement) (e : Entry) → OwnsFrames p → EachOnce p.due → EachOnce (place_entry locked at p e).due
 entry_once locked at p (entries.Zero q) o h = once_after p.due q h
 entry_once locked at p (entries.Get q lo n) o h = as_before p (get_run p (read_errand p q) (pages_from q lo n)) (get_due_list (pages_from q lo n) (begin p (read_errand p q)) (read_errand p q)) h
 entry_once locked at p (entries.Copy q) o h = once_after p.due q h
 entry_once locked at p (entries.Reclaim q) o h = as_before p (reclaim p q) (reclaim_due p q) h
-entry_once locked at p (entries.Hands n) o h = as_before p (hand_moves p locked n) (moves_list n p locked) h
+entry_once locked at p (entries.Hands n) o h = as_before p (hand_moves p locked n) (moves_due n p locked) h
 entry_once locked at p (entries.Put q n) o h = let s : Steady p (put_step p q (pages_from q (number_of q) n)) = put_steady p q (pages_from q (number_of q) n) in as_before p (put_step p q (pages_from q (number_of q) n)) s.due h
 entry_once locked at p entries.Done o h = let s : Steady p (done p) = done_steady p o in as_before p (done p) s.due h
 entry_once locked at p (entries.SwapOut pid) o h = h

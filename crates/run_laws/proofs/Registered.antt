@@ -1,6 +1,7 @@
 -- Another process keeps its registers, where the list of processes changes.
 use Rattle.std.proofs.Common.{◌≡◌, ◌≢◌, ℕ, ◌==◌, Bool, true, false, cond, List, [], ◌∷◌, ◌++◌, not, map, filter, find, Option, Some, None, refl, sym, ap, ◌∙◌, arith}
 use Rattle.std.proofs.lemmas.Bool.Decides.{nat_tests}
+use Rattle.std.proofs.lemmas.Bool.{eqb-true}
 use Rattle.flat_state.specs.Space.{Space, puts}
 use Rattle.flat_state.specs.Flat.{Holding, Holds, Lends, Zombie, Process, FlatState, NamedImage, image_numbered, process_of, space_with}
 use Rattle.vm_facts.specs.declared.regs.Regs.{Regs}
@@ -17,9 +18,6 @@ pub record FoundRegs (qs : List Process) (pid : ℕ) (s : Space) (g : Regs) : Ty
   pub here : find (λ q. q.pid == pid) qs ≡ Some process
   pub holds : process.holding ≡ Holds s
   pub regs : process.regs ≡ g
-
-number_is : (a b : ℕ) → (a == b) ≡ true → a ≡ b
-number_is a b h = grind (arith, nat_tests)
 
 -- the first process, or one behind it
 data First (q : Process) (qs : List Process) (pid : ℕ) (s : Space) (g : Regs) : Type 0 where
@@ -46,7 +44,7 @@ found_replaced [] p pid s g other h = absurd (let k = h.here in cc)
 found_replaced (q ∷ qs) p pid s g other h = go (λ k. found_replaced qs p pid s g other k) (q.pid == p.pid) refl (first_of q qs pid s g h)
   where
     go : (FoundRegs qs pid s g → FoundRegs (replaced qs p) pid s g) → (b : Bool) → (q.pid == p.pid) ≡ b → First q qs pid s g → FoundRegs (replaced_by b p q qs (replaced qs p)) pid s g
-    go later true e (Here k holds regs) = absurd (other (sym (number_is q.pid p.pid e) ∙ number_is q.pid pid k))
+    go later true e (Here k holds regs) = absurd (other (sym (eqb-true q.pid p.pid e) ∙ eqb-true q.pid pid k))
     go later true e (Behind k found) = found_behind p qs pid s g (let apart : (p.pid == pid) ≡ false = grind (arith, nat_tests) in apart) found
     go later false e (Here k holds regs) = found_here q (replaced qs p) pid s g k holds regs
     go later false e (Behind k found) = found_behind q (replaced qs p) pid s g k (later found)
@@ -94,7 +92,7 @@ found_front (q ∷ qs) p pid s g h = go (λ k. found_front qs p pid s g k) (firs
 -- all but the processes of another number
 pub without_stays : (qs : List Process) (of pid : ℕ) (s : Space) (g : Regs) → of ≢ pid → FoundRegs qs pid s g → FoundRegs (Rattle.std.specs.Prelude.filter (λ q. not (q.pid == of)) qs) pid s g
 without_stays qs of pid s g other h =
-    found_filtered (λ q. not (q.pid == of)) qs pid s g (λ q holds k. let apart : (q.pid == of) ≡ false = (let is : q.pid ≡ pid = number_is q.pid pid k in grind (arith, nat_tests)) in ap not apart) h
+    found_filtered (λ q. not (q.pid == of)) qs pid s g (λ q holds k. let apart : (q.pid == of) ≡ false = (let is : q.pid ≡ pid = eqb-true q.pid pid k in grind (arith, nat_tests)) in ap not apart) h
 
 -- Changes.
 

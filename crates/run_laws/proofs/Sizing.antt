@@ -1,7 +1,8 @@
 -- Spaces are at most as large, and processes as few, as the flat machine's rules say.
 use Rattle.std.proofs.Common.{◌≡◌, ◌⊎◌, inl, inr, ℕ, suc, ◌+◌, ◌-◌, ◌*◌, ◌/◌, ◌%◌, ◌<◌, ◌≤◌, ◌==◌, ◌&&◌, ◌||◌, nat_lt, nat_le, not, cond, Bool, true, false, List, [], ◌∷◌, ◌++◌, length, map, filter, replicate, find, Option, Some, None, Result, Ok, Err, ℤ, refl, sym, ap, ◌∙◌, subst, arith, length-append}
 use Rattle.std.proofs.lemmas.List.{length-replicate}
-use Rattle.std.proofs.lemmas.Bool.Decides.{nat_tests}
+use Rattle.std.proofs.lemmas.Bool.{ltb-true, leb-true}
+use Rattle.flat_state.proofs.Processes.{length-replaced, length-returned}
 use Rattle.vm_facts.specs.Answers.{Answers, ByteWrite}
 use Rattle.flat_state.specs.Space.{Space, stack_top, stack_reach, spot_by, spot_at, address_in, byte_at, may_write_at, answers_of, puts}
 use Rattle.flat_state.specs.Flat.{Holding, Holds, Lends, Zombie, Process, FlatState, NamedImage, Inputs, image_numbered, process_of, can_step, argument_area, start_page, space_with, start_if, start_processes, start_state, spaces_of, space_held}
@@ -20,16 +21,17 @@ use Rattle.flat_state.specs.declared.spot.Spot.{Spot}
 use Rattle.flat_state.specs.declared.spot.Spot.TheVariants as spots
 use Rattle.flat_state.specs.declared.change.Change.{Change}
 use Rattle.flat_state.specs.declared.change.Change.TheVariants.{Keep, Resize, Fork, Lend, Exec, Reap, Sleep, End}
-use Rattle.flat_state.specs.Change.{replaced, replaced_by, with_process, resized, child_of, lends_to, returned, returned_by, given_back, entered, is_zombie_child, without_parent, orphaned, awake, left, changed, changed_by, changed_if, apply_change, wrote_by, wrote_if, apply_writes}
+use Rattle.flat_state.specs.Change.{replaced, with_process, resized, child_of, lends_to, returned, returned_by, given_back, entered, is_zombie_child, without_parent, orphaned, awake, left, changed, changed_by, changed_if, apply_change, wrote_by, wrote_if, apply_writes}
 use Rattle.flat_state.specs.Journal.{units_of}
 use Rattle.page_model.specs.Pages.{SpacePages, numbered, data_in, stack_in}
 use Rattle.page_model.specs.Placement.{space_number}
 use Rattle.kernel_model.specs.Coupled.{Fits, SameTables}
 use Rattle.kernel_model.specs.Sound.{DataFits}
 use Rattle.kernel_model.specs.Start.{ImageFits, ImagesFit}
-use Rattle.kernel_laws.proofs.Machine.Breaks.{resized_length}
+use Rattle.flat_state.proofs.SpaceLaws.{length-resized_bytes}
 use Rattle.kernel_laws.proofs.Flat.Lists.{sid_of, held}
-use Rattle.page_laws.proofs.Lists.Local.{none_some, some_is}
+use Rattle.page_laws.proofs.Lists.Local.{none_some}
+use Rattle.std.proofs.lemmas.Option.{same_Some}
 use Rattle.flat_model.specs.declared.calls.Reply.{Reply}
 use Rattle.flat_model.specs.declared.calls.Reply.TheVariants.{Fails, Does, Writes, Waits, Exits}
 use Rattle.flat_model.specs.declared.calls.SystemCall.{SystemCall}
@@ -39,7 +41,8 @@ use Rattle.flat_model.specs.Instruction.{instruction_in}
 use Rattle.flat_model.specs.Step.{pages_down_to, data_pages_of as data_pages_in, replied_step, reply_behind, called_step, step_behind, step_of, step_holding, step_if, flat_step, written_process}
 use Rattle.flat_model.specs.Run.{Point, step_at, due_at, act, behind, point_after, same_as, process_of_entry, may_follow, where_so, flat_entry_of, flat_entry_if, flat_entry_by, flat_entry, flat_units, flat_run, start_point}
 use Rattle.run_model.specs.State.{State}
-use Rattle.run_laws.specs.Standing.{EachProcess, ExecFits, Placed, machine_of}
+use Rattle.run_laws.specs.Standing.{EachProcess, Placed, machine_of}
+use Rattle.kernel_model.specs.Invariant.{EntersImage}
 use Rattle.run_laws.specs.Running.{IsRun, CanRun}
 use Rattle.run_model.specs.Lawful.{Reaches, IsLawful}
 use Rattle.run_laws.proofs.Wholes.{reached_run, reached_lawful}
@@ -54,25 +57,7 @@ Sized q = HoldingSized q.holding
 
 -- How many.
 
-replaced_count : (ps : List Process) (p : Process) → length (replaced ps p) ≡ length ps
-unfolding replaced
-replaced_count [] p = refl
-replaced_count (q ∷ ps) p = go (q.pid == p.pid) (replaced_count ps p)
-  where
-    go : (b : Bool) → length (replaced ps p) ≡ length ps → length (replaced_by b p q ps (replaced ps p)) ≡ suc (length ps)
-    go true ih = refl
-    go false ih = ap suc ih
-
-returned_count : (pid : ℕ) (s : Space) (ps : List Process) → length (returned pid s ps) ≡ length ps
-unfolding returned
-returned_count pid s [] = refl
-returned_count pid s (q ∷ ps) = go (lends_to pid q.holding) (returned_count pid s ps)
-  where
-    go : (b : Bool) → length (returned pid s ps) ≡ length ps → length (returned_by b s q ps (returned pid s ps)) ≡ suc (length ps)
-    go true ih = refl
-    go false ih = ap suc ih
-
-left_count : (test : Process → Bool) (ps : List Process) → length (filter test ps) ≤ length ps
+pub left_count : (test : Process → Bool) (ps : List Process) → length (filter test ps) ≤ length ps
 left_count test [] = omega arith
 left_count test (q ∷ ps) = go (test q) (left_count test ps)
   where
@@ -96,7 +81,7 @@ sized_returned pid s (q ∷ ps) t h = go (lends_to pid q.holding) (sized_returne
     go false ih = (h.0, ih)
 
 with_sized : (F : FlatState) (p : Process) → FlatSized F → Sized p → FlatSized (with_process F p)
-with_sized F p h s = record { spaces = each_replaced Sized F.processes p h.spaces s; count = let e = replaced_count F.processes p in let c = h.count in omega arith }
+with_sized F p h s = record { spaces = each_replaced Sized F.processes p h.spaces s; count = let e = length-replaced F.processes p in let c = h.count in omega arith }
 
 left_sized : (b : Bool) (F : FlatState) (pid parent : ℕ) → FlatSized F → FlatSized (left b F pid parent)
 left_sized true F pid parent h = record { spaces = each_left Sized (λ q. not (q.pid == pid)) F.processes h.spaces; count = let l = left_count (λ q. not (q.pid == pid)) F.processes in let c = h.count in omega arith }
@@ -111,22 +96,22 @@ images_sized A sz fit number named e =
     let d : DataFits named.image = i.«data» in
     let l = d.size in let m = sz.images number named e in omega arith
 
-changed_sized : (A : Inputs) (F : FlatState) (p : Process) (s : Space) (change : Change) → InputsSized A → ImagesFit A.images → ExecFits A.images change → ChangeSized F change → p.holding ≡ Holds s → SpaceSized s → FlatSized F → FlatSized (changed A.images F p s change)
+changed_sized : (A : Inputs) (F : FlatState) (p : Process) (s : Space) (change : Change) → InputsSized A → ImagesFit A.images → EntersImage A.images change → ChangeSized F change → p.holding ≡ Holds s → SpaceSized s → FlatSized F → FlatSized (changed A.images F p s change)
 changed_sized A F p s Keep sz fit x c h t e = with_sized F p e (subst HoldingSized (sym h) t)
 changed_sized A F p s (Resize d r) sz fit x c h t e = with_sized F (record p { holding = Holds (resized s d r) }) e (record {
-  data_size = let l = resized_length d s.data_bytes in let k = c.0 in omega arith;
-  stack_size = let l = resized_length r s.stack_bytes in let k = c.1 in omega arith;
+  data_size = let l = length-resized_bytes d s.data_bytes in let k = c.0 in omega arith;
+  stack_size = let l = length-resized_bytes r s.stack_bytes in let k = c.1 in omega arith;
 })
 changed_sized A F p s (Fork child) sz fit x c h t e =
-    more_sized F (replaced F.processes p) (child_of p child (record s { sid = F.next_sid })) (F.next_pid + 1) (F.next_sid + 1) (each_replaced Sized F.processes p e.spaces (subst HoldingSized (sym h) t)) (replaced_count F.processes p) c (record { data_size = t.data_size; stack_size = t.stack_size })
+    more_sized F (replaced F.processes p) (child_of p child (record s { sid = F.next_sid })) (F.next_pid + 1) (F.next_sid + 1) (each_replaced Sized F.processes p e.spaces (subst HoldingSized (sym h) t)) (length-replaced F.processes p) c (record { data_size = t.data_size; stack_size = t.stack_size })
 changed_sized A F p s (Lend child) sz fit x c h t e =
-    more_sized F (replaced F.processes (record p { holding = Lends s.sid child })) (child_of p child s) (F.next_pid + 1) F.next_sid (each_replaced Sized F.processes (record p { holding = Lends s.sid child }) e.spaces tt) (replaced_count F.processes (record p { holding = Lends s.sid child })) c t
+    more_sized F (replaced F.processes (record p { holding = Lends s.sid child })) (child_of p child s) (F.next_pid + 1) F.next_sid (each_replaced Sized F.processes (record p { holding = Lends s.sid child }) e.spaces tt) (length-replaced F.processes (record p { holding = Lends s.sid child })) c t
 changed_sized A F p s (Exec number top) sz fit (named, im, whole) c h t e = subst (λ (o : Option NamedImage). FlatSized (entered F p s number o top)) (sym im)
     (let w : FlatSized (with_process F (record p { holding = Holds (space_with F.next_sid number named.image top) })) =
     with_sized F (record p { holding = Holds (space_with F.next_sid number named.image top) }) e (record { data_size = images_sized A sz fit number named im; stack_size = omega (arith, whole) }) in
     record {
       spaces = sized_returned p.pid s (replaced F.processes (record p { holding = Holds (space_with F.next_sid number named.image top) })) t w.spaces;
-      count = let a = returned_count p.pid s (replaced F.processes (record p { holding = Holds (space_with F.next_sid number named.image top) })) in let b = w.count in omega arith;
+      count = let a = length-returned p.pid s (replaced F.processes (record p { holding = Holds (space_with F.next_sid number named.image top) })) in let b = w.count in omega arith;
     })
 changed_sized A F p s (Reap child) sz fit x c h t e =
     with_sized (record F { processes = filter (λ q. not (q.pid == child)) F.processes }) p (record { spaces = each_left Sized (λ q. not (q.pid == child)) F.processes e.spaces; count = let l = left_count (λ q. not (q.pid == child)) F.processes in let k = e.count in omega arith }) (subst HoldingSized (sym h) t)
@@ -134,7 +119,7 @@ changed_sized A F p s Sleep sz fit x c h t e = with_sized F (record p { asleep =
 changed_sized A F p s (End status) sz fit x c h t e = left_sized (p.parent == 0) (orphaned (given_back (with_process F record p { holding = Zombie status }) p.pid s) p.pid) p.pid p.parent
     (record {
       spaces = each_mapped Sized (without_parent p.pid) (filter (λ q. not (is_zombie_child p.pid q)) ps) (λ q k. k) (each_left Sized (λ q. not (is_zombie_child p.pid q)) ps (sized_returned p.pid s (replaced F.processes (record p { holding = Zombie status })) t w.spaces));
-      count = let a = map_count (without_parent p.pid) (filter (λ q. not (is_zombie_child p.pid q)) ps) in let b = left_count (λ q. not (is_zombie_child p.pid q)) ps in let d = returned_count p.pid s (replaced F.processes (record p { holding = Zombie status })) in let g = w.count in omega arith;
+      count = let a = map_count (without_parent p.pid) (filter (λ q. not (is_zombie_child p.pid q)) ps) in let b = left_count (λ q. not (is_zombie_child p.pid q)) ps in let d = length-returned p.pid s (replaced F.processes (record p { holding = Zombie status })) in let g = w.count in omega arith;
     })
   where
     w : FlatSized (with_process F (record p { holding = Zombie status }))
@@ -150,7 +135,7 @@ written_sized F p s ws t h = let z : SameSpace s (puts s ws) = puts_same ws s in
     with_sized F (record p { holding = Holds (puts s ws) }) h (record { data_size = let a = z.data_size in let b = t.data_size in omega arith; stack_size = let a = z.stack_size in let b = t.stack_size in omega arith })
 
 -- a change of a process, whichever it is
-change_sized : (A : Inputs) (F : FlatState) (pid : ℕ) (regs : Regs) (change : Change) → InputsSized A → ImagesFit A.images → ExecFits A.images change → ChangeSized F change → FlatSized F → FlatSized (apply_change A.images F pid regs change)
+change_sized : (A : Inputs) (F : FlatState) (pid : ℕ) (regs : Regs) (change : Change) → InputsSized A → ImagesFit A.images → EntersImage A.images change → ChangeSized F change → FlatSized F → FlatSized (apply_change A.images F pid regs change)
 unfolding apply_change
 change_sized A F pid regs change sz fit x c h = go (process_of F pid) refl
   where
@@ -185,14 +170,8 @@ ReplySized F (Writes bytes) = Unit {0}
 ReplySized F Waits = Unit {0}
 ReplySized F (Exits status) = Unit {0}
 
-lt_is : (a b : ℕ) → nat_lt a b ≡ true → a < b
-lt_is a b e = grind (arith, nat_tests)
-
-le_is : (a b : ℕ) → nat_le a b ≡ true → a ≤ b
-le_is a b e = grind (arith, nat_tests)
-
 child_sized : (F : FlatState) (b : Bool) (regs : Regs) (child : ℕ) → nat_lt (length F.processes) process_limit ≡ b → ReplySized F (child_by b regs child (Fork child)) × ReplySized F (child_by b regs child (Lend child))
-child_sized F true regs child e = (lt_is (length F.processes) 64 e, lt_is (length F.processes) 64 e)
+child_sized F true regs child e = (ltb-true (length F.processes) 64 e, ltb-true (length F.processes) 64 e)
 child_sized F false regs child e = (tt, tt)
 
 written_to_sized : (F : FlatState) (b : Bool) (buffer count : ℕ) → AllGives (ReplySized F) (written_to b buffer count)
@@ -201,7 +180,7 @@ written_to_sized F true buffer count = gives_any (ReplySized F) (bytes_from (Rat
 written_to_sized F false buffer count = tt
 
 break_sized : (F : FlatState) (regs : Regs) (x y : ℕ) → y ≤ 512 → (b : Bool) → nat_le x data_limit ≡ b → ReplySized F (break_by b regs x y)
-break_sized F regs x y l true e = (le_is x 4096 e, l)
+break_sized F regs x y l true e = (leb-true x 4096 e, l)
 break_sized F regs x y l false e = tt
 
 starts_sized : (F : FlatState) (found : ℕ × NamedImage) (arguments : Option (List (List ℕ))) → ReplySized F (starts found arguments)
@@ -300,7 +279,7 @@ spot_below s a e = both (nat_le (stack_top - stack_reach) a) (nat_lt a stack_top
     four false false false false e = absurd cc
 
     both : (x y : Bool) → nat_le (stack_top - stack_reach) a ≡ x → nat_lt a stack_top ≡ y → (x && y) ≡ true → (stack_top - stack_reach ≤ a) × (a < stack_top)
-    both true true i j k = (le_is (stack_top - stack_reach) a i, lt_is a stack_top j)
+    both true true i j k = (leb-true (stack_top - stack_reach) a i, ltb-true a stack_top j)
     both true false i j k = absurd cc
     both false y i j k = absurd cc
 
@@ -331,17 +310,17 @@ grown_few s regs a e =
 
 -- Steps.
 
-with_step : (A : Inputs) (F : FlatState) (pid : ℕ) (ws : List ByteWrite) (regs : Regs) (change : Change) → InputsSized A → ImagesFit A.images → ExecFits A.images change → ChangeSized (apply_writes F pid ws) change → FlatSized F → FlatSized (apply_change A.images (apply_writes F pid ws) pid regs change)
+with_step : (A : Inputs) (F : FlatState) (pid : ℕ) (ws : List ByteWrite) (regs : Regs) (change : Change) → InputsSized A → ImagesFit A.images → EntersImage A.images change → ChangeSized (apply_writes F pid ws) change → FlatSized F → FlatSized (apply_change A.images (apply_writes F pid ws) pid regs change)
 with_step A F pid ws regs change sz fit x c h = change_sized A (apply_writes F pid ws) pid regs change sz fit x c (writes_sized F pid ws h)
 
-replied_sized : (A : Inputs) (F : FlatState) (p : Process) (call : SystemCall) (effect : Effect) (reply : Reply) → InputsSized A → ImagesFit A.images → ExecFits A.images (replied_step A.images F p call effect reply).change → ReplySized (apply_writes F p.pid effect.writes) reply → FlatSized F → FlatSized (replied_step A.images F p call effect reply).after
+replied_sized : (A : Inputs) (F : FlatState) (p : Process) (call : SystemCall) (effect : Effect) (reply : Reply) → InputsSized A → ImagesFit A.images → EntersImage A.images (replied_step A.images F p call effect reply).change → ReplySized (apply_writes F p.pid effect.writes) reply → FlatSized F → FlatSized (replied_step A.images F p call effect reply).after
 replied_sized A F p call effect (Fails error) sz fit x c h = with_step A F p.pid effect.writes _ Keep sz fit tt tt h
 replied_sized A F p call effect (Does regs change) sz fit x c h = with_step A F p.pid effect.writes regs change sz fit x c h
 replied_sized A F p call effect (Writes bytes) sz fit x c h = with_step A F p.pid effect.writes _ Keep sz fit tt tt h
 replied_sized A F p call effect Waits sz fit x c h = with_step A F p.pid effect.writes p.regs Sleep sz fit tt tt h
 replied_sized A F p call effect (Exits status) sz fit x c h = with_step A F p.pid effect.writes p.regs (End status) sz fit tt tt h
 
-called_sized : (A : Inputs) (F : FlatState) (p : Process) (s : Space) (refused : Bool) (effect : Effect) (o : Option SystemCall) → InputsSized A → ImagesFit A.images → SpaceSized s → ExecFits A.images (called_step A.images F p s refused effect o).change → FlatSized F → FlatSized (called_step A.images F p s refused effect o).after
+called_sized : (A : Inputs) (F : FlatState) (p : Process) (s : Space) (refused : Bool) (effect : Effect) (o : Option SystemCall) → InputsSized A → ImagesFit A.images → SpaceSized s → EntersImage A.images (called_step A.images F p s refused effect o).change → FlatSized F → FlatSized (called_step A.images F p s refused effect o).after
 called_sized A F p s refused effect None sz fit t x h = with_step A F p.pid effect.writes p.regs (End 12) sz fit tt tt h
 called_sized A F p s refused effect (Some call) sz fit t x h =
     let z : SameSpace s (puts s effect.writes) = puts_same effect.writes s in
@@ -351,11 +330,11 @@ called_sized A F p s refused effect (Some call) sz fit t x h =
     (run_sized (apply_writes F p.pid effect.writes) (answers_of (puts s effect.writes)) (reply_of A.images (apply_writes F p.pid effect.writes) (written_process p s effect.writes) (puts s effect.writes) call effect.regs)
     (all_sized A.images (apply_writes F p.pid effect.writes) (written_process p s effect.writes) (puts s effect.writes) call effect.regs t1))) h
 
-behind_sized : (A : Inputs) (F : FlatState) (p : Process) (s : Space) (refused : Bool) (effect : Effect) (o : Option ℤ) → InputsSized A → ImagesFit A.images → SpaceSized s → ExecFits A.images (step_behind A.images F p s refused effect o).change → FlatSized F → FlatSized (step_behind A.images F p s refused effect o).after
+behind_sized : (A : Inputs) (F : FlatState) (p : Process) (s : Space) (refused : Bool) (effect : Effect) (o : Option ℤ) → InputsSized A → ImagesFit A.images → SpaceSized s → EntersImage A.images (step_behind A.images F p s refused effect o).change → FlatSized F → FlatSized (step_behind A.images F p s refused effect o).after
 behind_sized A F p s refused effect None sz fit t x h = with_step A F p.pid effect.writes effect.regs Keep sz fit tt tt h
 behind_sized A F p s refused effect (Some number) sz fit t x h = called_sized A F p s refused effect (call_of number) sz fit t x h
 
-of_sized : (A : Inputs) (F : FlatState) (p : Process) (s : Space) (refused : Bool) (r : Result Effect Refused) → instruction_in s p.regs ≡ r → InputsSized A → ImagesFit A.images → SpaceSized s → ExecFits A.images (step_of A.images F p s refused r).change → FlatSized F → FlatSized (step_of A.images F p s refused r).after
+of_sized : (A : Inputs) (F : FlatState) (p : Process) (s : Space) (refused : Bool) (r : Result Effect Refused) → instruction_in s p.regs ≡ r → InputsSized A → ImagesFit A.images → SpaceSized s → EntersImage A.images (step_of A.images F p s refused r).change → FlatSized F → FlatSized (step_of A.images F p s refused r).after
 of_sized A F p s refused (Ok effect) e sz fit t x h = behind_sized A F p s refused effect effect.call sz fit t x h
 of_sized A F p s refused (Err (Miss address write)) e sz fit t x h = h
 of_sized A F p s true (Err (Below address)) e sz fit t x h = with_step A F p.pid [] p.regs (End 11) sz fit tt tt h
@@ -366,12 +345,12 @@ pub step_sized : (A : Inputs) (F : FlatState) (pid : ℕ) (refused : Bool) → I
 unfolding flat_step
 step_sized A F pid refused sz fit h = go (process_of F pid) refl (execs_fit A F pid refused)
   where
-    by : (p : Process) → process_of F pid ≡ Some p → (x : Holding) → p.holding ≡ x → ExecFits A.images (step_holding A.images F p refused x).change → FlatSized (step_holding A.images F p refused x).after
+    by : (p : Process) → process_of F pid ≡ Some p → (x : Holding) → p.holding ≡ x → EntersImage A.images (step_holding A.images F p refused x).change → FlatSized (step_holding A.images F p refused x).after
     by p f (Holds s) i x = of_sized A F p s refused (instruction_in s p.regs) refl sz fit (subst HoldingSized i (found_process Sized F.processes pid p h.spaces f)) x h
     by p f (Lends sid child) i x = h
     by p f (Zombie status) i x = h
 
-    go : (o : Option Process) → process_of F pid ≡ o → ExecFits A.images (step_if A.images F refused o).change → FlatSized (step_if A.images F refused o).after
+    go : (o : Option Process) → process_of F pid ≡ o → EntersImage A.images (step_if A.images F refused o).change → FlatSized (step_if A.images F refused o).after
     go None f x = h
     go (Some p) f x = by p f p.holding refl x
 
@@ -447,7 +426,7 @@ held_sized [] sid s h e = none_some s e
 held_sized (q ∷ ps) sid s h e = go q.holding h.0 e (held_sized ps sid s h.1)
   where
     one : (x : Space) (b : Bool) → SpaceSized x → cond b (Some x) (numbered sid_of sid (held ps)) ≡ Some s → (numbered sid_of sid (held ps) ≡ Some s → SpaceSized s) → SpaceSized s
-    one x true t e later = subst SpaceSized (some_is x s e) t
+    one x true t e later = subst SpaceSized (same_Some x s e) t
     one x false t e later = later e
 
     go : (x : Holding) → HoldingSized x → numbered sid_of sid (space_held x ++ held ps) ≡ Some s → (numbered sid_of sid (held ps) ≡ Some s → SpaceSized s) → SpaceSized s

@@ -6,17 +6,19 @@ use Rattle.flat_state.specs.Space.{Space, puts}
 use Rattle.flat_state.specs.Flat.{Holding, Holds, Lends, Zombie, Process, FlatState, Inputs, process_of}
 use Rattle.vm_facts.specs.declared.page.Page.{Page}
 use Rattle.vm_facts.specs.declared.entry.Entry.{Entry}
+use Rattle.swap_book.specs.declared.Owner.TheVariants as owners
 use Rattle.swap_book.specs.Holdings.{Holdings}
 use Rattle.swap_book.specs.Placing.{place_all}
 use Rattle.flat_state.specs.declared.change.Change.{Change}
 use Rattle.flat_state.specs.declared.change.Change.TheVariants.{Keep, Resize, Fork, Lend, Exec, Reap, Sleep, End}
-use Rattle.flat_state.specs.Change.{replaced, with_process, wrote_by, wrote_if, apply_writes, apply_change, NamesChild}
+use Rattle.flat_state.specs.Change.{replaced, with_process, wrote_by, wrote_if, apply_writes, apply_change, NamesChild, is_borrower}
 use Rattle.flat_state.specs.Journal.{append}
 use Rattle.page_model.specs.Pages.{numbered}
 use Rattle.page_model.specs.Placement.{Placement, Residence, space_number, image_of, image_in, sharers, slots_of, parts_of}
 use Rattle.page_model.specs.Moves.{touch, touch_all}
-use Rattle.page_model.specs.Place.{is_borrower, place_change, place_step, space_of_holding, space_of_process, data_count, facts_of}
-use Rattle.page_model.specs.Swapper.{is_out, is_settled, residence_of, names_page, is_of_space, is_of_text}
+use Rattle.page_model.specs.Place.{place_change, place_step, space_of_holding, space_of_process, data_count, facts_of}
+use Rattle.page_model.specs.Swapper.{is_out, is_settled, residence_of, names_page}
+use Rattle.vm_facts.specs.Pages.{is_of_space, is_of_text}
 use Rattle.page_model.specs.Conditions.{LosesPages}
 use Rattle.kernel_model.specs.Coupled.{Outline, Fits, SameTables, outline_of}
 use Rattle.kernel_model.specs.Kernel.{Life, LendsSpace, life_of}
@@ -36,12 +38,13 @@ use Rattle.kernel_laws.proofs.Flat.Lenders.{writes_lent}
 use Rattle.flat_laws.proofs.Asking.{own_space, data_counted, stack_counted, change_same}
 use Rattle.flat_model.specs.Calls.{stack_pages_of}
 use Rattle.flat_model.specs.Step.{data_pages_of}
-use Rattle.flat_model.specs.Asked.{given_up, change_wanted, wanted_in, wanted_if, asks_by, asks, with_pieces, or_before, held_in, held_if, held_step, without_own, is_borrower as is_borrowing}
+use Rattle.flat_model.specs.Asked.{given_up, change_wanted, is_shared, with_pages, without_text, without_own, without_owner}
 use Rattle.run_model.specs.Act.{loses_pages}
-use Rattle.run_laws.specs.Standing.{machine_of, Placed, ExecFits, Own}
-use Rattle.run_laws.proofs.Changes.{borrower_same}
+use Rattle.run_laws.specs.Standing.{machine_of, Placed, Own}
+use Rattle.kernel_model.specs.Invariant.{EntersImage}
 use Rattle.run_laws.proofs.Writing.{SameSpace, puts_same, space_tables, touch_all_placed, writes_placed}
 use Rattle.run_laws.proofs.OwnChanges.{Changing, own_change}
+use Rattle.kernel_laws.proofs.Machine.Starts.{start_outlines}
 use Rattle.kernel_laws.proofs.Kept.Changes.{GivesBack}
 use Rattle.run_laws.proofs.BackChanges.{back_change}
 
@@ -82,27 +85,23 @@ borrows_is (q ∷ ps) pid = ap (λ (b : Bool). b || is_borrower ps pid) (one q.h
 pub borrows_same : (ps qs : List Process) (pid : ℕ) → map outline_of ps ≡ map outline_of qs → is_borrower ps pid ≡ is_borrower qs pid
 borrows_same ps qs pid e = borrows_is ps pid ∙ ap (λ (os : List Outline). borrows_by os pid) e ∙ sym (borrows_is qs pid)
 
+own_written : (x : Bool) (after : FlatState) (s z : Space) (hs : Holdings) → z.sid ≡ s.sid → z.image ≡ s.image → without_own x after z hs ≡ without_own x after s hs
+own_written true after s z hs a i = refl
+own_written false after s z hs a i = ap₂ (λ (n m : ℕ). without_text (is_shared after m) m (without_owner (owners.Stack n) (without_owner (owners.Data n) hs))) a i
+
 -- what is given back, by the flat states before and after the bytes
 pub given_written : (F G after : FlatState) (pid : ℕ) (s z : Space) (change : Change) (hs : Holdings) → z.sid ≡ s.sid → z.image ≡ s.image → is_borrower G.processes pid ≡ is_borrower F.processes pid → given_up G after pid z change hs ≡ given_up F after pid s change hs
 given_written F G after pid s z Keep hs a i b = refl
-given_written F G after pid s z (Resize d t) hs a i b = ap (λ (n : ℕ). Rattle.flat_model.specs.Asked.with_pages (Rattle.swap_book.specs.declared.Owner.TheVariants.Stack n) t (Rattle.flat_model.specs.Asked.with_pages (Rattle.swap_book.specs.declared.Owner.TheVariants.Data n) d hs)) a
+given_written F G after pid s z (Resize d t) hs a i b = ap (λ (n : ℕ). with_pages (owners.Stack n) t (with_pages (owners.Data n) d hs)) a
 given_written F G after pid s z (Fork child) hs a i b = refl
 given_written F G after pid s z (Lend child) hs a i b = refl
-given_written F G after pid s z (Exec image top) hs a i b = ap (λ (x : Bool). without_own x after z hs) (borrower_same G.processes pid ∙ b ∙ sym (borrower_same F.processes pid)) ∙ own_written (is_borrowing F pid) after s z hs a i
-  where
-    own_written : (x : Bool) (after : FlatState) (s z : Space) (hs : Holdings) → z.sid ≡ s.sid → z.image ≡ s.image → without_own x after z hs ≡ without_own x after s hs
-    own_written true after s z hs a i = refl
-    own_written false after s z hs a i = ap₂ (λ (n m : ℕ). Rattle.flat_model.specs.Asked.without_text (Rattle.flat_model.specs.Asked.is_shared after m) m (Rattle.flat_model.specs.Asked.without (Rattle.swap_book.specs.declared.Owner.TheVariants.Stack n) (Rattle.flat_model.specs.Asked.without (Rattle.swap_book.specs.declared.Owner.TheVariants.Data n) hs))) a i
+given_written F G after pid s z (Exec image top) hs a i b = ap (λ (x : Bool). without_own x after z hs) b ∙ own_written (is_borrower F.processes pid) after s z hs a i
 given_written F G after pid s z (Reap child) hs a i b = refl
 given_written F G after pid s z Sleep hs a i b = refl
-given_written F G after pid s z (End status) hs a i b = ap (λ (x : Bool). without_own x after z us) (borrower_same G.processes pid ∙ b ∙ sym (borrower_same F.processes pid)) ∙ own_written (is_borrowing F pid) after s z us a i
+given_written F G after pid s z (End status) hs a i b = ap (λ (x : Bool). without_own x after z us) b ∙ own_written (is_borrower F.processes pid) after s z us a i
   where
     us : Holdings
-    us = Rattle.flat_model.specs.Asked.without (Rattle.swap_book.specs.declared.Owner.TheVariants.U pid) hs
-
-    own_written : (x : Bool) (after : FlatState) (s z : Space) (hs : Holdings) → z.sid ≡ s.sid → z.image ≡ s.image → without_own x after z hs ≡ without_own x after s hs
-    own_written true after s z hs a i = refl
-    own_written false after s z hs a i = ap₂ (λ (n m : ℕ). Rattle.flat_model.specs.Asked.without_text (Rattle.flat_model.specs.Asked.is_shared after m) m (Rattle.flat_model.specs.Asked.without (Rattle.swap_book.specs.declared.Owner.TheVariants.Stack n) (Rattle.flat_model.specs.Asked.without (Rattle.swap_book.specs.declared.Owner.TheVariants.Data n) hs))) a i
+    us = without_owner (owners.U pid) hs
 
 -- Touched pages.
 
@@ -183,7 +182,7 @@ pub record Making (A : Inputs) (flat : FlatState) (p : Placement) (hs found : Ho
   pub resident : is_out p pid ≡ false
   pub clear : p.due ≡ []
   pub may : NamesChild (apply_writes flat pid ws) change
-  pub execs : ExecFits A.images change
+  pub execs : EntersImage A.images change
   pub pieces : place_all A.swap_blocks hs (change_wanted A.images flat s change) ≡ Ok found
   pub settles : loses_pages s (is_borrower flat.processes pid) change ≡ true → is_settled p s.sid ≡ true
 

@@ -25,7 +25,8 @@ use Rattle.page_model.specs.Stored.{store_at, stored}
 use Rattle.kernel_model.specs.ChangeStep.{space_of_life}
 use Rattle.kernel_model.specs.Start.{ImagesFit, start_kernel}
 use Rattle.kernel_model.specs.Stands.{holds_some}
-use Rattle.page_laws.proofs.Lists.Local.{some_is}
+use Rattle.std.proofs.lemmas.Option.{same_Some}
+use Rattle.page_laws.proofs.Bytes.Others.{each_front}
 use Rattle.page_laws.proofs.Moves.Steps.{page_in}
 use Rattle.page_laws.proofs.Bytes.Pages.{keeps_at}
 use Rattle.kernel_laws.proofs.Machine.Tables.{outline_at, regs_at, space_same}
@@ -57,10 +58,6 @@ parts_flat A s k image (x ∷ xs) c m =
     let here : (bytes_in (beside_kernel k A.images image s.point.flat) x.frame ≡ memory_of A.images s.point.flat x.page) × IfSaved (beside_kernel k A.images image s.point.flat) x.page (mark_of k.place x.page) =
     keeps_at k.place (beside_kernel k A.images image s.point.flat) x.page (Going x.frame) c.pages (page_in k.place x.page x.frame (ap frame_of m.0)) m.0 in
     (here.0, parts_flat A s k image xs c m.1)
-
-each_front : (P : Moving → Type 0) (xs ys : List Moving) → Each P (xs ++ ys) → Each P xs
-each_front P [] ys e = tt
-each_front P (x ∷ xs) ys e = (e.0, each_front P xs ys e.1)
 
 each_back : (P : Moving → Type 0) (xs ys : List Moving) → Each P (xs ++ ys) → Each P ys
 each_back P [] ys e = e
@@ -240,7 +237,7 @@ given_at A s k image entries.Done x f = are_brought (beside_kernel k A.images im
 given_at A s k image (entries.SwapOut pid) x f = λ p e.
     let y : SameOut A s k image pid = goes_off A s k image (entries.SwapOut pid) pid x refl in
     let z : Leaves k s.point.flat pid = y.there in
-    subst AreRegs (sym y.regs ∙ ap (λ (r : Proc). r.regs) (some_is z.proc p (sym z.kept ∙ e))) (f z.process z.here)
+    subst AreRegs (sym y.regs ∙ ap (λ (r : Proc). r.regs) (same_Some z.proc p (sym z.kept ∙ e))) (f z.process z.here)
 given_at A s k image (entries.Event line) x f = tt
 given_at A s k image (entries.Turn p) x f = tt
 given_at A s k image (entries.Ran p m) x f = tt

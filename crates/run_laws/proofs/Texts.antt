@@ -8,7 +8,8 @@ use Rattle.flat_state.specs.declared.change.Change.{Change}
 use Rattle.flat_state.specs.declared.change.Change.TheVariants.{Keep, Resize, Fork, Lend, Exec, Reap, Sleep, End}
 use Rattle.flat_state.specs.Change.{replaced, replaced_by, with_process, returned, returned_by, lends_to, changed, left, orphaned, ended, entered, is_zombie_child, without_parent, awake, wrote_by, wrote_if, apply_writes, apply_change}
 use Rattle.kernel_laws.proofs.Machine.Swaps.{applied}
-use Rattle.run_laws.specs.Standing.{EachProcess, IsText, HasText, TextsHeld, ExecFits}
+use Rattle.run_laws.specs.Standing.{EachProcess, IsText, HasText, TextsHeld}
+use Rattle.kernel_model.specs.Invariant.{EntersImage}
 use Rattle.run_laws.proofs.Touching.{found_process}
 use Rattle.run_laws.proofs.Writing.{SameSpace, puts_same}
 
@@ -57,7 +58,7 @@ left_texts : (images : List NamedImage) (b : Bool) (F : FlatState) (pid parent :
 left_texts images true F pid parent h = each_left (Text images) (λ q. not (q.pid == pid)) F.processes h
 left_texts images false F pid parent h = each_mapped (Text images) (awake parent) F.processes (λ q k. k) h
 
-changed_texts : (images : List NamedImage) (F : FlatState) (p : Process) (s : Space) (change : Change) → ExecFits images change → p.holding ≡ Holds s → IsText images s → TextsHeld images F → TextsHeld images (changed images F p s change)
+changed_texts : (images : List NamedImage) (F : FlatState) (p : Process) (s : Space) (change : Change) → EntersImage images change → p.holding ≡ Holds s → IsText images s → TextsHeld images F → TextsHeld images (changed images F p s change)
 changed_texts images F p s Keep x h t e = each_replaced (Text images) F.processes p e (subst (HasText images) (sym h) t)
 changed_texts images F p s (Resize d r) x h t e = each_replaced (Text images) F.processes (record p { holding = Holds (Rattle.flat_state.specs.Change.resized s d r) }) e (record { named = t.named; image = t.image; same = t.same })
 changed_texts images F p s (Fork child) x h t e =
@@ -78,7 +79,7 @@ changed_texts images F p s (End status) x h t e =
 own_text : (images : List NamedImage) (F : FlatState) (pid : ℕ) (q : Process) (s : Space) → process_of F pid ≡ Some q → q.holding ≡ Holds s → TextsHeld images F → IsText images s
 own_text images F pid q s f h e = subst (HasText images) h (found_process (Text images) F.processes pid q e f)
 
-pub change_texts : (images : List NamedImage) (F : FlatState) (pid : ℕ) (regs : Regs) (change : Change) (q : Process) (s : Space) → process_of F pid ≡ Some q → q.holding ≡ Holds s → ExecFits images change → TextsHeld images F → TextsHeld images (apply_change images F pid regs change)
+pub change_texts : (images : List NamedImage) (F : FlatState) (pid : ℕ) (regs : Regs) (change : Change) (q : Process) (s : Space) → process_of F pid ≡ Some q → q.holding ≡ Holds s → EntersImage images change → TextsHeld images F → TextsHeld images (apply_change images F pid regs change)
 change_texts images F pid regs change q s f h x e = subst (TextsHeld images) (sym (applied images F pid regs change q s f h)) (changed_texts images F (record q { regs = regs }) s change x h (own_text images F pid q s f h e) e)
 
 pub write_texts : (images : List NamedImage) (F : FlatState) (pid : ℕ) (ws : List ByteWrite) (q : Process) (s : Space) → process_of F pid ≡ Some q → q.holding ≡ Holds s → TextsHeld images F → TextsHeld images (apply_writes F pid ws)

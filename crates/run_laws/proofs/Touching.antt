@@ -96,7 +96,7 @@ page_present images p s x e z t fits (Stack i) w q h = subst (Present p) (let k 
 page_present images p s x e z t fits Below w q h = absurd cc
 page_present images p s x e z t fits Outside w q h = absurd cc
 
-tested_read : (s : Space) (spot : Spot) (q : Page) → page_tested s spot ≡ Some q → page_read s spot ≡ Some q
+pub tested_read : (s : Space) (spot : Spot) (q : Page) → page_tested s spot ≡ Some q → page_read s spot ≡ Some q
 tested_read s (Text i) q h = absurd cc
 tested_read s (Data i) q h = h
 tested_read s (Stack i) q h = h

@@ -1,5 +1,5 @@
 -- A whole run: what stands, what each unit asks, and when there is none.
-use Rattle.std.proofs.Common.{◌≡◌, ◌⊎◌, inl, inr, ℕ, ◌+◌, ◌<◌, ◌&&◌, Bool, true, false, nat_lt, List, Option, Some, None, Ok, refl, sym, ap, ◌∙◌, subst, arith}
+use Rattle.std.proofs.Common.{◌≡◌, ◌⊎◌, inl, inr, ℕ, ◌+◌, ◌<◌, ◌&&◌, Bool, true, false, nat_lt, List, Option, Some, None, refl, sym, ap, ◌∙◌, subst, arith}
 use Rattle.std.proofs.lemmas.Bool.Decides.{nat_tests}
 use Rattle.vm_facts.specs.declared.entry.Entry.{Entry}
 use Rattle.vm_facts.specs.declared.entry.Entry.TheVariants as entries
@@ -18,7 +18,8 @@ use Rattle.run_model.proofs.Wanting.{wanted_none}
 use Rattle.run_model.specs.Next.{turn_instructions, next_unit}
 use Rattle.run_model.specs.Kinds.{GoesOn, Runs, Kind, Fills, Brings, Copies, Serves, Acts, ComesIn, Interrupts, Moves, PutsOut, Notes, Begins}
 use Rattle.run_model.specs.Lawful.{Follows, Reaches, IsLawful}
-use Rattle.run_model.proofs.NextUnits.{both_true, kind_of}
+use Rattle.run_model.proofs.NextUnits.{kind_of}
+use Rattle.std.proofs.lemmas.Bool.{and_parts}
 use Rattle.run_laws.specs.Standing.{IsAllowed}
 use Rattle.run_laws.specs.Running.{IsRun, CanRun, IsReady}
 use Rattle.run_laws.proofs.Flows.{Acted, Settles, Refuses, Steps, acted, steps_own, on_steps, on_running}
@@ -38,9 +39,6 @@ units_run A us s t images r f = run_all A us s t images (execs_fit A) r f
 pub start_run : (A : Inputs) (hs : Holdings) → CanRun A hs → IsRun A (start A hs)
 start_run A hs c = run_start A hs c.images c.first c.frames c.pieces
 
-ok_same : (a b : Holdings) → (let x : Rattle.std.specs.Prelude.Result Holdings ℕ = Ok a in x) ≡ Ok b → a ≡ b
-ok_same a b e = cc
-
 pub reached_run : (A : Inputs) (hs : Holdings) (journal : List Entry) (s : State) → CanRun A hs → Reaches A journal s → IsRun A s
 reached_run A hs journal s c r = units_run A r.units (start A r.holdings) s c.images (run_start A r.holdings c.images c.first c.frames r.found) r.follows
 
@@ -49,7 +47,7 @@ reached_lawful A hs journal s c r = reaches_lawful A journal s c.images (execs_f
 
 -- What a unit asks.
 
-flat_or : (u : Entry) → (process_of_entry u ≡ None) ⊎ ((pid : ℕ) × (process_of_entry u ≡ Some pid))
+pub flat_or : (u : Entry) → (process_of_entry u ≡ None) ⊎ ((pid : ℕ) × (process_of_entry u ≡ Some pid))
 flat_or u = go (process_of_entry u)
   where
     go : (o : Option ℕ) → (o ≡ None) ⊎ ((pid : ℕ) × (o ≡ Some pid))
@@ -73,11 +71,11 @@ unit_allowed A s u r h = elim (flat_or u) [
 ]
 
 on_below : (A : Inputs) (s : State) (m : Mark) (pid : ℕ) (now : Bool) → GoesOn A s m pid now → s.count < A.limit
-on_below A s (marks.Dispatch p count since) pid false g = lt_is s.count A.limit (both_true (nat_lt s.count A.limit) (nat_lt s.count (since + count)) (both_true (can_step s.point.flat pid) (nat_lt s.count A.limit && nat_lt s.count (since + count)) g.1).1).0
+on_below A s (marks.Dispatch p count since) pid false g = lt_is s.count A.limit (and_parts (nat_lt s.count A.limit) (nat_lt s.count (since + count)) (and_parts (can_step s.point.flat pid) (nat_lt s.count A.limit && nat_lt s.count (since + count)) g.1).1).0
   where
     lt_is : (a b : ℕ) → nat_lt a b ≡ true → a < b
     lt_is a b e = grind (arith, nat_tests)
-on_below A s (marks.Turn p since) pid true g = lt_is s.count A.limit (both_true (nat_lt s.count A.limit) (nat_lt s.count (since + turn_instructions)) (both_true (can_step s.point.flat pid) (nat_lt s.count A.limit && nat_lt s.count (since + turn_instructions)) g.1).1).0
+on_below A s (marks.Turn p since) pid true g = lt_is s.count A.limit (and_parts (nat_lt s.count A.limit) (nat_lt s.count (since + turn_instructions)) (and_parts (can_step s.point.flat pid) (nat_lt s.count A.limit && nat_lt s.count (since + turn_instructions)) g.1).1).0
   where
     lt_is : (a b : ℕ) → nat_lt a b ≡ true → a < b
     lt_is a b e = grind (arith, nat_tests)

@@ -1,5 +1,5 @@
 -- Bytes that a process writes, and the pages that they touch, leave what stands.
-use Rattle.std.proofs.Common.{◌≡◌, ◌≢◌, inl, inr, ℕ, ◌*◌, ◌==◌, Bool, true, false, List, [], ◌∷◌, length, map, Option, Some, None, refl, sym, ap, ◌∙◌, subst}
+use Rattle.std.proofs.Common.{◌≡◌, inl, inr, ℕ, ◌*◌, true, List, [], ◌∷◌, length, map, Option, Some, None, refl, sym, ap, ◌∙◌, subst}
 use Rattle.std.proofs.lemmas.Bool.{cases_eq}
 use Rattle.std.proofs.lemmas.List.{length-set}
 use Rattle.vm_facts.specs.Answers.{ByteWrite}
@@ -10,7 +10,7 @@ use Rattle.vm_facts.specs.declared.page.Page.TheVariants as pages
 use Rattle.swap_book.specs.Holdings.{Holdings}
 use Rattle.flat_state.specs.declared.spot.Spot.{Spot}
 use Rattle.flat_state.specs.declared.spot.Spot.TheVariants.{Text, Data, Stack, Below, Outside}
-use Rattle.flat_state.specs.Change.{replaced, replaced_by, with_process, wrote_by, wrote_if, apply_writes}
+use Rattle.flat_state.specs.Change.{replaced, with_process, wrote_by, wrote_if, apply_writes}
 use Rattle.page_model.specs.Pages.{numbered}
 use Rattle.page_model.specs.Placement.{Placement, Residence, space_number}
 use Rattle.page_model.specs.Moves.{touch, touch_all}
@@ -25,11 +25,11 @@ use Rattle.page_laws.proofs.Moves.Stays.{Steady}
 use Rattle.page_laws.proofs.Bytes.Others.{touch_steady}
 use Rattle.kernel_laws.proofs.Sound.NumbersApart.{write_numbered}
 use Rattle.page_laws.proofs.Due.Changes.{touch_due}
-use Rattle.kernel_laws.proofs.Flat.Numbered.{hit, miss, eq_is}
-use Rattle.page_laws.proofs.Lists.Local.{some_is}
+use Rattle.page_laws.proofs.Lists.Pages.{numbered_hit, numbered_miss}
+use Rattle.std.proofs.lemmas.Option.{same_Some}
 use Rattle.kernel_laws.proofs.Flat.Lists.{pid_of, sid_of, held, found_is, HeldAt, held_at, held_own, held_other, held_now}
 use Rattle.kernel_laws.proofs.Machine.Shapes.{Shaped, sizes_kept, fit_shaped, touch_shaped}
-use Rattle.kernel_laws.proofs.Machine.Swaps.{found_self}
+use Rattle.kernel_laws.proofs.Machine.Swaps.{found_self, replaced_outlines}
 use Rattle.kernel_laws.proofs.Machine.Tables.{tables_of, fit_bytes}
 use Rattle.run_laws.specs.Standing.{machine_of, EachOnce, Placed}
 use Rattle.run_laws.proofs.Bridge.{from_machine}
@@ -83,16 +83,6 @@ puts_same (w ∷ ws) s =
     let b : SameSpace (put s w) (puts (put s w) ws) = puts_same ws (put s w) in
     record { sid = b.sid ∙ a.sid; image = b.image ∙ a.image; text = b.text ∙ a.text; data_size = b.data_size ∙ a.data_size; stack_size = b.stack_size ∙ a.stack_size }
 
-replaced_outlines : (ps : List Process) (q p : Process) → numbered pid_of p.pid ps ≡ Some q → outline_of p ≡ outline_of q → map outline_of (replaced ps p) ≡ map outline_of ps
-unfolding replaced
-replaced_outlines [] q p e o = refl
-replaced_outlines (x ∷ ps) q p e o = go (x.pid == p.pid) refl e (replaced_outlines ps q p)
-  where
-    go : (b : Bool) → (x.pid == p.pid) ≡ b → Rattle.std.proofs.Common.cond b (Some x) (numbered pid_of p.pid ps) ≡ Some q → (numbered pid_of p.pid ps ≡ Some q → outline_of p ≡ outline_of q → map outline_of (replaced ps p) ≡ map outline_of ps)
-        → map outline_of (replaced_by b p x ps (replaced ps p)) ≡ map outline_of (x ∷ ps)
-    go true k h ih = ap (λ (y : Outline). y ∷ map outline_of ps) (o ∙ ap outline_of (sym (some_is x q h)))
-    go false k h ih = ap (λ (l : List Outline). outline_of x ∷ l) (ih h o)
-
 -- a process whose space has other bytes
 pub space_tables : (k : Kernel) (flat : FlatState) (q : Process) (s z : Space) → IsNumbered flat → numbered pid_of q.pid flat.processes ≡ Some q → q.holding ≡ Holds s → SameSpace s z → SameTables k flat
     → SameTables k (with_process flat (record q { holding = Holds z }))
@@ -111,10 +101,10 @@ space_tables k flat q s z nums f h same t = tables_of k (with_process flat fp) (
     fits : AllFit (with_process flat fp) k.place
     fits n = elim (cases_eq n s.sid) [
       | inl i ↦ subst (λ (m : ℕ). Fits (numbered sid_of m (held (replaced flat.processes fp))) (numbered space_number m k.place.spaces)) (sym i)
-          (subst (λ (o : Option Space). Fits o (numbered space_number s.sid k.place.spaces)) (sym (held_now flat.processes fp s here ∙ hit sid_of s.sid z [] same.sid))
+          (subst (λ (o : Option Space). Fits o (numbered space_number s.sid k.place.spaces)) (sym (held_now flat.processes fp s here ∙ numbered_hit sid_of s.sid z [] same.sid))
           (fit_bytes s z (numbered space_number s.sid k.place.spaces) same.image same.data_size same.stack_size
           (subst (λ (o : Option Space). Fits o (numbered space_number s.sid k.place.spaces)) (held_own flat.processes fp s here) (t.spaces s.sid))))
-      | inr d ↦ subst (λ (o : Option Space). Fits o (numbered space_number n k.place.spaces)) (sym (held_other flat.processes fp s n here d (miss sid_of n z [] (λ i. d (sym (sym same.sid ∙ i)))))) (t.spaces n)
+      | inr d ↦ subst (λ (o : Option Space). Fits o (numbered space_number n k.place.spaces)) (sym (held_other flat.processes fp s n here d (numbered_miss sid_of n z [] (λ i. d (sym (sym same.sid ∙ i)))))) (t.spaces n)
     ]
 
 -- who is out still holds a space
@@ -135,7 +125,7 @@ out_same_holders p flat after e o n h = holders (process_of flat n) (process_of 
     holders : (a b : Option Process) → holds_some a ≡ true → Rattle.kernel_laws.proofs.Flat.Numbered.image_by outline_of a ≡ Rattle.kernel_laws.proofs.Flat.Numbered.image_by outline_of b → holds_some b ≡ true
     holders None b z k = absurd cc
     holders (Some x) None z k = absurd cc
-    holders (Some x) (Some y) z k = holding x.holding y.holding (ap (λ (o : Outline). o.life) (some_is (outline_of x) (outline_of y) k)) z
+    holders (Some x) (Some y) z k = holding x.holding y.holding (ap (λ (o : Outline). o.life) (same_Some (outline_of x) (outline_of y) k)) z
 
 pub writes_placed : (A : Inputs) (flat : FlatState) (p : Placement) (hs : Holdings) (pid : ℕ) (ws : List ByteWrite) (q : Process) (s : Space) → IsNumbered flat → process_of flat pid ≡ Some q → q.holding ≡ Holds s → Placed A flat p hs → Placed A (apply_writes flat pid ws) p hs
 unfolding apply_writes

@@ -23,7 +23,7 @@ use Rattle.flat_state.specs.Numbers.{IsNumbered}
 use Rattle.kernel_model.specs.Stands.{Stands}
 use Rattle.page_laws.proofs.Lists.Pages.{page_cases, put_state}
 use Rattle.page_laws.proofs.Moves.Steps.{page_in, put_other_state}
-use Rattle.page_laws.proofs.Lists.Local.{some_is}
+use Rattle.std.proofs.lemmas.Option.{same_Some}
 use Rattle.page_laws.proofs.Moves.Stays.{Steady}
 use Rattle.page_laws.proofs.Bytes.Others.{touch_steady}
 use Rattle.kernel_laws.proofs.Flat.Lists.{pid_of}
@@ -162,7 +162,7 @@ replaced_self [] q e = refl
 replaced_self (p ∷ ps) q e = go (p.pid == q.pid) e (replaced_self ps q)
   where
     go : (b : Bool) → Rattle.std.proofs.Common.cond b (Some p) (numbered pid_of q.pid ps) ≡ Some q → (numbered pid_of q.pid ps ≡ Some q → replaced ps q ≡ ps) → replaced_by b q p ps (replaced ps q) ≡ p ∷ ps
-    go true k ih = ap (λ (x : Process). x ∷ ps) (sym (some_is p q k))
+    go true k ih = ap (λ (x : Process). x ∷ ps) (sym (same_Some p q k))
     go false k ih = ap (λ (l : List Process). p ∷ l) (ih k)
 
 pub no_writes : (flat : FlatState) (pid : ℕ) (q : Process) (s : Space) → process_of flat pid ≡ Some q → q.holding ≡ Holds s → apply_writes flat pid [] ≡ flat

@@ -14,7 +14,8 @@ use Rattle.swap_book.specs.Placing.{Wanted}
 use Rattle.flat_state.specs.declared.spot.Spot.{Spot}
 use Rattle.flat_state.specs.declared.spot.Spot.TheVariants as spots
 use Rattle.page_model.specs.Placement.{Placement, state_of}
-use Rattle.page_model.specs.Place.{is_borrower, facts_of}
+use Rattle.page_model.specs.Place.{facts_of}
+use Rattle.flat_state.specs.Change.{is_borrower}
 use Rattle.page_model.specs.Swapper.{is_out}
 use Rattle.kernel_model.specs.Kernel.{Kernel, Proc, plain_step, zero_step, copy_step, get_step, reclaim_step, push_step, done_step, write_step, note_step, out_step, in_step, image_after}
 use Rattle.kernel_model.specs.Sound.{Sound}

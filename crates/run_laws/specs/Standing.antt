@@ -111,11 +111,6 @@ TextsHeld images flat = EachProcess (λ q. HasText images q.holding) flat.proces
 
 -- What is so of a change.
 
--- an image that is entered is there, and its stack page is a page
-abbrev pub ExecFits : List NamedImage → Change → Type 0
-ExecFits images (Exec number top) = (named : NamedImage) × (image_numbered images number ≡ Some named) × (length top ≡ 1024)
-ExecFits images _ = Unit {0}
-
 -- a borrower neither enters an image nor ends
 abbrev pub Own : Bool → Change → Type 0
 Own true (Exec number top) = ⊥

@@ -1,7 +1,9 @@
 -- What a process does next is an entry of the flat machine's run.
-use Rattle.std.proofs.Common.{◌≡◌, ◌⊎◌, inl, inr, ℕ, ◌==◌, Bool, true, false, not, ◌&&◌, List, [], ◌∷◌, Option, Some, None, bytes_eq, refl, sym, ap, ◌∙◌, subst, arith, eq-eqb, if◌then◌else◌}
-use Rattle.std.proofs.lemmas.Bool.Decides.{nat_tests}
+use Rattle.std.proofs.Common.{◌≡◌, ◌⊎◌, inl, inr, ℕ, ◌==◌, Bool, true, false, not, ◌&&◌, List, [], ◌∷◌, Option, Some, None, bytes_eq, refl, sym, ap, ◌∙◌, subst, if◌then◌else◌}
 use Rattle.std.proofs.lemmas.Slice.Eq.{bytes_eq-Decides}
+use Rattle.std.proofs.lemmas.Bool.{eqb-true, and_from}
+use Rattle.std.proofs.lemmas.Option.{same_Some}
+use Rattle.vm_facts.proofs.Tests.{eq_self}
 use Rattle.flat_state.specs.Flat.{FlatState, Inputs, can_step}
 use Rattle.vm_facts.specs.declared.entry.Entry.{Entry}
 use Rattle.vm_facts.specs.declared.entry.Entry.TheVariants.{Ran, Out, Grew, Call, Refused, Sleeps, Ended, Done}
@@ -18,16 +20,6 @@ use Rattle.run_model.specs.Act.{must_refuse, must_settle, act_by, act_if, act, a
 use Rattle.run_model.proofs.FlatRuns.{after_point, flat_is}
 use Rattle.flat_model.proofs.StepEnds.{IsStepEnd, Shape, Empty, One, Two, step_shape, Outcome, Missed, Says, refused_outcome, writes_asks}
 
-self : (n : ℕ) → (n == n) ≡ true
-self n = eq-eqb n n refl
-
-both : (a b : Bool) → a ≡ true → b ≡ true → (a && b) ≡ true
-both true b h k = k
-both false b h k = absurd cc
-
-same_number : (p pid : ℕ) → (p == pid) ≡ true → p ≡ pid
-same_number p pid h = grind (arith, nat_tests)
-
 -- An entry is the same as itself.
 
 carry_self : (c : Bool) → same_carry c c ≡ true
@@ -38,14 +30,14 @@ bytes_self : (bytes : List ℕ) → bytes_eq bytes bytes ≡ true
 bytes_self bytes = (bytes_eq-Decides bytes bytes).1 refl
 
 end_self : (pid : ℕ) (e : Entry) → IsStepEnd pid e → same_entry e e ≡ true
-end_self pid (Ran p n) h = both (p == p) (n == n) (self p) (self n)
-end_self pid (Grew p n) h = both (p == p) (n == n) (self p) (self n)
+end_self pid (Ran p n) h = and_from (p == p) (n == n) (eq_self p) (eq_self n)
+end_self pid (Grew p n) h = and_from (p == p) (n == n) (eq_self p) (eq_self n)
 end_self pid (Call p n c r0 r1) h =
-    both (p == p) (n == n && (same_carry c c && (r0 == r0 && r1 == r1))) (self p)
-    (both (n == n) (same_carry c c && (r0 == r0 && r1 == r1)) (self n)
-    (both (same_carry c c) (r0 == r0 && r1 == r1) (carry_self c) (both (r0 == r0) (r1 == r1) (self r0) (self r1))))
-end_self pid (Sleeps p) h = self p
-end_self pid (Ended p n) h = both (p == p) (n == n) (self p) (self n)
+    and_from (p == p) (n == n && (same_carry c c && (r0 == r0 && r1 == r1))) (eq_self p)
+    (and_from (n == n) (same_carry c c && (r0 == r0 && r1 == r1)) (eq_self n)
+    (and_from (same_carry c c) (r0 == r0 && r1 == r1) (carry_self c) (and_from (r0 == r0) (r1 == r1) (eq_self r0) (eq_self r1))))
+end_self pid (Sleeps p) h = eq_self p
+end_self pid (Ended p n) h = and_from (p == p) (n == n) (eq_self p) (eq_self n)
 end_self pid _ h = absurd h
 
 -- The next entry of a step that may follow is an entry of the run.
@@ -82,7 +74,7 @@ out_led : (A : Inputs) (point : Point) (pid : ℕ) (bytes : List ℕ) → may_fo
 unfolding flat_entry
 out_led A point pid bytes m k =
     ap (λ (b : Bool). flat_entry_if b A point pid (Out pid bytes)) m
-    ∙ led A point (next_of_step A point pid) (Out pid bytes) (point_after A point pid) k (both (pid == pid) (bytes_eq bytes bytes) (self pid) (bytes_self bytes))
+    ∙ led A point (next_of_step A point pid) (Out pid bytes) (point_after A point pid) k (and_from (pid == pid) (bytes_eq bytes bytes) (eq_self pid) (bytes_self bytes))
 
 -- What is due of a step.
 
@@ -105,7 +97,7 @@ plain_ready A F last pid free = go (flat_step A F pid false).entries refl (step_
 refused_ready : (A : Inputs) (F : FlatState) (p pid : ℕ) → p ≡ pid → (asks A F p ≡ [] → ⊥) → Ready A F (Some (Refused p)) pid (due_at A (at F (Some (Refused p))) pid)
 refused_ready A F p pid same n =
     subst (λ (x : ℕ). Ready A F (Some (Refused p)) x (due_at A (at F (Some (Refused p))) x)) same
-    (subst (λ (b : Bool). Ready A F (Some (Refused p)) p (flat_step A F p b).entries) (sym (self p)) (go (flat_step A F p true).entries (refused_outcome A F p n)))
+    (subst (λ (b : Bool). Ready A F (Some (Refused p)) p (flat_step A F p b).entries) (sym (eq_self p)) (go (flat_step A F p true).entries (refused_outcome A F p n)))
   where
     go : (es : List Entry) → Outcome p es → Ready A F (Some (Refused p)) p es
     go es (Missed h) = Nothing h
@@ -127,13 +119,13 @@ out_ready A F p pid bytes rest same h =
   where
     go : (n : ℕ) × (c : Bool) × (r0 : ℕ) × (r1 : ℕ) × (rest ≡ Call p n c r0 r1 ∷ []) → Ready A F (Some (Out p bytes)) p (due_at A (at F (Some (Out p bytes))) p)
     go (n, c, r0, r1, k) =
-        Ends (Call p n c r0 r1) refl (self p)
-        (ap (λ (b : Bool). if b then behind_first (flat_step A F p false).entries else (flat_step A F p false).entries) (self p) ∙ ap behind_first h ∙ k)
+        Ends (Call p n c r0 r1) refl (eq_self p)
+        (ap (λ (b : Bool). if b then behind_first (flat_step A F p false).entries else (flat_step A F p false).entries) (eq_self p) ∙ ap behind_first h ∙ k)
 
 ready : (A : Inputs) (F : FlatState) (last : Option Entry) (pid : ℕ) → LastSays A F last → awaits last pid ≡ true → Ready A F last pid (due_at A (at F last) pid)
 ready A F None pid says w = plain_ready A F None pid (λ e. refl)
-ready A F (Some (Refused p)) pid says w = refused_ready A F p pid (same_number p pid w) says
-ready A F (Some (Out p bytes)) pid says w = out_ready A F p pid bytes says.0 (same_number p pid w) says.1
+ready A F (Some (Refused p)) pid says w = refused_ready A F p pid (eqb-true p pid w) says
+ready A F (Some (Out p bytes)) pid says w = out_ready A F p pid bytes says.0 (eqb-true p pid w) says.1
 ready A F (Some last) pid says w = plain_ready A F (Some last) pid (λ e. refl)
 
 -- Where an entry leads, and what the last entry then says.
@@ -196,7 +188,7 @@ may_refuse : (A : Inputs) (F : FlatState) (last : Option Entry) (pid : ℕ) → 
 may_refuse A F None pid says w r n = refl
 may_refuse A F (Some (Refused p)) pid says w r n = absurd (let bad : true ≡ false = sym w ∙ r in cc)
 may_refuse A F (Some (Out p bytes)) pid says w r n =
-    absurd (n (subst (λ (x : ℕ). asks A F x ≡ []) (same_number p pid w) (writes_asks A F p bytes says.0 says.1)))
+    absurd (n (subst (λ (x : ℕ). asks A F x ≡ []) (eqb-true p pid w) (writes_asks A F p bytes says.0 says.1)))
 may_refuse A F (Some last) pid says w r n = refl
 
 refused_leads : (A : Inputs) (F : FlatState) (last : Option Entry) (pid : ℕ) → can_step F pid ≡ true → may_follow last (Refused pid) ≡ true → (asks A F pid ≡ [] → ⊥) → Leads A (at F last) (Refused pid)
@@ -212,9 +204,6 @@ other_leads : (A : Inputs) (F : FlatState) (last : Option Entry) (u : Entry) →
 unfolding flat_entry
 other_leads A F last u h says = record { to = at F last; flat = ap (λ (o : Option ℕ). flat_entry_by A (at F last) o u) h; says = says }
 
-some_entry : (e u : Entry) → Some e ≡ Some u → e ≡ u
-some_entry e u h = cc
-
 act_leads : (A : Inputs) (s : State) (u : Entry) → LastSays A s.point.flat s.point.last → IsNext A s u → Leads A s.point u
 unfolding act
 act_leads A s u says n = can (can_step s.point.flat n.pid) refl n.next
@@ -224,9 +213,9 @@ act_leads A s u says n = can (can_step s.point.flat n.pid) refl n.next
         let parts : (is_refused s.point.last n.pid ≡ false) × (fits A.swap_blocks s.holdings (asks A s.point.flat n.pid) ≡ false)
         = refused_parts (is_refused s.point.last n.pid) (fits A.swap_blocks s.holdings (asks A s.point.flat n.pid)) e in
         let some : asks A s.point.flat n.pid ≡ [] → ⊥ = asks_some A s.holdings s.point.flat n.pid parts.1 in
-        subst (Leads A s.point) (some_entry (Refused n.pid) u h)
+        subst (Leads A s.point) (same_Some (Refused n.pid) u h)
         (refused_leads A s.point.flat s.point.last n.pid c (may_refuse A s.point.flat s.point.last n.pid says n.awaited parts.0 some) some)
-    by c false true e h = subst (Leads A s.point) (some_entry Done u h) (other_leads A s.point.flat s.point.last Done refl says)
+    by c false true e h = subst (Leads A s.point) (same_Some Done u h) (other_leads A s.point.flat s.point.last Done refl says)
     by c false false e h = step_leads A s.point.flat s.point.last n.pid u says n.awaited h
 
     can : (b : Bool) → can_step s.point.flat n.pid ≡ b → act_if b A s n.pid ≡ Some u → Leads A s.point u

@@ -62,7 +62,7 @@ state_count A hs j = let h = units_count A (start A hs) (units_of j) in let k = 
 
 -- Journals.
 
-after_journal : (A : Inputs) (s : State) (u : Entry) → (after A s u).journal ≡ append s.journal u
+pub after_journal : (A : Inputs) (s : State) (u : Entry) → (after A s u).journal ≡ append s.journal u
 unfolding after
 after_journal A s u = refl
 

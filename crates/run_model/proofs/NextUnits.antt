@@ -1,6 +1,6 @@
 -- The next unit is one of these.
-use Rattle.std.proofs.Common.{◌≡◌, ℕ, ◌+◌, ◌<◌, Bool, true, false, not, ◌&&◌, nat_lt, List, [], ◌∷◌, Option, Some, None, refl, sym, ◌∙◌, subst, arith}
-use Rattle.std.proofs.lemmas.Bool.Decides.{nat_tests}
+use Rattle.std.proofs.Common.{◌≡◌, ℕ, ◌+◌, Bool, true, false, not, ◌&&◌, nat_lt, List, [], ◌∷◌, Option, Some, None, refl, sym, ◌∙◌, subst}
+use Rattle.std.proofs.lemmas.Bool.{not-true, and_parts, ltb-true}
 use Rattle.vm_facts.specs.declared.page.Page.{Page}
 use Rattle.vm_facts.specs.declared.entry.Entry.{Entry}
 use Rattle.vm_facts.specs.declared.entry.Entry.TheVariants as entries
@@ -20,18 +20,6 @@ use Rattle.run_model.specs.Kinds.{GoesOn, Runs, Comes, Kind, Fills, Brings, Copi
 some_entry : (x y : Entry) → Some x ≡ Some y → y ≡ x
 some_entry x y e = cc
 
-pub both_true : (a b : Bool) → (a && b) ≡ true → (a ≡ true) × (b ≡ true)
-both_true true true e = (refl, refl)
-both_true true false e = absurd cc
-both_true false b e = absurd cc
-
-not_true : (a : Bool) → not a ≡ true → a ≡ false
-not_true true e = absurd cc
-not_true false e = refl
-
-more_than_none : (n : ℕ) → nat_lt 0 n ≡ true → 0 < n
-more_than_none n e = grind (arith, nat_tests)
-
 works : (A : Inputs) (s : State) (u : Entry) (pid : ℕ) (now : Bool) → Runs A s pid now → (o : Option Page) → wanted A s ≡ o → work_by A s pid now o ≡ Some u → Kind A s u
 works A s u pid now r None e h = Acts pid now r e h
 works A s u pid now r (Some q) e h = Serves pid now q r e h
@@ -43,8 +31,8 @@ of_mark A s u clear (marks.Dispatch pid count since) e h = go (goes_on A s pid (
   where
     go : (b : Bool) → (goes_on A s pid (since + count) && not (is_out s.place pid)) ≡ b → when b (work A s pid false) ≡ Some u → Kind A s u
     go true k h =
-        let b = both_true (goes_on A s pid (since + count)) (not (is_out s.place pid)) k in
-        let r : Runs A s pid false = record { clear = clear; on = subst (λ (x : Mark). GoesOn A s x pid false) (sym e) (refl, b.0); resident = not_true (is_out s.place pid) b.1 } in
+        let b = and_parts (goes_on A s pid (since + count)) (not (is_out s.place pid)) k in
+        let r : Runs A s pid false = record { clear = clear; on = subst (λ (x : Mark). GoesOn A s x pid false) (sym e) (refl, b.0); resident = not-true (is_out s.place pid) b.1 } in
         works A s u pid false r (wanted A s) refl h
     go false k h = absurd cc
 of_mark A s u clear marks.Interrupt e h = Interrupts clear e (some_entry entries.Done u h)
@@ -52,8 +40,8 @@ of_mark A s u clear (marks.Hands count) e h = go (nat_lt 0 count && wants_moves 
   where
     go : (b : Bool) → (nat_lt 0 count && wants_moves s.place) ≡ b → when b (Some (move_unit s.place (locked A s))) ≡ Some u → Kind A s u
     go true k h =
-        let b = both_true (nat_lt 0 count) (wants_moves s.place) k in
-        Moves count clear e (more_than_none count b.0) b.1 (some_entry (move_unit s.place (locked A s)) u h)
+        let b = and_parts (nat_lt 0 count) (wants_moves s.place) k in
+        Moves count clear e (ltb-true 0 count b.0) b.1 (some_entry (move_unit s.place (locked A s)) u h)
     go false k h = absurd cc
 of_mark A s u clear (marks.BringIn pid) e h = ComesIn pid clear (subst (λ (x : Mark). Comes A s x pid) (sym e) refl) (some_entry (entries.SwapIn pid) u h)
 of_mark A s u clear (marks.PutOut pid) e h = PutsOut pid clear e (some_entry (put_out_unit s.place pid (space_of_process (process_of s.point.flat pid))) u h)

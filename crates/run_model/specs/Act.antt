@@ -8,7 +8,7 @@ use Rattle.swap_book.specs.Placing.{fits}
 use Rattle.flat_state.specs.declared.change.Change.{Change}
 use Rattle.flat_state.specs.declared.change.Change.TheVariants as changes
 use Rattle.page_model.specs.Placement.{Placement}
-use Rattle.page_model.specs.Place.{is_borrower}
+use Rattle.flat_state.specs.Change.{is_borrower}
 use Rattle.page_model.specs.Swapper.{is_settled}
 use Rattle.flat_model.specs.Calls.{stack_pages_of}
 use Rattle.flat_model.specs.Step.{flat_step, data_pages_of}

@@ -4,7 +4,8 @@ use Rattle.flat_state.specs.Flat.{Holding, Holds, Lends, Zombie, Process, FlatSt
 use Rattle.vm_facts.specs.declared.entry.Entry.{Entry}
 use Rattle.swap_book.specs.Holdings.{Holdings}
 use Rattle.page_model.specs.Placement.{Placement, Starting, start_placement}
-use Rattle.page_model.specs.Place.{is_borrower, facts_of}
+use Rattle.page_model.specs.Place.{facts_of}
+use Rattle.flat_state.specs.Change.{is_borrower}
 use Rattle.page_model.specs.Swapper.{Runner}
 use Rattle.run_model.specs.declared.mark.Mark.{Mark}
 use Rattle.run_model.specs.declared.mark.Mark.TheVariants as marks

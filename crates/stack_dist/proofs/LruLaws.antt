@@ -4,24 +4,25 @@ use Rattle.std.specs.Prelude.{if◌then◌else◌}
 use Rattle.std.specs.Option.{option_map}
 use Rattle.std.proofs.lemmas.Bool.{cases_Bool, cases_lt, cases_eq, lt-ltb, le-ltb, cond-true, cond-false, eqb-true}
 use Rattle.std.proofs.lemmas.List.{take-take, take_more, length-take-le, take_all, length_push, length-set, get_or-set_same, get_or-set_other}
-use Rattle.stack_dist.specs.Lru.{holds, without, faults_from, lru_faults, distinct_pages}
+use Rattle.stack_dist.specs.Lru.{holds, faults_from, lru_faults, distinct_pages}
+use Rattle.vm_facts.specs.Lists.{without_first}
 use Rattle.stack_dist.specs.Tree.{total}
 use Rattle.stack_dist.proofs.TreeLaws.{total-take-le}
 use Rattle.stack_dist.specs.Recency.{stack, place_in, hits_within, counted}
 
 -- ---- the list of at most n pages is the top of the stack
 
-take_without : (page : ℕ) (pages : List ℕ) (m : ℕ) → take m (without page (take (suc m) pages)) ≡ take m (without page pages)
-unfolding without
+take_without : (page : ℕ) (pages : List ℕ) (m : ℕ) → take m (without_first page (take (suc m) pages)) ≡ take m (without_first page pages)
+unfolding without_first
 take_without page [] m = refl
 take_without page (q ∷ pages) zero = refl
 take_without page (q ∷ pages) (suc m) =
-    elim (eqb q page) as (λ b. take (suc m) ((if b then (take (suc m) pages) else (q ∷ without page (take (suc m) pages)))) ≡ take (suc m) ((if b then pages else (q ∷ without page pages)))) [
+    elim (eqb q page) as (λ b. take (suc m) ((if b then (take (suc m) pages) else (q ∷ without_first page (take (suc m) pages)))) ≡ take (suc m) ((if b then pages else (q ∷ without_first page pages)))) [
       | true ↦ take-take (suc m) (suc m) pages (omega arith)
       | false ↦ ap (λ (t : List ℕ). q ∷ t) (take_without page pages m)
     ]
 
-top_of_stack : (n page : ℕ) (pages : List ℕ) → take n (page ∷ without page (take n pages)) ≡ take n (page ∷ without page pages)
+top_of_stack : (n page : ℕ) (pages : List ℕ) → take n (page ∷ without_first page (take n pages)) ≡ take n (page ∷ without_first page pages)
 top_of_stack zero page pages = refl
 top_of_stack (suc m) page pages = ap (λ (t : List ℕ). page ∷ t) (take_without page pages m)
 
@@ -99,16 +100,16 @@ or_group true false z = refl
 or_group false true z = refl
 or_group false false z = refl
 
-holds-without : (page q : ℕ) (pages : List ℕ) → (eqb page q || holds (without page pages) q) ≡ (eqb page q || holds pages q)
-unfolding holds without
+holds-without : (page q : ℕ) (pages : List ℕ) → (eqb page q || holds (without_first page pages) q) ≡ (eqb page q || holds pages q)
+unfolding holds without_first
 holds-without page q [] = refl
 holds-without page q (x ∷ pages) = elim (cases_Bool (eqb x page)) [
   | inl same ↦
-      ap (λ (t : List ℕ). eqb page q || holds t q) (cond-true (eqb x page) pages (x ∷ without page pages) same) ∙
+      ap (λ (t : List ℕ). eqb page q || holds t q) (cond-true (eqb x page) pages (x ∷ without_first page pages) same) ∙
       sym (or_same (eqb page q) (eqb x q) (holds pages q) (ap (λ (k : ℕ). eqb k q) (sym (eqb-true x page same))))
   | inr other ↦
-      ap (λ (t : List ℕ). eqb page q || holds t q) (cond-false (eqb x page) pages (x ∷ without page pages) other) ∙
-      or_swap (eqb page q) (eqb x q) (holds (without page pages) q) ∙
+      ap (λ (t : List ℕ). eqb page q || holds t q) (cond-false (eqb x page) pages (x ∷ without_first page pages) other) ∙
+      or_swap (eqb page q) (eqb x q) (holds (without_first page pages) q) ∙
       ap (λ (t : Bool). eqb x q || t) (holds-without page q pages) ∙
       or_swap (eqb x q) (eqb page q) (holds pages q)
 ]
@@ -118,11 +119,11 @@ unfolding holds stack
 holds-stack [] q = refl
 holds-stack (page ∷ history) q = holds-without page q (stack history) ∙ ap (λ (t : Bool). eqb page q || t) (holds-stack history q)
 
-pub length-without : (page : ℕ) (pages : List ℕ) → length (without page pages) + (if holds pages page then 1 else 0) ≡ length pages
-unfolding holds without
+pub length-without : (page : ℕ) (pages : List ℕ) → length (without_first page pages) + (if holds pages page then 1 else 0) ≡ length pages
+unfolding holds without_first
 length-without page [] = refl
 length-without page (q ∷ pages) =
-    elim (eqb q page) as (λ b. length ((if b then pages else (q ∷ without page pages))) + (if b || holds pages page then 1 else 0) ≡ suc (length pages)) [
+    elim (eqb q page) as (λ b. length ((if b then pages else (q ∷ without_first page pages))) + (if b || holds pages page then 1 else 0) ≡ suc (length pages)) [
       | true ↦ omega arith
       | false ↦ let h = length-without page pages in omega arith
     ]
@@ -354,10 +355,10 @@ hit_counted n page history hits room so_far =
     at (Some k) below e = let b = below k refl in total-take-set n hits k (omega arith)
 
 -- and there are as many depths as pages on the stack
-pub depths_counted : (page : ℕ) (pages hits : List ℕ) → length hits ≡ length pages → length (counted hits (place_in page pages)) ≡ suc (length (without page pages))
+pub depths_counted : (page : ℕ) (pages hits : List ℕ) → length hits ≡ length pages → length (counted hits (place_in page pages)) ≡ suc (length (without_first page pages))
 depths_counted page pages hits same = at (place_in page pages) refl
   where
-    at : (o : Option ℕ) → place_in page pages ≡ o → length (counted hits o) ≡ suc (length (without page pages))
+    at : (o : Option ℕ) → place_in page pages ≡ o → length (counted hits o) ≡ suc (length (without_first page pages))
     at None e =
         let w = length-without page pages in
         let z = choose (holds pages page) false 1 0 (place_none page pages e) in

@@ -5,7 +5,7 @@ use Rattle.std.specs.Ordering.{is_eq, nat_cmp}
 use Rattle.std.specs.declared.cmp.Ordering.TheVariants.{Less, Equal, Greater}
 use Rattle.std.proofs.lemmas.Bool.{cases_Bool, cond-true, cond-false, eqb-false, cases_lt, lt-ltb, le-ltb, ne_eqb}
 use Rattle.std.proofs.lemmas.List.{get_or-set_other, get_or_default, length-set, take_all}
-use Rattle.stack_dist.specs.Lru.{without}
+use Rattle.vm_facts.specs.Lists.{without_first}
 use Rattle.stack_dist.specs.Tree.{total}
 use Rattle.stack_dist.specs.Recency.{stack, place_in, marks, unmarked, marks_before, padded, hits_within, counted}
 use Rattle.stack_dist.proofs.LruLaws.{place_here, place_later, place_below, page_at, suc_of, hit_counted, depths_counted, get-le-total, hits_within-le, after, after_more}
@@ -21,15 +21,15 @@ kept [] ms = []
 kept (page ∷ history) [] = []
 kept (page ∷ history) (m ∷ ms) = copies m page (kept history ms)
 
-without_here : (page q : ℕ) (pages : List ℕ) → eqb q page ≡ true → without page (q ∷ pages) ≡ pages
-unfolding without
-without_here page q pages e = cond-true (eqb q page) pages (q ∷ without page pages) e
+without_here : (page q : ℕ) (pages : List ℕ) → eqb q page ≡ true → without_first page (q ∷ pages) ≡ pages
+unfolding without_first
+without_here page q pages e = cond-true (eqb q page) pages (q ∷ without_first page pages) e
 
-without_later : (page q : ℕ) (pages : List ℕ) → eqb q page ≡ false → without page (q ∷ pages) ≡ q ∷ without page pages
-unfolding without
-without_later page q pages e = cond-false (eqb q page) pages (q ∷ without page pages) e
+without_later : (page q : ℕ) (pages : List ℕ) → eqb q page ≡ false → without_first page (q ∷ pages) ≡ q ∷ without_first page pages
+unfolding without_first
+without_later page q pages e = cond-false (eqb q page) pages (q ∷ without_first page pages) e
 
-without-copies : (m page q : ℕ) (pages : List ℕ) → eqb q page ≡ false → without page (copies m q pages) ≡ copies m q (without page pages)
+without-copies : (m page q : ℕ) (pages : List ℕ) → eqb q page ≡ false → without_first page (copies m q pages) ≡ copies m q (without_first page pages)
 unfolding copies
 without-copies zero page q pages e = refl
 without-copies (suc m) page q pages e =
@@ -58,10 +58,10 @@ unmarked-cons (Some k) m ms = refl
 zero_is : (k : ℕ) → Some 0 ≡ Some k → 0 ≡ k
 zero_is k e = cc
 
--- without its mark a page is off the stack
+-- without_first its mark a page is off the stack
 kept-unmarked : (page : ℕ) (history ms : List ℕ) → ((k : ℕ) → place_in page history ≡ Some k → get_or ms k 0 ≡ 1)
-    → kept history (unmarked (place_in page history) ms) ≡ without page (kept history ms)
-unfolding kept without copies
+    → kept history (unmarked (place_in page history) ms) ≡ without_first page (kept history ms)
+unfolding kept without_first copies
 kept-unmarked page [] ms one = refl
 kept-unmarked page (q ∷ history) [] one = none (place_in page (q ∷ history))
   where
@@ -81,9 +81,9 @@ kept-unmarked page (q ∷ history) (m ∷ ms) one = elim (cases_Bool (eqb q page
       sym (without-copies m page q (kept history ms) other)
 ]
   where
-    taken : eqb q page ≡ true → m ≡ 1 → copies 0 q (kept history ms) ≡ without page (copies m q (kept history ms))
+    taken : eqb q page ≡ true → m ≡ 1 → copies 0 q (kept history ms) ≡ without_first page (copies m q (kept history ms))
     taken same marked =
-        sym (without_here page q (kept history ms) same) ∙ ap (λ (n : ℕ). without page (copies n q (kept history ms))) (sym marked)
+        sym (without_here page q (kept history ms) same) ∙ ap (λ (n : ℕ). without_first page (copies n q (kept history ms))) (sym marked)
 
 -- the depth of a page is how many marks stand before its own
 place-kept : (page : ℕ) (history ms : List ℕ) (k : ℕ) → place_in page history ≡ Some k → get_or ms k 0 ≡ 1
@@ -164,7 +164,7 @@ kept-marks [] = refl
 kept-marks (page ∷ history) =
     ap (λ (t : List ℕ). page ∷ t)
     (kept-unmarked page history (marks history) (λ k e. marked_at history page k e) ∙
-    ap (λ (t : List ℕ). without page t) (kept-marks history))
+    ap (λ (t : List ℕ). without_first page t) (kept-marks history))
 
 -- the depth of a page on the stack, by the marks
 pub depth_by_marks : (page : ℕ) (history : List ℕ) → marks_before (place_in page history) (marks history) ≡ place_in page (stack history)
@@ -307,7 +307,7 @@ mark_there history last place page at tree hits f e =
       ap (λ (t : List ℕ). get_or t at 0) f.marked ∙ get_or-padded place (marks history) k.0 at k.2 ∙ marked_at history page k.0 k.1,
     )
 
--- the tree without the page's mark
+-- the tree without_first the page's mark
 without_mark : (history : List ℕ) (last : ℕ → Option ℕ) (place page : ℕ) (tree hits : List ℕ) → Follows history last place tree hits
     → unmarked (last page) tree ≡ padded place (unmarked (place_in page history) (marks history))
 without_mark history last place page tree hits f =

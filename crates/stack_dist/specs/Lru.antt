@@ -1,19 +1,15 @@
 -- Page faults under LRU: a list of pages, the latest referenced first.
 use Rattle.std.specs.Prelude.{ℕ, ◌+◌, Bool, false, ◌||◌, ◌==◌, if◌then◌else◌, List, [], ◌∷◌, take}
+use Rattle.vm_facts.specs.Lists.{without_first}
 
 -- the page is in the list
 unfoldable pub holds : List ℕ → ℕ → Bool
 holds [] page = false
 holds (q ∷ pages) page = (q == page) || holds pages page
 
--- the list with the page taken out
-unfoldable pub without : ℕ → List ℕ → List ℕ
-without page [] = []
-without page (q ∷ pages) = if q == page then pages else (q ∷ without page pages)
-
 -- the list of at most n pages after a reference: its page at the front, and what is past n cut
 abbrev pub referenced : ℕ → List ℕ → ℕ → List ℕ
-referenced n pages page = take n (page ∷ without page pages)
+referenced n pages page = take n (page ∷ without_first page pages)
 
 -- the faults of the references, where the list is this at first: a page that is not in the list is a fault
 unfoldable pub faults_from : ℕ → List ℕ → List ℕ → ℕ

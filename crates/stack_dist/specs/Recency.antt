@@ -1,13 +1,14 @@
 -- Pages by how recently they were referenced. A history is a list of references, the latest first.
 use Rattle.std.specs.Prelude.{ℕ, zero, suc, ◌+◌, ◌==◌, if◌then◌else◌, List, [], ◌∷◌, ◌++◌, take, slice_set, slice_index_or, Option, Some, None}
 use Rattle.std.specs.Option.{option_map}
-use Rattle.stack_dist.specs.Lru.{holds, without}
+use Rattle.stack_dist.specs.Lru.{holds}
+use Rattle.vm_facts.specs.Lists.{without_first}
 use Rattle.stack_dist.specs.Tree.{total}
 
 -- the pages of a history, the latest referenced first
 unfoldable pub stack : List ℕ → List ℕ
 stack [] = []
-stack (page ∷ history) = page ∷ without page (stack history)
+stack (page ∷ history) = page ∷ without_first page (stack history)
 
 -- the first place of a page in a list, where it is there
 unfoldable pub place_in : ℕ → List ℕ → Option ℕ

@@ -89,20 +89,3 @@ others_wanted owner other (g ∷ gs) (n ∷ ns) not_one e =
 
     rests : (v w : Wanted) (vs ws : List Wanted) → v ∷ vs ≡ w ∷ ws → vs ≡ ws
     rests v w vs ws e = cc
-
--- once all pieces are found, the owner holds what it held and the pieces beyond it
-pub lengths_found : (size : ℕ) (hs new : List Held) (owner : Owner) (blocks : ℕ) → place_all size hs (more_pieces hs owner blocks) ≡ Ok new
-    → lengths owner new ≡ lengths owner hs ++ drop (length (of_owner owner hs)) (pieces_of owner blocks)
-lengths_found size hs new owner blocks e =
-    let a = place_all_adds size hs new (more_pieces hs owner blocks) e in
-    ap (lengths owner) a.is ∙ lengths-append owner hs a.pieces ∙
-    ap (λ (ns : List ℕ). lengths owner hs ++ ns) (lengths_wanted owner a.pieces (drop (length (of_owner owner hs)) (pieces_of owner blocks)) a.wanted)
-
--- and every other owner holds the same pieces
-pub others_found : (size : ℕ) (hs new : List Held) (owner other : Owner) (blocks : ℕ) → same_owner owner other ≡ false
-    → place_all size hs (more_pieces hs owner blocks) ≡ Ok new → of_owner other new ≡ of_owner other hs
-others_found size hs new owner other blocks not_one e =
-    let a = place_all_adds size hs new (more_pieces hs owner blocks) e in
-    ap (of_owner other) a.is ∙ filter-append (λ (h : Held). same_owner h.owner other) hs a.pieces ∙
-    ap (λ (gs : List Held). of_owner other hs ++ gs) (others_wanted owner other a.pieces (drop (length (of_owner owner hs)) (pieces_of owner blocks)) not_one a.wanted) ∙
-    append-nil (of_owner other hs)

@@ -3,6 +3,7 @@ use Rattle.std.proofs.Common.{◌≡◌, ℕ, zero, suc, ◌+◌, ◌<◌, ◌�
 use Rattle.std.specs.Prelude.{filter, remove, slice_get, AllPairs}
 use Rattle.std.proofs.lemmas.Bool.{cases_Bool, cases_lt, le-leb, leb-true, lt-ltb, ltb-true, and_from, and_parts, or_cases, or_left, or_right, cond-true, cond-false, false≢true, false_from_ne_true}
 use Rattle.std.proofs.lemmas.List.Edits.{length-remove, get_or-remove_below, get_or-remove_above}
+use Rattle.std.proofs.lemmas.Option.{same_Some}
 use Rattle.swap_book.specs.declared.Owner.{Owner}
 use Rattle.swap_book.specs.declared.Owner.TheVariants.{Data}
 use Rattle.swap_book.specs.declared.Held.{Held}
@@ -106,9 +107,6 @@ pub record From {X : Type 0} (p : X → Bool) (xs : List X) (x : X) : Type 0 whe
   pub is : slice_get xs at ≡ Some x
   pub passes : p x ≡ true
 
-pub some_is : {X : Type 0} (x y : X) → Some x ≡ Some y → x ≡ y
-some_is x y e = cc
-
 -- the kept elements with a first one kept, or left out
 pub filter_kept : {X : Type 0} (p : X → Bool) (y : X) (ys : List X) → p y ≡ true → filter p (y ∷ ys) ≡ y ∷ filter p ys
 filter_kept p y ys e = cond-true (p y) (y ∷ filter p ys) (filter p ys) e
@@ -121,7 +119,7 @@ filter_from p [] i x e = cc
 filter_from {X} p (y ∷ ys) zero x e = elim (cases_Bool (p y)) [
   | inl kept ↦
       let f = subst (λ (zs : List X). slice_get zs 0 ≡ Some x) (filter_kept p y ys kept) e in
-      record { at = 0; is = f; passes = ap p (sym (some_is y x f)) ∙ kept }
+      record { at = 0; is = f; passes = ap p (sym (same_Some y x f)) ∙ kept }
   | inr left ↦
       let r = filter_from p ys 0 x (subst (λ (zs : List X). slice_get zs 0 ≡ Some x) (filter_left p y ys left) e) in
       record { at = suc r.at; is = r.is; passes = r.passes }

@@ -3,7 +3,7 @@ use Rattle.std.proofs.Common.{◌≡◌, ℕ, zero, suc, ◌-◌, ◌*◌, ◌/�
 use Rattle.std.specs.Prelude.{slice_get}
 use Rattle.std.proofs.lemmas.Bool.{cases_lt, eqb-true, eq-eqb, false≢true}
 use Rattle.std.proofs.lemmas.List.{take_all}
-use Rattle.std.proofs.lemmas.Option.{slice_get_within}
+use Rattle.std.proofs.lemmas.Option.{slice_get_within, same_Some}
 use Rattle.swap_dmap.specs.Chunks.{chunk, chunk_start, pieces, spot, last_piece, text_pieces, text_spot}
 use Rattle.swap_dmap.proofs.ChunkLaws.{chunk_even, chunk_least}
 use Rattle.swap_dmap.proofs.PieceLaws.{slice_get-pieces, take-pieces, pieces_none, spot_even, spot_within, spot_chunk, spot_same, slice_get-text_pieces_whole, slice_get-text_pieces_rest, length-text_pieces, text_pieces_whole, take-text_pieces, text_spot_same, text_spot_even}
@@ -69,9 +69,6 @@ pub record IsWhole (n : ℕ) : Type 0 where
 pub chunk_whole : (i : ℕ) → IsWhole (chunk i)
 chunk_whole i = record { some = let l = chunk_least i in omega arith; even = chunk_even i }
 
-some_is : (x y : ℕ) → Some x ≡ Some y → x ≡ y
-some_is x y e = cc
-
 -- a text is of whole pages
 abbrev pub WholePages : Owner → ℕ → Type 0
 WholePages (Data sid) blocks = Unit {0}
@@ -83,18 +80,18 @@ WholePages (Text image) blocks = blocks % 2 ≡ 0
 pub pieces_whole : (owner : Owner) (blocks i n : ℕ) → WholePages owner blocks → slice_get (pieces_of owner blocks) i ≡ Some n → IsWhole n
 unfolding last_piece
 pieces_whole (Data sid) blocks i n even found =
-    subst IsWhole (some_is (chunk i) n (sym (slice_get-pieces blocks i (slice_get_within (pieces blocks) i n found)) ∙ found)) (chunk_whole i)
+    subst IsWhole (same_Some (chunk i) n (sym (slice_get-pieces blocks i (slice_get_within (pieces blocks) i n found)) ∙ found)) (chunk_whole i)
 pieces_whole (Stack sid) blocks i n even found =
-    subst IsWhole (some_is (chunk i) n (sym (slice_get-pieces blocks i (slice_get_within (pieces blocks) i n found)) ∙ found)) (chunk_whole i)
+    subst IsWhole (same_Some (chunk i) n (sym (slice_get-pieces blocks i (slice_get_within (pieces blocks) i n found)) ∙ found)) (chunk_whole i)
 pieces_whole (U pid) blocks i n even found = u_whole blocks i found
   where
     u_whole : (blocks i : ℕ) → slice_get (u_pieces blocks) i ≡ Some n → IsWhole n
     u_whole zero i found = cc
-    u_whole (suc b) zero found = let e = some_is 2 n found in record { some = omega arith; even = omega arith }
+    u_whole (suc b) zero found = let e = same_Some 2 n found in record { some = omega arith; even = omega arith }
     u_whole (suc b) (suc i) found = cc
 pieces_whole (Text image) blocks i n even found = elim (cases_lt i (blocks / 1024)) [
   | inl whole ↦
-      let e = some_is 1024 n (sym (slice_get-text_pieces_whole blocks i whole) ∙ found) in
+      let e = same_Some 1024 n (sym (slice_get-text_pieces_whole blocks i whole) ∙ found) in
       record { some = omega arith; even = omega arith }
   | inr rest ↦
       last (blocks % 1024) (i - blocks / 1024) (omega arith)
@@ -104,7 +101,7 @@ pieces_whole (Text image) blocks i n even found = elim (cases_lt i (blocks / 102
   where
     last : (r k : ℕ) → r % 2 ≡ 0 → slice_get (last_piece r) k ≡ Some n → IsWhole n
     last zero k even found = cc
-    last (suc r) zero even found = let e = some_is (suc r) n found in record { some = omega arith; even = omega arith }
+    last (suc r) zero even found = let e = same_Some (suc r) n found in record { some = omega arith; even = omega arith }
     last (suc r) (suc k) even found = cc
 
 -- ---- places

@@ -2,14 +2,14 @@
 use Rattle.std.proofs.Common.{◌≡◌, ℕ, ◌+◌, ◌*◌, ◌%◌, ◌<◌, ◌≤◌, true, false, nat_lt, List, get_or, Option, Some, None, refl, sym, ap, ◌∙◌, subst, arith, inl, inr, ◌⊎◌}
 use Rattle.std.specs.Prelude.{slice_get, IsSome, option_map}
 use Rattle.std.proofs.lemmas.Bool.{cases_Bool, cases_order, lt-ltb, ltb-true, cond-true, cond-false, false≢true}
-use Rattle.std.proofs.lemmas.Option.{slice_get-map, slice_get_within, get_or_from_slice_get}
+use Rattle.std.proofs.lemmas.Option.{slice_get-map, slice_get_within, get_or_from_slice_get, same_Some}
 use Rattle.swap_book.specs.declared.Owner.{Owner}
 use Rattle.swap_book.specs.declared.Held.{Held}
 use Rattle.swap_book.specs.Owners.{same_owner, pieces_of, MayHold, spot_of}
 use Rattle.swap_book.specs.Holdings.{of_owner, lengths, block_at, block_in}
 use Rattle.swap_book.specs.Book.{IsPiece, IsApart, IsBook, IsPlace, ArePlacesApart}
 use Rattle.swap_book.proofs.OwnerLaws.{same_owner_gives, same_owner_itself, spot_of_even, spot_of_same, spot_fits}
-use Rattle.swap_book.proofs.HoldingLaws.{filter_from, filter_both, some_is}
+use Rattle.swap_book.proofs.HoldingLaws.{filter_from, filter_both}
 
 -- an owner's piece stands in the holdings
 pub record Own (size : ℕ) (hs : List Held) (owner : Owner) (h : Held) : Type 0 where
@@ -117,7 +117,7 @@ same_owner_apart size hs owner v w x y book p q =
     let h = own_piece size hs owner (spot_of owner w).0 q.piece book q.there in
     elim (cases_order (spot_of owner v).0 (spot_of owner w).0) [
       | inl same ↦
-          let one = some_is p.piece q.piece (sym p.there ∙ ap (slice_get (of_owner owner hs)) same ∙ q.there) in
+          let one = same_Some p.piece q.piece (sym p.there ∙ ap (slice_get (of_owner owner hs)) same ∙ q.there) in
           let start = ap (λ (k : Held). k.start) one in
           let i = p.is in
           let j = q.is in
@@ -146,7 +146,7 @@ other_owner_apart size hs a b v w x y book other p q =
     let h = own_piece size hs b (spot_of b w).0 q.piece book q.there in
     elim (cases_order g.at h.at) [
       | inl same ↦
-          let one = some_is p.piece q.piece (sym g.there ∙ ap (slice_get hs) same ∙ h.there) in
+          let one = same_Some p.piece q.piece (sym g.there ∙ ap (slice_get hs) same ∙ h.there) in
           let owner = sym (same_owner_gives p.piece.owner a g.owner_is) ∙ ap (λ (k : Held). k.owner) one ∙ same_owner_gives q.piece.owner b h.owner_is in
           absurd (false≢true (sym other ∙ ap (same_owner a) (sym owner) ∙ same_owner_itself a))
       | inr (inl below) ↦

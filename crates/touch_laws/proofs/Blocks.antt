@@ -1,7 +1,7 @@
 -- The pages of accesses that are near a few starts.
 use Rattle.std.proofs.Common.{◌≡◌, ℕ, ◌+◌, ◌-◌, ◌*◌, ◌/◌, ◌%◌, ◌^◌, ◌<◌, ◌≤◌, ltb, Bool, true, false, ◌||◌, List, [], ◌∷◌, length, filter_map, Option, Some, None, ◌⊎◌, inl, inr, refl, sym, ap, ◌∙◌, subst, arith, nat_lt}
 use Rattle.std.specs.List.{cons_option}
-use Rattle.std.proofs.lemmas.Bool.{cases_eq}
+use Rattle.std.proofs.lemmas.Bool.{cases_eq, lt-ltb}
 use Rattle.std.proofs.lemmas.Bool.Decides.{nat_tests}
 use Rattle.flat_state.specs.Space.{Space, spot_by, spot_at, stack_top, address_in}
 use Rattle.vm_facts.specs.declared.page.Page.{Page}
@@ -15,7 +15,8 @@ use Rattle.flat_model.specs.Touched.{page_read, page_tested, page_of_access, dis
 use Rattle.touch_laws.specs.Whole.{IsWhole}
 use Rattle.touch_laws.proofs.Near.{IsAt, IsNear}
 use Rattle.touch_laws.proofs.Cover.{address_of_access, AreNear}
-use Rattle.touch_laws.proofs.Distinct.{same_is, among_is, among_later, few_distinct}
+use Rattle.touch_laws.proofs.Distinct.{among_is, among_later, few_distinct}
+use Rattle.flat_state.proofs.PageNames.{same_page_is}
 
 -- the page of a block of 1,024 addresses, where it is of any
 abbrev page_by : Bool → Bool → Space → ℕ → Page
@@ -31,9 +32,6 @@ record IsBlock (s : Space) (x : ℕ) (q : Page) : Type 0 where
   pub low : x < 2 ^ 32
   pub page : q ≡ page_in s (x / 1024)
 
-below_is : (a b : ℕ) → a < b → nat_lt a b ≡ true
-below_is a b h = grind (arith, nat_tests)
-
 above_is : (a b : ℕ) → b ≤ a → nat_lt a b ≡ false
 above_is a b h = grind (arith, nat_tests)
 
@@ -45,7 +43,7 @@ text_block s x i w e =
     let within = spot.1 in
     let fits = w.fits in
     let whole = w.text in
-    let of_text : nat_lt (x / 1024) (length s.text_bytes / 1024) ≡ true = below_is _ _ (omega arith) in
+    let of_text : nat_lt (x / 1024) (length s.text_bytes / 1024) ≡ true = lt-ltb _ _ (omega arith) in
     record {
       low = omega arith;
       page = ap (λ (n : ℕ). pages.Text s.image (n / 1024)) (sym same)
@@ -62,7 +60,7 @@ data_block s x i w e =
     let whole = w.text in
     let whole_data = w.data in
     let of_text : nat_lt (x / 1024) (length s.text_bytes / 1024) ≡ false = above_is _ _ (omega arith) in
-    let of_data : nat_lt (x / 1024) ((length s.text_bytes + length s.data_bytes) / 1024) ≡ true = below_is _ _ (omega arith) in
+    let of_data : nat_lt (x / 1024) ((length s.text_bytes + length s.data_bytes) / 1024) ≡ true = lt-ltb _ _ (omega arith) in
     let number : i / 1024 ≡ x / 1024 - length s.text_bytes / 1024 = omega arith in
     record {
       low = omega arith;
@@ -167,7 +165,7 @@ all_among s starts [] q w h k = absurd cc
 all_among s starts (access ∷ list) q w h k = go (λ l. all_among s starts list q w h.1 l) (page_of_access s access) refl k
   where
     here : (r : Page) → page_of_access s access ≡ Some r → (is_among q (filter_map (page_of_access s) list) ≡ true → is_among q (pages_of s starts) ≡ true) → (b : Bool) → same_page q r ≡ b → (b || is_among q (filter_map (page_of_access s) list)) ≡ true → is_among q (pages_of s starts) ≡ true
-    here r e later true f l = near_among s starts (address_of_access access) q h.0 (subst (λ (p : Page). IsBlock s (address_of_access access) p) (sym (same_is q r f)) (access_block s access r w e))
+    here r e later true f l = near_among s starts (address_of_access access) q h.0 (subst (λ (p : Page). IsBlock s (address_of_access access) p) (sym (same_page_is q r f)) (access_block s access r w e))
     here r e later false f l = later l
 
     go : (is_among q (filter_map (page_of_access s) list) ≡ true → is_among q (pages_of s starts) ≡ true) → (o : Option Page) → page_of_access s access ≡ o → is_among q (cons_option o (filter_map (page_of_access s) list)) ≡ true → is_among q (pages_of s starts) ≡ true

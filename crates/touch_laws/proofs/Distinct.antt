@@ -1,36 +1,12 @@
 -- How many different pages there are in a list.
-use Rattle.std.proofs.Common.{◌≡◌, ℕ, suc, ◌≤◌, ◌==◌, Bool, true, false, not, cond, ◌&&◌, ◌||◌, List, [], ◌∷◌, length, filter, refl, sym, ap, ◌∙◌, arith, eq-eqb}
-use Rattle.std.proofs.lemmas.Bool.Decides.{nat_tests}
+use Rattle.std.proofs.Common.{◌≡◌, suc, ◌≤◌, Bool, true, false, not, cond, ◌||◌, List, [], ◌∷◌, length, filter, refl, sym, ap, ◌∙◌, arith}
+use Rattle.flat_state.proofs.PageNames.{same_page_self, same_page_is}
 use Rattle.vm_facts.specs.declared.page.Page.{Page}
-use Rattle.vm_facts.specs.declared.page.Page.TheVariants.{Data, Stack, Text}
 use Rattle.flat_state.specs.PageNames.{same_page, is_among}
 use Rattle.flat_model.specs.Touched.{distinct}
 
-number_is : (a b : ℕ) → (a == b) ≡ true → a ≡ b
-number_is a b h = grind (arith, nat_tests)
-
-both_so : (a b : Bool) → (a && b) ≡ true → (a ≡ true) × (b ≡ true)
-both_so true true h = (refl, refl)
-both_so true false h = absurd cc
-both_so false b h = absurd cc
-
-both : (a b : Bool) → a ≡ true → b ≡ true → (a && b) ≡ true
-both true b h k = k
-both false b h k = absurd cc
-
-pub same_self : (q : Page) → same_page q q ≡ true
-same_self (Data a v) = both (a == a) (v == v) (eq-eqb a a refl) (eq-eqb v v refl)
-same_self (Stack a v) = both (a == a) (v == v) (eq-eqb a a refl) (eq-eqb v v refl)
-same_self (Text a v) = both (a == a) (v == v) (eq-eqb a a refl) (eq-eqb v v refl)
-
-pub same_is : (q r : Page) → same_page q r ≡ true → q ≡ r
-same_is (Data a v) (Data b w) h = let p = both_so (a == b) (v == w) h in ap (λ (x : ℕ). Data x v) (number_is a b p.0) ∙ ap (λ (x : ℕ). Data b x) (number_is v w p.1)
-same_is (Stack a v) (Stack b w) h = let p = both_so (a == b) (v == w) h in ap (λ (x : ℕ). Stack x v) (number_is a b p.0) ∙ ap (λ (x : ℕ). Stack b x) (number_is v w p.1)
-same_is (Text a v) (Text b w) h = let p = both_so (a == b) (v == w) h in ap (λ (x : ℕ). Text x v) (number_is a b p.0) ∙ ap (λ (x : ℕ). Text b x) (number_is v w p.1)
-same_is _ _ h = absurd cc
-
 pub among_first : (q : Page) (xs : List Page) → is_among q (q ∷ xs) ≡ true
-among_first q xs = ap (λ (a : Bool). a || is_among q xs) (same_self q)
+among_first q xs = ap (λ (a : Bool). a || is_among q xs) (same_page_self q)
 
 pub among_later : (q r : Page) (xs : List Page) → is_among q xs ≡ true → is_among q (r ∷ xs) ≡ true
 among_later q r xs h = go (same_page q r)
@@ -52,7 +28,7 @@ filtered_among test q [] h = absurd cc
 filtered_among test q (x ∷ xs) h = go (λ k. filtered_among test q xs k) (test x) refl h
   where
     here : (is_among q (filter test xs) ≡ true → (is_among q xs ≡ true) × (test q ≡ true)) → test x ≡ true → (a : Bool) → same_page q x ≡ a → (a || is_among q (filter test xs)) ≡ true → (is_among q (x ∷ xs) ≡ true) × (test q ≡ true)
-    here later t true e k = (ap (λ (a : Bool). a || is_among q xs) e, ap test (same_is q x e) ∙ t)
+    here later t true e k = (ap (λ (a : Bool). a || is_among q xs) e, ap test (same_page_is q x e) ∙ t)
     here later t false e k = (among_later q x xs (later k).0, (later k).1)
 
     go : (is_among q (filter test xs) ≡ true → (is_among q xs ≡ true) × (test q ≡ true)) → (b : Bool) → test x ≡ b → is_among q (cond b (x ∷ filter test xs) (filter test xs)) ≡ true → (is_among q (x ∷ xs) ≡ true) × (test q ≡ true)
@@ -83,7 +59,7 @@ none_distinct : (xs : List Page) → NoneTwice (distinct xs)
 unfolding distinct
 none_distinct [] = tt
 none_distinct (x ∷ xs) = (
-  not_among x (but x (distinct xs)) (λ k. let other = (filtered_among (λ other. not (same_page x other)) x (distinct xs) k).1 in let self = ap not (same_self x) in absurd cc),
+  not_among x (but x (distinct xs)) (λ k. let other = (filtered_among (λ other. not (same_page x other)) x (distinct xs) k).1 in let self = ap not (same_page_self x) in absurd cc),
   none_filtered (λ other. not (same_page x other)) (distinct xs) (none_distinct xs),
 )
 
@@ -112,7 +88,7 @@ but_one q (x ∷ xs) h = go (but_one q xs h.1) (same_page q x) refl
   where
     go : length xs ≤ suc (length (but q xs)) → (a : Bool) → same_page q x ≡ a → suc (length xs) ≤ suc (length (cond (not a) (x ∷ but q xs) (but q xs)))
     go later true e =
-        let none : is_among q xs ≡ false = ap (λ (r : Page). is_among r xs) (same_is q x e) ∙ h.0 in
+        let none : is_among q xs ≡ false = ap (λ (r : Page). is_among r xs) (same_page_is q x e) ∙ h.0 in
         let n = but_absent q xs none in
         omega arith
     go later false e = omega (arith, later)
@@ -129,7 +105,7 @@ no_more (y ∷ ys) xs h k =
     go : (q : Page) → (a : Bool) → same_page q y ≡ a → is_among q (but y xs) ≡ true → (a || is_among q ys) ≡ true → is_among q ys ≡ true
     go q true e here l =
         let other = (filtered_among (λ other. not (same_page y other)) q xs here).1 in
-        let self = ap (λ (r : Page). not (same_page y r)) (same_is q y e) ∙ ap not (same_self y) in
+        let self = ap (λ (r : Page). not (same_page y r)) (same_page_is q y e) ∙ ap not (same_page_self y) in
         absurd cc
     go q false e here l = l
 

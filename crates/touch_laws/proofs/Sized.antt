@@ -1,8 +1,8 @@
 -- The spaces of each run have whole pages, and no more than may be.
-use Rattle.std.proofs.Common.{◌≡◌, ℕ, ◌+◌, ◌*◌, ◌≤◌, ◌==◌, ◌||◌, nat_lt, nat_le, min, Bool, true, false, not, cond, List, [], ◌∷◌, ◌++◌, length, map, filter, find, Option, Some, None, Result, Ok, Err, ℤ, refl, sym, ap, subst, arith}
-use Rattle.std.proofs.lemmas.Grind.{common_steps}
+use Rattle.std.proofs.Common.{◌≡◌, ℕ, ◌+◌, ◌≤◌, ◌==◌, ◌||◌, nat_lt, nat_le, min, Bool, true, false, not, cond, List, [], ◌∷◌, ◌++◌, length, map, filter, find, Option, Some, None, Result, Ok, Err, ℤ, refl, sym, ap, subst, arith}
 use Rattle.std.proofs.lemmas.List.{length-set}
 use Rattle.std.proofs.lemmas.Bool.Decides.{nat_tests}
+use Rattle.flat_state.proofs.SpaceLaws.{length-resized_bytes}
 use Rattle.vm_facts.specs.Answers.{Answers, ByteWrite}
 use Rattle.flat_state.specs.Space.{Space, address_in, answers_of, put_at, put, puts}
 use Rattle.flat_state.specs.Flat.{Holding, Holds, Lends, Zombie, Process, FlatState, NamedImage, Inputs, image_numbered, process_of, can_step, start_if, start_processes, start_state}
@@ -19,7 +19,7 @@ use Rattle.flat_state.specs.declared.spot.Spot.{Spot}
 use Rattle.flat_state.specs.declared.spot.Spot.TheVariants as spots
 use Rattle.flat_state.specs.declared.change.Change.{Change}
 use Rattle.flat_state.specs.declared.change.Change.TheVariants.{Keep, Resize, Fork, Lend, Exec, Reap, Sleep, End}
-use Rattle.flat_state.specs.Change.{replaced_by, replaced, with_process, resized_bytes, resized, lends_to, returned_by, returned, given_back, entered, is_zombie_child, without_parent, orphaned, awake, left, ended, changed, changed_by, changed_if, apply_change, wrote_by, wrote_if, apply_writes}
+use Rattle.flat_state.specs.Change.{replaced_by, replaced, with_process, resized, lends_to, returned_by, returned, given_back, entered, is_zombie_child, without_parent, orphaned, awake, left, ended, changed, changed_by, changed_if, apply_change, wrote_by, wrote_if, apply_writes}
 use Rattle.flat_state.specs.Journal.{units_of}
 use Rattle.flat_model.specs.declared.calls.Reply.{Reply}
 use Rattle.flat_model.specs.declared.calls.Reply.TheVariants as replies
@@ -94,12 +94,9 @@ puts_sized : (s : Space) (ws : List ByteWrite) → IsSized s → IsSized (puts s
 puts_sized s [] h = h
 puts_sized s (w ∷ ws) h = puts_sized (put s w) ws (put_at_sized s (address_in s w.address) w.byte h)
 
-resized_length : (pages : ℕ) (bytes : List ℕ) → length (resized_bytes pages bytes) ≡ 1024 * pages
-resized_length pages bytes = grind (arith, common_steps)
-
 resized_sized : (s : Space) (data_pages stack_pages : ℕ) → data_pages ≤ 4096 → IsSized s → IsSized (resized s data_pages stack_pages)
 resized_sized s data_pages stack_pages l h =
-    let n = resized_length data_pages s.data_bytes in
+    let n = length-resized_bytes data_pages s.data_bytes in
     record { text = h.text; text_fits = h.text_fits; «data» = omega arith; data_fits = omega arith }
 
 -- Changes.

@@ -1,6 +1,7 @@
 -- What is shown of a journal is the same run of the flat machine.
 use Rattle.std.proofs.Common.{◌≡◌, ℕ, zero, suc, ◌+◌, ◌==◌, ◌<◌, Bool, true, false, List, [], ◌∷◌, Option, Some, None, refl, sym, ap, ◌∙◌, arith}
 use Rattle.std.proofs.lemmas.Bool.Decides.{nat_tests}
+use Rattle.std.proofs.lemmas.Bool.{eqb-true}
 use Rattle.vm_facts.specs.declared.entry.Entry.{Entry}
 use Rattle.vm_facts.specs.declared.entry.Entry.TheVariants.{Event, Turn, Ran, Out, Grew, Call, Refused, Sleeps, Ended, Zero, Get, Copy, Reclaim, Hands, Put, Done, SwapOut, SwapIn, Owners}
 use Rattle.flat_state.specs.Flat.{Inputs}
@@ -10,9 +11,6 @@ use Rattle.run_text.specs.Text.{is_paging, unless, without_paging, join_ran, joi
 use Rattle.run_text.specs.Transcript.{IsWithin, AreWithin}
 use Rattle.transcript_laws.specs.Replayed.{entries_shown}
 
-same_number : (p q : ℕ) → (p == q) ≡ true → p ≡ q
-same_number p q e = grind (arith, nat_tests)
-
 -- Joined entries have the units and the count that they had.
 
 repeated_sum : (u : Entry) (m n : ℕ) (us : List Entry) → repeated u (m + n) us ≡ repeated u m (repeated u n us)
@@ -20,7 +18,7 @@ repeated_sum u zero n us = let e : 0 + n ≡ n = omega arith in ap (λ (k : ℕ)
 repeated_sum u (suc m) n us = let e : suc m + n ≡ suc (m + n) = omega arith in ap (λ (k : ℕ). repeated u k us) e ∙ ap (λ (x : List Entry). u ∷ x) (repeated_sum u m n us)
 
 ran_units : (b : Bool) (p m q n : ℕ) (es : List Entry) → (p == q) ≡ b → units_of (join_ran b p m q n es) ≡ repeated (Ran p 1) m (repeated (Ran q 1) n (units_of es))
-ran_units true p m q n es e = repeated_sum (Ran p 1) m n (units_of es) ∙ ap (λ (x : ℕ). repeated (Ran p 1) m (repeated (Ran x 1) n (units_of es))) (same_number p q e)
+ran_units true p m q n es e = repeated_sum (Ran p 1) m n (units_of es) ∙ ap (λ (x : ℕ). repeated (Ran p 1) m (repeated (Ran x 1) n (units_of es))) (eqb-true p q e)
 ran_units false p m q n es e = refl
 
 join_units : (e : Entry) (es : List Entry) → units_of (join e es) ≡ units_with e (units_of es)

@@ -1,26 +1,17 @@
 -- Lemmas on the slots of the ring.
 use Rattle.std.proofs.Common.{Bool, true, false, ◌||◌, ◌≡◌, ℕ, ◌+◌, ◌<◌, ◌≤◌, List, [], ◌∷◌, ◌++◌, Option, Some, None, length, refl, ap, ap₂, ◌∙◌, sym, subst, inl, inr, arith, set, drop, ◌-◌, slice_get, get_or-set_same, get_or-set_other, length-set}
-use Rattle.std.proofs.lemmas.Bool.{cases_eq, cases_lt, false≢true}
-use Rattle.std.proofs.lemmas.Grind.{common_steps}
+use Rattle.std.proofs.lemmas.Bool.{cases_eq, cases_lt, false≢true, or_left}
 use Rattle.std.proofs.lemmas.List.Folds.{list_any-append}
 use Rattle.std.specs.List.{list_any}
-use Rattle.std.proofs.lemmas.Option.{none-some}
+use Rattle.std.proofs.lemmas.Option.{none-some, same_Some}
 use Rattle.circular_buffer.specs.Buffer.{Buffer, buffer, keep_last}
 use Rattle.std.proofs.lemmas.Bool.Decides.{nat_tests}
 use Rattle.std.proofs.lemmas.List.{get_or_past, get_or_push, get_or_append_left, length_push}
 use Rattle.transfer_ring.specs.declared.transfer.Transfer.{Transfer}
 use Rattle.transfer_ring.specs.Sound.{HasSources}
-use Rattle.transfer_ring.specs.Slots.{slot_at, put_first, in_flight, times, listings, IsSoundSlot, IsKept}
-
-pub times-append : (n : ℕ) (xs ys : List ℕ) → times n (xs ++ ys) ≡ times n xs + times n ys
-times-append n [] ys = grind arith
-times-append n (x ∷ xs) ys = grind (arith, times-append n xs ys)
-
-pub times_head : (n : ℕ) (xs : List ℕ) → times n (n ∷ xs) ≡ 1 + times n xs
-times_head n xs = grind (arith, nat_tests)
-
-pub times_other : (n x : ℕ) (xs : List ℕ) → (x ≡ n → ⊥) → times n (x ∷ xs) ≡ times n xs
-times_other n x xs ne = grind (arith, nat_tests)
+use Rattle.transfer_ring.specs.Slots.{slot_at, put_first, in_flight, listings, IsSoundSlot, IsKept}
+use Rattle.vm_facts.proofs.Lists.{times-append, times_head, times_other}
+use Rattle.vm_facts.specs.Lists.{times}
 
 pub times_push_same : (n : ℕ) (xs : List ℕ) → times n (xs ++ n ∷ []) ≡ times n xs + 1
 times_push_same n xs = omega (arith, times-append n xs (n ∷ []), times_head n [])
@@ -166,10 +157,6 @@ kept_abandon slots rest spare slot k =
       ];
     }
 
-pub list_any-put_first : (test : Transfer → Bool) (held : Option Transfer) (xs : List Transfer) → list_any test (put_first held xs) ≡ (list_any test (put_first held []) || list_any test xs)
-list_any-put_first test None xs = refl
-list_any-put_first test (Some t) xs = grind (arith, common_steps)
-
 -- the transfers in some slots and then in others
 pub list_any-in_flight : (test : Transfer → Bool) (slots : List (Option Transfer)) (xs ys order : List ℕ) → xs ++ ys ≡ order → list_any test (in_flight slots order) ≡ (list_any test (in_flight slots xs) || list_any test (in_flight slots ys))
 list_any-in_flight test slots xs ys order e =
@@ -184,15 +171,6 @@ pub record IsFresh (n : ℕ) (slots : List (Option Transfer)) (spare : List ℕ)
   pub empty : (slot : ℕ) → slot_at slots slot ≡ None
   pub once : (slot : ℕ) → slot < n → times slot spare ≡ 1
   pub beyond : (slot : ℕ) → n ≤ slot → times slot spare ≡ 0
-
-pub fresh_none : (slots : List (Option Transfer)) (spare : List ℕ) → slots ≡ [] → spare ≡ [] → IsFresh 0 slots spare
-fresh_none slots spare no_slots no_spare = record {
-  slots_count = ap (λ (l : List (Option Transfer)). length l) no_slots;
-  spare_count = ap (λ (l : List ℕ). length l) no_spare;
-  empty = λ slot. subst (λ (l : List (Option Transfer)). slot_at l slot ≡ None) (sym no_slots) refl;
-  once = λ slot low. absurd (omega (arith, low));
-  beyond = λ slot high. subst (λ (l : List ℕ). times slot l ≡ 0) (sym no_spare) refl;
-}
 
 empty_push : (slots : List (Option Transfer)) (slot : ℕ) → slot_at slots slot ≡ None → slot_at (slots ++ None ∷ []) slot ≡ None
 empty_push slots slot e = elim (cases_lt slot (length slots)) [
@@ -215,32 +193,6 @@ fresh_more n slots slots' spare spare' f more_slots more_spare = record {
   beyond = λ slot high. subst (λ (l : List ℕ). times slot l ≡ 0) (sym more_spare)
       (omega (arith, times_push_other slot n spare (λ e. absurd (omega (arith, e, high))), f.beyond slot (omega (arith, high))));
 }
-
-sound_none : (held : Option Transfer) → held ≡ None → IsSoundSlot held
-sound_none None e = tt
-sound_none (Some t) e = absurd (none-some t (sym e))
-
-pub kept_fresh : (slots : List (Option Transfer)) (order spare : List ℕ) → order ≡ [] → IsFresh 16 slots spare → IsKept slots order spare
-kept_fresh slots order spare none f =
-    subst (λ (l : List ℕ). IsKept slots l spare) (sym none) record {
-      all = f.slots_count;
-      count = omega (arith, f.spare_count);
-      listed = λ slot. sym (ap listings (f.empty slot));
-      once = λ slot low. omega (arith, f.once slot low);
-      beyond = f.beyond;
-      sound = λ slot. sound_none (slot_at slots slot) (f.empty slot);
-    }
-
--- the last of some empty slots is taken off
-pub last_empty : (slots rest : List (Option Transfer)) (held : Option Transfer) → slots ≡ rest ++ held ∷ [] → ((slot : ℕ) → slot_at slots slot ≡ None) → held ≡ None
-last_empty slots rest held e empty =
-    sym (get_or_push rest held None (length rest) refl) ∙ subst (λ (l : List (Option Transfer)). slot_at l (length rest) ≡ None) e (empty (length rest))
-
-pub rest_empty : (slots rest : List (Option Transfer)) (held : Option Transfer) → slots ≡ rest ++ held ∷ [] → ((slot : ℕ) → slot_at slots slot ≡ None) → (slot : ℕ) → slot_at rest slot ≡ None
-rest_empty slots rest held e empty slot = elim (cases_lt slot (length rest)) [
-  | inl low ↦ sym (get_or_append_left rest (held ∷ []) None slot low) ∙ subst (λ (l : List (Option Transfer)). slot_at l slot ≡ None) e (empty slot)
-  | inr high ↦ get_or_past rest slot None (omega (arith, high))
-]
 
 pub no_items : (xs : List ℕ) → length xs ≡ 0 → xs ≡ []
 no_items [] h = refl
@@ -277,13 +229,10 @@ begin_view slots slots' order order' spare rest slot t k e now now_order =
     let free = begin_spare slots order spare rest slot k e in
     ap₂ in_flight now now_order ∙ put_behind slots slot t order free.below free.unlisted
 
-some_is : (a b : ℕ) → Some a ≡ Some b → a ≡ b
-some_is a b e = cc
-
 -- a list by its first item
 pub head_of : (xs : List ℕ) (x : ℕ) → Some x ≡ slice_get xs 0 → xs ≡ x ∷ drop 1 xs
 head_of [] x e = absurd (none-some x (sym e))
-head_of (y ∷ ys) x e = ap (λ (n : ℕ). n ∷ ys) (sym (some_is x y e))
+head_of (y ∷ ys) x e = ap (λ (n : ℕ). n ∷ ys) (sym (same_Some x y e))
 
 pub abandon_kept : (slots slots' : List (Option Transfer)) (order order' spare spare' : List ℕ) (slot : ℕ) → IsKept slots order spare → order ≡ slot ∷ order' → slots' ≡ set slots slot None → spare' ≡ spare ++ slot ∷ [] → IsKept slots' order' spare'
 abandon_kept slots slots' order order' spare spare' slot k e now now_spare =
@@ -296,17 +245,13 @@ abandon_view slots slots' order order' spare slot t k e now was =
     ∙ unlisted slots slot None order' old.unlisted
     ∙ sym (ap (λ (l : List ℕ). drop 1 (in_flight slots l)) e ∙ ap (λ (held : Option Transfer). drop 1 (put_first held (in_flight slots order'))) was)
 
-either_true : (a b : Bool) → a ≡ true → (a || b) ≡ true
-either_true true b e = refl
-either_true false b e = absurd (false≢true e)
-
 either_false : (a b : Bool) → a ≡ false → (a || b) ≡ b
 either_false true b e = absurd (false≢true (sym e))
 either_false false b e = refl
 
 -- what the first of two parts settles, and what the second does where the first doesn't
 pub first_part : (test : Transfer → Bool) (slots : List (Option Transfer)) (xs ys order : List ℕ) → xs ++ ys ≡ order → list_any test (in_flight slots xs) ≡ true → list_any test (in_flight slots order) ≡ true
-first_part test slots xs ys order e hit = list_any-in_flight test slots xs ys order e ∙ either_true (list_any test (in_flight slots xs)) (list_any test (in_flight slots ys)) hit
+first_part test slots xs ys order e hit = list_any-in_flight test slots xs ys order e ∙ or_left (list_any test (in_flight slots xs)) (list_any test (in_flight slots ys)) hit
 
 pub second_part : (test : Transfer → Bool) (slots : List (Option Transfer)) (xs ys order : List ℕ) → xs ++ ys ≡ order → list_any test (in_flight slots xs) ≡ false → list_any test (in_flight slots order) ≡ list_any test (in_flight slots ys)
 second_part test slots xs ys order e miss = list_any-in_flight test slots xs ys order e ∙ either_false (list_any test (in_flight slots xs)) (list_any test (in_flight slots ys)) miss

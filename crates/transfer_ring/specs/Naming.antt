@@ -1,8 +1,8 @@
 -- Which pages a transfer names.
-use Rattle.std.specs.Prelude.{ℕ, Bool, false, List, ◌==◌}
+use Rattle.std.specs.Prelude.{ℕ, Bool, List}
 use Rattle.std.specs.List.{list_any}
 use Rattle.vm_facts.specs.declared.page.Page.{Page}
-use Rattle.vm_facts.specs.declared.page.Page.TheVariants.{Data, Stack, Text}
+use Rattle.vm_facts.specs.Pages.{is_of_space, is_of_text}
 use Rattle.transfer_ring.specs.declared.transfer.Owner.{Owner}
 use Rattle.transfer_ring.specs.declared.transfer.Owner.TheVariants.{Space, Image}
 use Rattle.transfer_ring.specs.declared.transfer.Inbound.{Inbound}
@@ -10,21 +10,9 @@ use Rattle.transfer_ring.specs.declared.transfer.Outbound.{Outbound}
 use Rattle.transfer_ring.specs.declared.transfer.Transfer.{Transfer}
 use Rattle.transfer_ring.specs.declared.transfer.Transfer.TheVariants.{Read, Write}
 
--- a page in the data or the stack of this space
-abbrev pub is_of_space : ℕ → Page → Bool
-is_of_space space (Data sid v) = sid == space
-is_of_space space (Stack sid v) = sid == space
-is_of_space space (Text image v) = false
-
--- a page in the text of this image
-abbrev pub is_text_of : ℕ → Page → Bool
-is_text_of wanted (Data sid v) = false
-is_text_of wanted (Stack sid v) = false
-is_text_of wanted (Text image v) = image == wanted
-
 abbrev pub is_page_of : Owner → Page → Bool
 is_page_of (Space sid) page = is_of_space sid page
-is_page_of (Image image) page = is_text_of image page
+is_page_of (Image image) page = is_of_text image page
 
 abbrev pub reads_of : Owner → List Inbound → Bool
 reads_of owner parts = list_any (λ part. is_page_of owner part.page) parts

@@ -1,11 +1,8 @@
 -- The slots of the ring: where the transfers in flight stand.
-use Rattle.std.specs.Prelude.{◌≡◌, ℕ, ◌+◌, ◌<◌, ◌≤◌, List, [], ◌∷◌, ◌==◌, if◌then◌else◌, Option, Some, None, length, slice_index_or, ⊤}
+use Rattle.std.specs.Prelude.{◌≡◌, ℕ, ◌+◌, ◌<◌, ◌≤◌, List, [], ◌∷◌, Option, Some, None, length, slice_index_or, ⊤}
 use Rattle.transfer_ring.specs.declared.transfer.Transfer.{Transfer}
+use Rattle.vm_facts.specs.Lists.{times}
 use Rattle.transfer_ring.specs.Sound.{HasSources}
-
--- how many transfers there may be
-abbrev pub most_in_flight : ℕ
-most_in_flight = 16
 
 -- what stands in a slot; past the last one nothing does
 abbrev pub slot_at : List (Option Transfer) → ℕ → Option Transfer
@@ -20,11 +17,6 @@ put_first (Some transfer) rest = transfer ∷ rest
 abbrev pub in_flight : List (Option Transfer) → List ℕ → List Transfer
 in_flight slots [] = []
 in_flight slots (slot ∷ rest) = put_first (slot_at slots slot) (in_flight slots rest)
-
--- how often a number stands in a list
-abbrev pub times : ℕ → List ℕ → ℕ
-times n [] = 0
-times n (x ∷ xs) = (if x == n then 1 else 0) + times n xs
 
 -- how often a slot stands in the order
 abbrev pub listings : Option Transfer → ℕ

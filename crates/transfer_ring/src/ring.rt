@@ -2,6 +2,7 @@
 ghost use Rattle.std.specs.Prelude.{◌≡◌, ◌+◌, ◌<◌, ◌≤◌, ◌∷◌, ◌++◌, [], List, length, drop, slice_get, slice_set, IfOk, IfSome, IsNone, IsSome, Some, None, ◌↔◌};
 ghost use Rattle.std.specs.List.{list_any};
 ghost use Rattle.io_edge.specs.Calls.{KeepsSwap, ReadsPages};
+ghost use Rattle.vm_facts.specs.Swap.{most_in_flight};
 ghost use Rattle.transfer_ring.specs.Beginning.{Begins, IsRefused};
 ghost use Rattle.transfer_ring.specs.Ending.{EndsOldest, CountsPages, CountsReads, CountsWrites, Ends};
 ghost use Rattle.transfer_ring.specs.Naming.{names_page_of, names_space, names_text};
@@ -106,7 +107,7 @@ impl TransferRing {
     /// How many transfers are in flight.
     pub fn len(&self) -> u32
         ensures count { result ≡ length self.now }
-        ensures most { result ≤ 16 }
+        ensures most { result ≤ most_in_flight }
     {
         self.order.len() as u32
     }
@@ -115,7 +116,7 @@ impl TransferRing {
     fn begin(&mut self, t: Transfer) -> Begun
         requires { HasSources t }
         ensures begun { Begins self.old t self.new result }
-        ensures full { IsRefused result ↔ (length self.old ≡ 16) }
+        ensures full { IsRefused result ↔ (length self.old ≡ most_in_flight) }
     {
         let Some(slot) = self.spare.pop() else {
             return Begun::RingFull(t);
@@ -129,7 +130,7 @@ impl TransferRing {
     pub fn begin_read(&mut self, t: Transfer) -> Begun
         requires { IsRead t }
         ensures begun { Begins self.old t self.new result }
-        ensures full { IsRefused result ↔ (length self.old ≡ 16) }
+        ensures full { IsRefused result ↔ (length self.old ≡ most_in_flight) }
     {
         self.begin(t)
     }
@@ -138,7 +139,7 @@ impl TransferRing {
     pub fn begin_write(&mut self, t: Transfer) -> Begun
         requires { IsWrite t }
         ensures begun { Begins self.old t self.new result }
-        ensures full { IsRefused result ↔ (length self.old ≡ 16) }
+        ensures full { IsRefused result ↔ (length self.old ≡ most_in_flight) }
     {
         self.begin(t)
     }

@@ -1,6 +1,7 @@
 //! A transfer, its parts, and what the ring answers.
 ghost use Rattle.std.specs.Prelude.{◌≡◌};
-ghost use Rattle.transfer_ring.specs.Naming.{is_of_space, is_text_of, is_page_of, reads_of, writes_of, names_page_of};
+ghost use Rattle.vm_facts.specs.Pages.{is_of_space, is_of_text};
+ghost use Rattle.transfer_ring.specs.Naming.{is_page_of, reads_of, writes_of, names_page_of};
 
 use frame_state::{Cleaning, Filling};
 use vm_facts::Page;
@@ -75,8 +76,8 @@ fn is_of_space(page: Page, space: u32) -> bool
 }
 
 // Whether the page is in the text of this image.
-fn is_text_of(page: Page, wanted: u32) -> bool
-    ensures { result ≡ is_text_of wanted page }
+fn is_of_text(page: Page, wanted: u32) -> bool
+    ensures { result ≡ is_of_text wanted page }
 {
     match page {
         Page::Text { image, .. } => image == wanted,
@@ -90,7 +91,7 @@ fn is_page_of(page: Page, owner: Owner) -> bool
 {
     match owner {
         Owner::Space(space) => is_of_space(page, space),
-        Owner::Image(wanted) => is_text_of(page, wanted),
+        Owner::Image(wanted) => is_of_text(page, wanted),
     }
 }
 

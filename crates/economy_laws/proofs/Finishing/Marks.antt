@@ -1,6 +1,5 @@
 -- Marks under which no process runs: an interrupt, moves of the hands, a process that comes in or is put out, and an audit.
 use Rattle.std.proofs.Common.{◌≡◌, ◌⊎◌, inl, inr, ℕ, zero, suc, ◌+◌, ◌-◌, ◌<◌, ◌≤◌, ◌&&◌, nat_lt, Bool, true, false, List, [], length, Option, Some, None, refl, sym, ap, ◌∙◌, subst, arith}
-use Rattle.std.proofs.lemmas.Bool.Decides.{nat_tests}
 use Rattle.vm_facts.specs.declared.entry.Entry.{Entry}
 use Rattle.vm_facts.specs.declared.entry.Entry.TheVariants as entries
 use Rattle.flat_state.specs.Flat.{Inputs, process_of}
@@ -19,7 +18,7 @@ use Rattle.run_model.specs.State.{State}
 use Rattle.run_model.specs.Wanted.{locked}
 use Rattle.run_model.specs.After.{completed, moved_on, brought_in, put_out, audited, after}
 use Rattle.run_model.specs.Next.{when, or_else, due_unit, begins_write, move_by, move_unit, owners_entry, under, next_mark, next_unit}
-use Rattle.run_model.proofs.NextUnits.{both_true}
+use Rattle.std.proofs.lemmas.Bool.{and_parts, ltb-true}
 use Rattle.run_laws.specs.Standing.{MarkStands}
 use Rattle.run_laws.specs.Running.{IsRun}
 use Rattle.run_laws.proofs.Flows.{plain_point}
@@ -65,9 +64,6 @@ notes_mark A s = refl
 
 -- Moves of the hands: with each move one fewer is left, and with each transfer that ends one fewer is in flight.
 
-positive : (n : ℕ) → nat_lt 0 n ≡ true → 0 < n
-positive n e = grind (arith, nat_tests)
-
 move_ends : (n : ℕ) (A : Inputs) (P : State → Type 0) (count : ℕ) (s : State) → Stage A P → (0 < count → (t : State) → P t → t.mark ≡ marks.Hands (count - 1) → Finishes A t)
     → P s → s.mark ≡ marks.Hands count → length s.place.transfers < n → Finishes A s
 move_ends zero A P count s g fewer p mk lt = absurd (omega arith)
@@ -83,7 +79,7 @@ move_ends (suc n) A P count s g fewer p mk lt = go (λ t. move_ends n A P count 
         → (b : Bool) → (begins_write s.place (locked A s) && is_full s.place) ≡ b → next_unit A s ≡ Some (move_by b) → Finishes A s
     moves more some true e h = finish_known A P s entries.Done g p h (λ b p2.
         let pl : (after A s entries.Done).place ≡ done s.place = plain_place A s entries.Done refl in
-        let full = full_some s.place (both_true (begins_write s.place (locked A s)) (is_full s.place) e).1 in
+        let full = full_some s.place (and_parts (begins_write s.place (locked A s)) (is_full s.place) e).1 in
         let less = done_less s.place (λ z. absurd (let y = ap length z in omega arith)) in
         let t = ap (λ (x : Placement). length x.transfers) pl in
         more (after A s entries.Done) p2 (done_mark A s ∙ ap completed mk) (omega arith))
@@ -91,7 +87,7 @@ move_ends (suc n) A P count s g fewer p mk lt = go (λ t. move_ends n A P count 
 
     go : ((t : State) → P t → t.mark ≡ marks.Hands count → length t.place.transfers < n → Finishes A t) → (b : Bool) → (nat_lt 0 count && wants_moves s.place) ≡ b → Finishes A s
     go more false e = spent_ends A P s g p d (ap (under A s) mk ∙ ap (λ (b : Bool). when b (Some (move_unit s.place (locked A s)))) e)
-    go more true e = moves more (positive count (both_true (nat_lt 0 count) (wants_moves s.place) e).0) (begins_write s.place (locked A s) && is_full s.place) refl
+    go more true e = moves more (ltb-true 0 count (and_parts (nat_lt 0 count) (wants_moves s.place) e).0) (begins_write s.place (locked A s) && is_full s.place) refl
         (under_next A s (Some (move_unit s.place (locked A s))) d (ap (under A s) mk ∙ ap (λ (b : Bool). when b (Some (move_unit s.place (locked A s)))) e))
 
 hands_end : (n : ℕ) (A : Inputs) (P : State → Type 0) (count : ℕ) (s : State) → Stage A P → P s → s.mark ≡ marks.Hands count → count ≤ n → Finishes A s

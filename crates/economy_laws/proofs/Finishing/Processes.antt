@@ -40,7 +40,8 @@ use Rattle.economy_laws.specs.Stretch.{Grown}
 use Rattle.economy_laws.specs.Finishes.{Finishes}
 use Rattle.economy_laws.proofs.Growing.{all_grown}
 use Rattle.economy_laws.proofs.Growth.{growth_touches}
-use Rattle.economy_laws.proofs.Left.{serve_due_same, after_served, stays_in, wanted_on, locked_on, split_there, split_longer, before_short, is_closed}
+use Rattle.economy_laws.proofs.Left.{serve_due_same, after_served, stays_in, wanted_on, locked_on, split_there, split_longer, is_closed}
+use Rattle.run_laws.proofs.LockedRoom.{before_few}
 use Rattle.economy_laws.proofs.Serving.{done_less}
 use Rattle.economy_laws.proofs.Sleeping.{sleep_stops}
 use Rattle.economy_laws.proofs.Stretching.{Slept, open_last, resident_out}
@@ -319,7 +320,7 @@ act_ends (suc n) A P pid most s g on p i w m lt = finish_on A P s g p (λ u h b 
 
 pages_end : (y : ℕ) (A : Inputs) (P : State → Type 0) (pid most : ℕ) (s : State) → Stage A P → ((t : State) → P t → Inside A t pid → most + 1 ≤ length (touched A t.point.flat pid) → Finishes A t)
     → P s → Inside A s pid → most ≤ length (touched A s.point.flat pid) → 32 ≤ length (before_absent s.place (touched A s.point.flat pid)) + y → Finishes A s
-pages_end zero A P pid most s g on p i m l = absurd (let a = before_short s.place (touched A s.point.flat pid) in let b = run_few A s pid (g.run s p) in omega arith)
+pages_end zero A P pid most s g on p i m l = absurd (let a = before_few s.place (touched A s.point.flat pid) in let b = run_few A s pid (g.run s p) in omega arith)
 pages_end (suc y) A P pid most s g on p i m l = go (λ t. pages_end y A P pid most t g on) (wanted A s) refl
   where
     go : ((t : State) → P t → Inside A t pid → most ≤ length (touched A t.point.flat pid) → 32 ≤ length (before_absent t.place (touched A t.point.flat pid)) + y → Finishes A t) → (o : Option Page) → wanted A s ≡ o → Finishes A s

@@ -1,7 +1,8 @@
 -- A whole run: a counted instruction leaves fewer to count, a line fewer lines, and a turn in which none is counted fewer
 -- such turns.
-use Rattle.std.proofs.Common.{◌≡◌, ◌⊎◌, inl, inr, ℕ, zero, suc, ◌+◌, ◌-◌, ◌<◌, ◌≤◌, nat_lt, Bool, true, false, List, [], ◌∷◌, length, Option, Some, None, Result, Ok, refl, sym, ap, ◌∙◌, subst, arith}
-use Rattle.std.proofs.lemmas.Bool.Decides.{nat_tests}
+use Rattle.std.proofs.Common.{◌≡◌, ◌⊎◌, inl, inr, ℕ, zero, suc, ◌+◌, ◌-◌, ◌<◌, ◌≤◌, nat_lt, Bool, true, false, List, [], ◌∷◌, length, Option, Some, None, refl, sym, ap, ◌∙◌, subst, arith}
+use Rattle.std.proofs.lemmas.Bool.{ltb-true, ltb-false}
+use Rattle.run_laws.proofs.Acts.{ok_same}
 use Rattle.vm_facts.specs.declared.entry.Entry.{Entry}
 use Rattle.vm_facts.specs.declared.entry.Entry.TheVariants as entries
 use Rattle.swap_book.specs.Holdings.{Holdings}
@@ -79,12 +80,6 @@ mark_next A s u h m = go (kind_of A s u h)
     go (Notes e k i) = other _ i (λ z. z)
     go (Begins e k i) = i
 
-less_is : (a b : ℕ) → nat_lt a b ≡ true → a < b
-less_is a b e = grind (arith, nat_tests)
-
-past_is : (a b : ℕ) → nat_lt a b ≡ false → b ≤ a
-past_is a b e = grind (arith, nat_tests)
-
 -- a line comes while there are some, and a turn behind them
 mark_lines : (A : Inputs) (s : State) (u : Entry) → next_mark A s ≡ Some u → ((s.lines < length A.lines) × (turns u ≡ 0)) ⊎ ((length A.lines ≤ s.lines) × (turns u ≡ 1))
 mark_lines A s u h = go (nat_lt s.count A.limit) (nat_lt s.lines (length A.lines)) refl h
@@ -98,8 +93,8 @@ mark_lines A s u h = go (nat_lt s.count A.limit) (nat_lt s.lines (length A.lines
 
     go : (a b : Bool) → nat_lt s.lines (length A.lines) ≡ b → when a (line_or_turn s b) ≡ Some u → ((s.lines < length A.lines) × (turns u ≡ 0)) ⊎ ((length A.lines ≤ s.lines) × (turns u ≡ 1))
     go false b k e = absurd cc
-    go true true k e = inl (less_is s.lines (length A.lines) k, ap turns (some (entries.Event (s.lines + 1)) e))
-    go true false k e = inr (past_is s.lines (length A.lines) k, turn (next_turned s.point.flat (last_turned s.mark)) e)
+    go true true k e = inl (ltb-true s.lines (length A.lines) k, ap turns (some (entries.Event (s.lines + 1)) e))
+    go true false k e = inr (ltb-false s.lines (length A.lines) k, turn (next_turned s.point.flat (last_turned s.mark)) e)
 
 -- a unit counts an instruction, or is a mark, or is neither and takes no line
 data Bounds (A : Inputs) (s : State) (u : Entry) : Type 0 where
@@ -257,14 +252,11 @@ run_bounded A hs c frames = let k : Finishes A (start A hs) = start_ends A hs c 
 followed_same : (A : Inputs) (s t r : State) (us vs : List Entry) → Follows A s us t → next_unit A t ≡ None → Follows A s vs r → next_unit A r ≡ None → (us ≡ vs) × (t ≡ r)
 followed_same A s t r us vs f n g m = followed_once A s t r us vs f g (let a = no_more A s t r us vs f n g in let b = no_more A s r t vs us g m f in omega arith)
 
-held_same : (a b : Holdings) → (let x : Result Holdings ℕ = Ok a in x) ≡ Ok b → a ≡ b
-held_same a b e = cc
-
 pub finished_once : (A : Inputs) (journal other : List Entry) (s t : State) → IsFinished A journal s → IsFinished A other t → (journal ≡ other) × (s ≡ t)
 finished_once A journal other s t f g =
     let l : IsLawful A journal s = f.lawful in
     let m : IsLawful A other t = g.lawful in
     let x : Reaches A journal s = l.reaches in
     let y : Reaches A other t = m.reaches in
-    let k = followed_same A (start A x.holdings) s t x.units y.units x.follows f.none (subst (λ (hs : Holdings). Follows A (start A hs) y.units t) (held_same y.holdings x.holdings (sym y.found ∙ x.found)) y.follows) g.none in
+    let k = followed_same A (start A x.holdings) s t x.units y.units x.follows f.none (subst (λ (hs : Holdings). Follows A (start A hs) y.units t) (ok_same y.holdings x.holdings (sym y.found ∙ x.found)) y.follows) g.none in
     (sym x.joined ∙ ap (appended []) k.0 ∙ y.joined, k.1)

@@ -1,4 +1,5 @@
-use Rattle.flat_laws.proofs.Numbers.{start_numbered, step_numbered, run_numbered}
+use Rattle.flat_laws.proofs.Numbers.{step_numbered, run_numbered}
+use Rattle.kernel_laws.proofs.Stands.Starts.{start_numbered}
 use Rattle.flat_laws.proofs.numbers_are_kept.Goals as goal
 
 pub returns-clause-start : goal.returns-clause-start

@@ -1,26 +1,28 @@
 -- A space that was lent stays with the child that it was lent to, or with one further on, through the flat machine's
 -- changes, and no child has two lenders.
 use Rattle.std.proofs.Common.{◌≡◌, ◌≢◌, ◌⊎◌, inl, inr, ℕ, ◌==◌, ◌||◌, ◌&&◌, Bool, true, false, cond, not, List, [], ◌∷◌, ◌++◌, map, filter, Option, Some, None, refl, sym, ap, ◌∙◌, subst}
-use Rattle.std.proofs.lemmas.Bool.{cases_eq, cases_Bool}
+use Rattle.std.proofs.lemmas.Bool.{cases_eq, cases_Bool, eqb-true, ne_eqb}
 use Rattle.vm_facts.specs.Answers.{ByteWrite}
 use Rattle.flat_state.specs.Space.{Space, puts}
 use Rattle.flat_state.specs.Flat.{Holding, Holds, Lends, Zombie, Process, FlatState, NamedImage, process_of, image_numbered, space_with}
 use Rattle.vm_facts.specs.declared.regs.Regs.{Regs}
 use Rattle.flat_state.specs.declared.change.Change.{Change}
 use Rattle.flat_state.specs.declared.change.Change.TheVariants.{Keep, Resize, Fork, Lend, Exec, Reap, Sleep, End}
-use Rattle.flat_state.specs.Change.{replaced, replaced_by, returned, returned_by, lends_to, child_of, with_process, without_process, resized, is_zombie, is_zombie_child, without_parent, orphaned, awake, entered, forked, lent, given_back, changed, apply_change, apply_writes, wrote_by, wrote_if, NamesChild}
-use Rattle.page_model.specs.Place.{is_borrower}
+use Rattle.flat_state.specs.Change.{replaced, replaced_by, returned, returned_by, lends_to, child_of, with_process, without_process, resized, is_zombie, is_zombie_child, without_parent, orphaned, awake, entered, forked, lent, given_back, changed, apply_change, apply_writes, wrote_by, wrote_if, NamesChild, is_borrower}
 use Rattle.page_model.specs.Pages.{numbered}
 use Rattle.flat_state.specs.Numbers.{IsAbsent, AllDistinct, IsNumbered}
 use Rattle.flat_state.specs.Lenders.{HasOrLent, IsWith, LendsStand, IsLender}
-use Rattle.page_laws.proofs.Lists.Pages.{mapped}
-use Rattle.page_laws.proofs.Lists.Local.{none_some, some_is}
-use Rattle.kernel_laws.proofs.Flat.Numbered.{eq_is, eq_self, not_eq, hit, miss, has_number, absent_none, numbered_map, numbered_filter, only_if, removed_not, pushed_new, pushed_old, pushed_found}
+use Rattle.page_laws.proofs.Lists.Pages.{mapped, numbered_hit, numbered_miss}
+use Rattle.page_laws.proofs.Lists.Local.{none_some}
+use Rattle.std.proofs.lemmas.Option.{same_Some}
+use Rattle.std.proofs.Math.Bool.{and-false}
+use Rattle.kernel_laws.proofs.Flat.Numbered.{has_number, absent_none, numbered_map, numbered_filter, only_if, removed_not, pushed_new, pushed_old, pushed_found}
+use Rattle.vm_facts.proofs.Tests.{eq_self}
 use Rattle.kernel_laws.proofs.Flat.Lists.{pid_of, found_is, replaced_at, replaced_not, replaced_pids}
 use Rattle.kernel_laws.proofs.Machine.Swaps.{applied, found_self}
 use Rattle.kernel_laws.proofs.Machine.Forks.{next_pid_none}
 use Rattle.kernel_laws.proofs.Machine.Ends.{orphans, left_flat, left_is, WasFlat, end_was}
-use Rattle.kernel_laws.proofs.Flat.Numbers.{puts_sid}
+use Rattle.flat_state.proofs.SpaceLaws.{puts_sid}
 
 -- The same of lists of processes.
 pub record Lent (ps : List Process) : Type 0 where
@@ -63,7 +65,7 @@ not_holds s sid child e = absurd cc
 -- A process gives way to one that has a space of the same number.
 same_lent : (ps : List Process) (q p : Process) (s z : Space) → numbered pid_of p.pid ps ≡ Some q → q.holding ≡ Holds s → p.holding ≡ Holds z → z.sid ≡ s.sid → Lent ps → Lent (replaced ps p)
 same_lent ps q p s z e h k i l = lent_kept ps (replaced ps p) l (λ x sid child f g. elim (cases_eq x.pid p.pid) [
-  | inl j ↦ not_holds z sid child (sym k ∙ ap (λ (y : Process). y.holding) (some_is p x (sym (replaced_at ps q p e) ∙ ap (λ (n : ℕ). numbered pid_of n (replaced ps p)) (sym j) ∙ f)) ∙ g)
+  | inl j ↦ not_holds z sid child (sym k ∙ ap (λ (y : Process). y.holding) (same_Some p x (sym (replaced_at ps q p e) ∙ ap (λ (n : ℕ). numbered pid_of n (replaced ps p)) (sym j) ∙ f)) ∙ g)
   | inr d ↦ record {
     before = x;
     number = refl;
@@ -83,7 +85,7 @@ same_lent ps q p s z e h k i l = lent_kept ps (replaced ps p) l (λ x sid child 
 -- A new process that holds a space.
 pushed_lent : (ps : List Process) (p : Process) (s : Space) → numbered pid_of p.pid ps ≡ None → p.holding ≡ Holds s → Lent ps → Lent (ps ++ p ∷ [])
 pushed_lent ps p s e h l = lent_kept ps (ps ++ p ∷ []) l (λ x sid child f g. elim (cases_eq p.pid x.pid) [
-  | inl j ↦ not_holds s sid child (sym h ∙ ap (λ (y : Process). y.holding) (some_is p x (sym (pushed_new pid_of p.pid ps p e refl) ∙ ap (λ (n : ℕ). numbered pid_of n (ps ++ p ∷ [])) j ∙ f)) ∙ g)
+  | inl j ↦ not_holds s sid child (sym h ∙ ap (λ (y : Process). y.holding) (same_Some p x (sym (pushed_new pid_of p.pid ps p e refl) ∙ ap (λ (n : ℕ). numbered pid_of n (ps ++ p ∷ [])) j ∙ f)) ∙ g)
   | inr d ↦ record { before = x; number = refl; found = sym (pushed_old pid_of x.pid ps p d) ∙ f; holding = g; stays = forward sid child (numbered pid_of child ps) refl }
 ])
   where
@@ -110,11 +112,11 @@ lends_lent ps q p c s e h k new hc l = record { right = right; one = one }
     -- the lenders: the parent, and those of before
     either : (x : Process) (sid child : ℕ) → numbered pid_of x.pid qs ≡ Some x → x.holding ≡ Lends sid child → ((x.pid ≡ p.pid) × (s.sid ≡ sid) × (c.pid ≡ child)) ⊎ ((x.pid ≢ p.pid) × (numbered pid_of x.pid ps ≡ Some x))
     either x sid child f g = elim (cases_eq x.pid p.pid) [
-      | inl i ↦ (let same : p ≡ x = some_is p x (sym at_parent ∙ ap (λ (n : ℕ). numbered pid_of n qs) (sym i) ∙ f) in
+      | inl i ↦ (let same : p ≡ x = same_Some p x (sym at_parent ∙ ap (λ (n : ℕ). numbered pid_of n qs) (sym i) ∙ f) in
           let y : Lends s.sid c.pid ≡ Lends sid child = sym k ∙ ap (λ (z : Process). z.holding) same ∙ g in
           inl (i, lends_sid y, lends_child y))
       | inr d ↦ elim (cases_eq c.pid x.pid) [
-        | inl j ↦ not_holds s sid child (sym hc ∙ ap (λ (z : Process). z.holding) (some_is c x (sym at_child ∙ ap (λ (n : ℕ). numbered pid_of n qs) j ∙ f)) ∙ g)
+        | inl j ↦ not_holds s sid child (sym hc ∙ ap (λ (z : Process). z.holding) (same_Some c x (sym at_child ∙ ap (λ (n : ℕ). numbered pid_of n qs) j ∙ f)) ∙ g)
         | inr m ↦ inr (d, sym (replaced_not ps p x.pid d) ∙ sym (pushed_old pid_of x.pid (replaced ps p) c m) ∙ f)
       ]
     ]
@@ -163,7 +165,7 @@ lends_lent ps q p c s e h k new hc l = record { right = right; one = one }
 
 lender_is : (pid : ℕ) (h : Holding) → lends_to pid h ≡ true → (sid : ℕ) × (h ≡ Lends sid pid)
 lender_is pid (Holds s) e = absurd cc
-lender_is pid (Lends sid child) e = (sid, ap (Lends sid) (eq_is child pid e))
+lender_is pid (Lends sid child) e = (sid, ap (Lends sid) (eqb-true child pid e))
 lender_is pid (Zombie status) e = absurd cc
 
 lends_true : (pid sid : ℕ) (h : Holding) → h ≡ Lends sid pid → lends_to pid h ≡ true
@@ -177,7 +179,7 @@ returned_cases [] pid s d = inl (refl, λ x e. none_some x e)
 returned_cases (q ∷ ps) pid s d = elim (cases_Bool (lends_to pid q.holding)) [
   | inl t ↦ inr (
     q,
-    hit pid_of q.pid q ps refl,
+    numbered_hit pid_of q.pid q ps refl,
     t,
     ap (λ (b : Bool). returned_by b s q ps (returned pid s ps)) t ∙ sym (ap (λ (b : Bool). replaced_by b (record q { holding = Holds s }) q ps (replaced ps (record q { holding = Holds s }))) (eq_self q.pid)),
   )
@@ -185,17 +187,17 @@ returned_cases (q ∷ ps) pid s d = elim (cases_Bool (lends_to pid q.holding)) [
     | inl e ↦ inl (
       ap (λ (b : Bool). returned_by b s q ps (returned pid s ps)) t ∙ ap (λ (l : List Process). q ∷ l) e.0,
       λ x f. elim (cases_eq q.pid x.pid) [
-        | inl i ↦ ap (λ (y : Process). lends_to pid y.holding) (some_is x q (sym f ∙ hit pid_of x.pid q ps i)) ∙ t
-        | inr n ↦ e.1 x (sym (miss pid_of x.pid q ps n) ∙ f)
+        | inl i ↦ ap (λ (y : Process). lends_to pid y.holding) (same_Some x q (sym f ∙ numbered_hit pid_of x.pid q ps i)) ∙ t
+        | inr n ↦ e.1 x (sym (numbered_miss pid_of x.pid q ps n) ∙ f)
       ],
     )
     | inr e ↦ (let n : q.pid ≢ e.0.pid = λ i. none_some e.0 (sym (absent_none pid_of e.0.pid ps (subst (λ (m : ℕ). IsAbsent m (map pid_of ps)) i d.0)) ∙ e.1) in
         inr (
           e.0,
-          miss pid_of e.0.pid q ps n ∙ e.1,
+          numbered_miss pid_of e.0.pid q ps n ∙ e.1,
           e.2,
           ap (λ (b : Bool). returned_by b s q ps (returned pid s ps)) t ∙ ap (λ (l : List Process). q ∷ l) e.3
-              ∙ sym (ap (λ (b : Bool). replaced_by b (record e.0 { holding = Holds s }) q ps (replaced ps (record e.0 { holding = Holds s }))) (not_eq q.pid e.0.pid n)),
+              ∙ sym (ap (λ (b : Bool). replaced_by b (record e.0 { holding = Holds s }) q ps (replaced ps (record e.0 { holding = Holds s }))) (ne_eqb q.pid e.0.pid n)),
         ))
   ]
 ]
@@ -225,11 +227,11 @@ back_lent ps q p s d e h none l = elim (returned_cases r0 p.pid s distinct) [
 
     -- a lender isn't the process itself
     own : (x : Process) (sid child : ℕ) → numbered pid_of x.pid r0 ≡ Some x → x.holding ≡ Lends sid child → x.pid ≢ p.pid
-    own x sid child f g i = none sid child (ap (λ (y : Process). y.holding) (some_is p x (sym (replaced_at ps q p e) ∙ ap (λ (n : ℕ). numbered pid_of n r0) (sym i) ∙ f)) ∙ g)
+    own x sid child f g i = none sid child (ap (λ (y : Process). y.holding) (same_Some p x (sym (replaced_at ps q p e) ∙ ap (λ (n : ℕ). numbered pid_of n r0) (sym i) ∙ f)) ∙ g)
 
     behind : (m : Process) (t : ℕ) → m.holding ≡ Lends t p.pid → numbered pid_of m.pid r0 ≡ Some m → numbered pid_of m.pid ps ≡ Some m → s.sid ≡ t → (x : Process) (sid child : ℕ) → numbered pid_of x.pid (replaced r0 (record m { holding = Holds s })) ≡ Some x → x.holding ≡ Lends sid child
         → (x.pid ≡ m.pid) ⊎ (x.pid ≢ m.pid) → WasLender ps (replaced r0 (record m { holding = Holds s })) x.pid sid child
-    behind m t hm m0 m1 right x sid child f g (inl i) = not_holds s sid child (ap (λ (y : Process). y.holding) (some_is (record m { holding = Holds s }) x (sym (replaced_at r0 m (record m { holding = Holds s }) m0)
+    behind m t hm m0 m1 right x sid child f g (inl i) = not_holds s sid child (ap (λ (y : Process). y.holding) (same_Some (record m { holding = Holds s }) x (sym (replaced_at r0 m (record m { holding = Holds s }) m0)
         ∙ ap (λ (n : ℕ). numbered pid_of n (replaced r0 (record m { holding = Holds s }))) (sym i) ∙ f)) ∙ g)
     behind m t hm m0 m1 right x sid child f g (inr n) =
         let in_r0 : numbered pid_of x.pid r0 ≡ Some x = sym (replaced_not r0 (record m { holding = Holds s }) x.pid n) ∙ f in
@@ -254,10 +256,6 @@ has_alive sid (Holds s) e = refl
 has_alive sid (Lends t child) e = refl
 has_alive sid (Zombie status) e = absurd e
 
-and_false : (b : Bool) → (b && false) ≡ false
-and_false true = refl
-and_false false = refl
-
 -- what was with a process that isn't this one is there still
 left_found : (b : Bool) (ps : List Process) (pid parent sid child : ℕ) → AllDistinct (map pid_of ps) → child ≢ pid → IsWith sid (numbered pid_of child ps) → IsWith sid (numbered pid_of child (left_flat b (orphans pid ps) pid parent))
 left_found b ps pid parent sid child d n y = go (numbered pid_of child ps) refl y
@@ -271,7 +269,7 @@ left_found b ps pid parent sid child d n y = go (numbered pid_of child ps) refl 
     go (Some z) e h = by b (without_parent pid z)
         (numbered_map pid_of (without_parent pid) (λ x. refl) child (filter (λ (q : Process). not (is_zombie_child pid q)) ps)
         ∙ ap (mapped (without_parent pid)) (numbered_filter pid_of child (λ (q : Process). not (is_zombie_child pid q)) ps d ∙ ap (only_if (λ (q : Process). not (is_zombie_child pid q))) e
-        ∙ ap (λ (t : Bool). cond (not t) (Some z) None) (ap (λ (t : Bool). (z.parent == pid) && t) (has_alive sid z.holding h) ∙ and_false (z.parent == pid)))) h
+        ∙ ap (λ (t : Bool). cond (not t) (Some z) None) (ap (λ (t : Bool). (z.parent == pid) && t) (has_alive sid z.holding h) ∙ and-false (z.parent == pid)))) h
 
 left_lent : (b : Bool) (ps : List Process) (q : Process) (pid parent : ℕ) → AllDistinct (map pid_of ps) → numbered pid_of pid ps ≡ Some q → is_zombie q.holding ≡ true → Lent ps → Lent (left_flat b (orphans pid ps) pid parent)
 left_lent b ps q pid parent d e z l = lent_kept ps (left_flat b (orphans pid ps) pid parent) l (λ x sid child f g.
@@ -344,7 +342,7 @@ changes_lent images flat pid regs change q s e h m n st = subst LendsStand (sym 
         (reaped_lent flat.processes m.0 child (sym (found_is flat.processes child) ∙ m.2) (ap is_zombie m.3) l))
       where
         other : q.pid ≢ child
-        other i = let same : q ≡ m.0 = some_is q m.0 (sym found ∙ ap (λ (x : ℕ). numbered pid_of x flat.processes) i ∙ sym (found_is flat.processes child) ∙ m.2) in
+        other i = let same : q ≡ m.0 = same_Some q m.0 (sym found ∙ ap (λ (x : ℕ). numbered pid_of x flat.processes) i ∙ sym (found_is flat.processes child) ∙ m.2) in
             let z : Holds s ≡ Zombie m.1 = sym h ∙ ap (λ (x : Process). x.holding) same ∙ m.3 in cc
     go (End status) m = subst LendsStand (sym (left_is (q.parent == 0) (orphaned (given_back (with_process flat fp) q.pid s) q.pid) q.pid q.parent))
         (of_lent (record flat { processes = left_flat (q.parent == 0) (orphans q.pid rs) q.pid q.parent })
@@ -375,9 +373,9 @@ writes_lent flat pid ws q s e h st = subst LendsStand (sym (ap (wrote_if flat ws
 first_lender : (ps : List Process) (pid : ℕ) → AllDistinct (map pid_of ps) → is_borrower ps pid ≡ true → (x : Process) × (numbered pid_of x.pid ps ≡ Some x) × (lends_to pid x.holding ≡ true)
 first_lender [] pid d e = absurd cc
 first_lender (q ∷ ps) pid d e = elim (cases_Bool (lends_to pid q.holding)) [
-  | inl t ↦ (q, hit pid_of q.pid q ps refl, t)
+  | inl t ↦ (q, numbered_hit pid_of q.pid q ps refl, t)
   | inr t ↦ (let r = first_lender ps pid d.1 (rest q.holding t e) in
-      (r.0, miss pid_of r.0.pid q ps (λ i. none_some r.0 (sym (absent_none pid_of r.0.pid ps (subst (λ (m : ℕ). IsAbsent m (map pid_of ps)) i d.0)) ∙ r.1)) ∙ r.1, r.2))
+      (r.0, numbered_miss pid_of r.0.pid q ps (λ i. none_some r.0 (sym (absent_none pid_of r.0.pid ps (subst (λ (m : ℕ). IsAbsent m (map pid_of ps)) i d.0)) ∙ r.1)) ∙ r.1, r.2))
 ]
   where
     rest : (h : Holding) → lends_to pid h ≡ false → (Rattle.flat_state.specs.Change.lends_to pid h || is_borrower ps pid) ≡ true → is_borrower ps pid ≡ true

@@ -1,14 +1,17 @@
 -- The processes and the spaces of a flat state, where one process gives way to another.
 use Rattle.std.proofs.Common.{◌≡◌, ◌≢◌, inl, inr, ℕ, ◌==◌, Bool, cond, List, [], ◌∷◌, ◌++◌, map, Option, Some, None, refl, sym, ap, ◌∙◌, subst, append_assoc}
 use Rattle.std.specs.Prelude.{flat_map, find}
-use Rattle.std.proofs.lemmas.Bool.{cases_eq}
+use Rattle.std.proofs.lemmas.Bool.{cases_eq, ne_eqb}
 use Rattle.flat_state.specs.Space.{Space}
 use Rattle.flat_state.specs.Flat.{Holding, Holds, Process, space_held}
 use Rattle.flat_state.specs.Change.{replaced, replaced_by}
 use Rattle.page_model.specs.Pages.{numbered}
 use Rattle.flat_state.specs.Numbers.{AllDistinct}
-use Rattle.page_laws.proofs.Lists.Local.{none_some, some_is}
-use Rattle.kernel_laws.proofs.Flat.Numbered.{has_number, eq_self, not_eq, hit, miss, or_else, numbered_append, absent_none, distinct_append}
+use Rattle.page_laws.proofs.Lists.Local.{none_some}
+use Rattle.std.proofs.lemmas.Option.{same_Some}
+use Rattle.kernel_laws.proofs.Flat.Numbered.{has_number, or_else, numbered_append, absent_none, distinct_append}
+use Rattle.page_laws.proofs.Lists.Pages.{numbered_hit, numbered_miss}
+use Rattle.vm_facts.proofs.Tests.{eq_self}
 
 abbrev pub pid_of : Process → ℕ
 pid_of q = q.pid
@@ -37,15 +40,15 @@ parts_at (x ∷ xs) q p e = elim (cases_eq x.pid p.pid) [
   | inl h ↦ record {
     front = [];
     back = xs;
-    old = ap (λ (y : Process). y ∷ xs) (some_is x q (sym (hit pid_of p.pid x xs h) ∙ e));
+    old = ap (λ (y : Process). y ∷ xs) (same_Some x q (sym (numbered_hit pid_of p.pid x xs h) ∙ e));
     new = ap (λ (b : Bool). replaced_by b p x xs (replaced xs p)) (ap (λ (n : ℕ). n == p.pid) h ∙ eq_self p.pid);
   }
-  | inr n ↦ (let r : Parts xs q p = parts_at xs q p (sym (miss pid_of p.pid x xs n) ∙ e) in
+  | inr n ↦ (let r : Parts xs q p = parts_at xs q p (sym (numbered_miss pid_of p.pid x xs n) ∙ e) in
       record {
         front = x ∷ r.front;
         back = r.back;
         old = ap (λ (ys : List Process). x ∷ ys) r.old;
-        new = ap (λ (b : Bool). replaced_by b p x xs (replaced xs p)) (not_eq x.pid p.pid n) ∙ ap (λ (ys : List Process). x ∷ ys) r.new;
+        new = ap (λ (b : Bool). replaced_by b p x xs (replaced xs p)) (ne_eqb x.pid p.pid n) ∙ ap (λ (ys : List Process). x ∷ ys) r.new;
       })
 ]
 
@@ -53,9 +56,9 @@ pub replaced_at : (ps : List Process) (q p : Process) → numbered pid_of p.pid 
 unfolding replaced
 replaced_at [] q p e = none_some q e
 replaced_at (x ∷ xs) q p e = elim (cases_eq x.pid p.pid) [
-  | inl h ↦ ap (λ (b : Bool). numbered pid_of p.pid (replaced_by b p x xs (replaced xs p))) (ap (λ (n : ℕ). n == p.pid) h ∙ eq_self p.pid) ∙ hit pid_of p.pid p xs refl
-  | inr n ↦ ap (λ (b : Bool). numbered pid_of p.pid (replaced_by b p x xs (replaced xs p))) (not_eq x.pid p.pid n) ∙ miss pid_of p.pid x (replaced xs p) n
-      ∙ replaced_at xs q p (sym (miss pid_of p.pid x xs n) ∙ e)
+  | inl h ↦ ap (λ (b : Bool). numbered pid_of p.pid (replaced_by b p x xs (replaced xs p))) (ap (λ (n : ℕ). n == p.pid) h ∙ eq_self p.pid) ∙ numbered_hit pid_of p.pid p xs refl
+  | inr n ↦ ap (λ (b : Bool). numbered pid_of p.pid (replaced_by b p x xs (replaced xs p))) (ne_eqb x.pid p.pid n) ∙ numbered_miss pid_of p.pid x (replaced xs p) n
+      ∙ replaced_at xs q p (sym (numbered_miss pid_of p.pid x xs n) ∙ e)
 ]
 
 pub replaced_not : (ps : List Process) (p : Process) (n : ℕ) → n ≢ p.pid → numbered pid_of n (replaced ps p) ≡ numbered pid_of n ps
@@ -63,8 +66,8 @@ unfolding replaced
 replaced_not [] p n d = refl
 replaced_not (x ∷ xs) p n d = elim (cases_eq x.pid p.pid) [
   | inl h ↦ ap (λ (b : Bool). numbered pid_of n (replaced_by b p x xs (replaced xs p))) (ap (λ (m : ℕ). m == p.pid) h ∙ eq_self p.pid)
-      ∙ miss pid_of n p xs (λ k. d (sym k)) ∙ sym (miss pid_of n x xs (λ k. d (sym k ∙ h)))
-  | inr m ↦ ap (λ (b : Bool). numbered pid_of n (replaced_by b p x xs (replaced xs p))) (not_eq x.pid p.pid m)
+      ∙ numbered_miss pid_of n p xs (λ k. d (sym k)) ∙ sym (numbered_miss pid_of n x xs (λ k. d (sym k ∙ h)))
+  | inr m ↦ ap (λ (b : Bool). numbered pid_of n (replaced_by b p x xs (replaced xs p))) (ne_eqb x.pid p.pid m)
       ∙ ap (λ (o : Option Process). cond (x.pid == n) (Some x) o) (replaced_not xs p n d)
 ]
 
@@ -94,7 +97,7 @@ pub record HeldAt (ps : List Process) (p : Process) (s : Space) : Type 0 where
   pub in_front : numbered sid_of s.sid front ≡ None
   pub in_back : numbered sid_of s.sid back ≡ None
 
-sids-append : (xs ys : List Space) → map sid_of (xs ++ ys) ≡ map sid_of xs ++ map sid_of ys
+pub sids-append : (xs ys : List Space) → map sid_of (xs ++ ys) ≡ map sid_of xs ++ map sid_of ys
 sids-append [] ys = refl
 sids-append (x ∷ xs) ys = ap (λ (l : List ℕ). x.sid ∷ l) (sids-append xs ys)
 
@@ -118,12 +121,12 @@ three n xs ys zs = numbered_append sid_of n xs (ys ++ zs) ∙ ap (or_else (numbe
 -- the space is found by its number
 pub held_own : (ps : List Process) (p : Process) (s : Space) → HeldAt ps p s → numbered sid_of s.sid (held ps) ≡ Some s
 held_own ps p s a = ap (numbered sid_of s.sid) a.old ∙ three s.sid a.front (s ∷ []) a.back ∙ ap (λ (o : Option Space). or_else o (or_else (numbered sid_of s.sid (s ∷ [])) (numbered sid_of s.sid a.back))) a.in_front
-    ∙ ap (λ (o : Option Space). or_else o (numbered sid_of s.sid a.back)) (hit sid_of s.sid s [] refl)
+    ∙ ap (λ (o : Option Space). or_else o (numbered sid_of s.sid a.back)) (numbered_hit sid_of s.sid s [] refl)
 
 -- another space is as it was
 pub held_other : (ps : List Process) (p : Process) (s : Space) (n : ℕ) → HeldAt ps p s → n ≢ s.sid → numbered sid_of n (space_held p.holding) ≡ None → numbered sid_of n (held (replaced ps p)) ≡ numbered sid_of n (held ps)
 held_other ps p s n a d e =
-    ap (numbered sid_of n) a.new ∙ three n a.front (space_held p.holding) a.back ∙ ap (λ (o : Option Space). or_else (numbered sid_of n a.front) (or_else o (numbered sid_of n a.back))) (e ∙ sym (miss sid_of n s [] (λ h. d (sym h))))
+    ap (numbered sid_of n) a.new ∙ three n a.front (space_held p.holding) a.back ∙ ap (λ (o : Option Space). or_else (numbered sid_of n a.front) (or_else o (numbered sid_of n a.back))) (e ∙ sym (numbered_miss sid_of n s [] (λ h. d (sym h))))
     ∙ sym (three n a.front (s ∷ []) a.back) ∙ sym (ap (numbered sid_of n) a.old)
 
 -- the number has what the process holds now
@@ -182,10 +185,10 @@ held_gain ps m p s e h i z = (own, other)
     own = ap (numbered sid_of s.sid) new ∙ three s.sid front (s ∷ []) back
         ∙ ap (λ (o : Option Space). or_else o (or_else (numbered sid_of s.sid (s ∷ [])) (numbered sid_of s.sid back)))
         (first_none (numbered sid_of s.sid front) (numbered sid_of s.sid back) (sym (numbered_append sid_of s.sid front back) ∙ sym (ap (numbered sid_of s.sid) old) ∙ z))
-        ∙ ap (λ (o : Option Space). or_else o (numbered sid_of s.sid back)) (hit sid_of s.sid s [] refl)
+        ∙ ap (λ (o : Option Space). or_else o (numbered sid_of s.sid back)) (numbered_hit sid_of s.sid s [] refl)
 
     other : (n : ℕ) → n ≢ s.sid → numbered sid_of n (held (replaced ps p)) ≡ numbered sid_of n (held ps)
-    other n d = ap (numbered sid_of n) new ∙ three n front (s ∷ []) back ∙ ap (λ (o : Option Space). or_else (numbered sid_of n front) (or_else o (numbered sid_of n back))) (miss sid_of n s [] (λ x. d (sym x)))
+    other n d = ap (numbered sid_of n) new ∙ three n front (s ∷ []) back ∙ ap (λ (o : Option Space). or_else (numbered sid_of n front) (or_else o (numbered sid_of n back))) (numbered_miss sid_of n s [] (λ x. d (sym x)))
         ∙ sym (numbered_append sid_of n front back) ∙ sym (ap (numbered sid_of n) old)
 
 -- the same numbers
@@ -197,17 +200,3 @@ replaced_pids ps q p e =
     go : (xs ys : List Process) → map pid_of (xs ++ p ∷ ys) ≡ map pid_of (xs ++ q ∷ ys)
     go [] ys = ap (λ (n : ℕ). n ∷ map pid_of ys) (sym (has_number pid_of p.pid ps q e))
     go (x ∷ xs) ys = ap (λ (l : List ℕ). x.pid ∷ l) (go xs ys)
-
--- a process that gives way twice gives way to the second
-pub replaced_twice : (ps : List Process) (p r : Process) → p.pid ≡ r.pid → replaced (replaced ps p) r ≡ replaced ps r
-unfolding replaced
-replaced_twice [] p r e = refl
-replaced_twice (x ∷ ps) p r e = elim (cases_eq x.pid p.pid) [
-  | inl i ↦ ap (λ (b : Bool). replaced (replaced_by b p x ps (replaced ps p)) r) (ap (λ (n : ℕ). n == p.pid) i ∙ eq_self p.pid)
-      ∙ ap (λ (b : Bool). replaced_by b r p ps (replaced ps r)) (ap (λ (n : ℕ). n == r.pid) e ∙ eq_self r.pid)
-      ∙ sym (ap (λ (b : Bool). replaced_by b r x ps (replaced ps r)) (ap (λ (n : ℕ). n == r.pid) (i ∙ e) ∙ eq_self r.pid))
-  | inr d ↦ ap (λ (b : Bool). replaced (replaced_by b p x ps (replaced ps p)) r) (not_eq x.pid p.pid d)
-      ∙ ap (λ (b : Bool). replaced_by b r x (replaced ps p) (replaced (replaced ps p) r)) (not_eq x.pid r.pid (λ h. d (h ∙ sym e)))
-      ∙ ap (λ (l : List Process). x ∷ l) (replaced_twice ps p r e)
-      ∙ sym (ap (λ (b : Bool). replaced_by b r x ps (replaced ps r)) (not_eq x.pid r.pid (λ h. d (h ∙ sym e))))
-]

@@ -1,26 +1,11 @@
 -- Lists whose items have numbers: look-ups through a map, a filter, another list behind, and an item that gives way.
 use Rattle.std.proofs.Common.{◌≡◌, ◌≢◌, inl, inr, ℕ, ◌==◌, Bool, true, false, cond, not, List, [], ◌∷◌, ◌++◌, map, filter, Option, Some, None, refl, sym, ap, ◌∙◌, subst, arith}
-use Rattle.std.proofs.lemmas.Bool.{cases_eq}
-use Rattle.std.proofs.lemmas.Bool.Decides.{nat_tests}
+use Rattle.std.proofs.lemmas.Bool.{cases_eq, eqb-true}
 use Rattle.page_model.specs.Pages.{numbered}
 use Rattle.flat_state.specs.Numbers.{IsAbsent, AllDistinct, AllBelow}
-use Rattle.page_laws.proofs.Lists.Local.{none_some, some_is}
-use Rattle.page_laws.proofs.Lists.Pages.{mapped}
-
-pub eq_is : (a b : ℕ) → (a == b) ≡ true → a ≡ b
-eq_is a b e = grind (arith, nat_tests)
-
-pub eq_self : (a : ℕ) → (a == a) ≡ true
-eq_self a = grind (arith, nat_tests)
-
-pub not_eq : (a b : ℕ) → a ≢ b → (a == b) ≡ false
-not_eq a b n = grind (arith, nat_tests)
-
-pub hit : {A : Type 0} (number : A → ℕ) (n : ℕ) (x : A) (xs : List A) → number x ≡ n → numbered number n (x ∷ xs) ≡ Some x
-hit number n x xs e = grind (arith, nat_tests)
-
-pub miss : {A : Type 0} (number : A → ℕ) (n : ℕ) (x : A) (xs : List A) → number x ≢ n → numbered number n (x ∷ xs) ≡ numbered number n xs
-miss number n x xs e = grind (arith, nat_tests)
+use Rattle.page_laws.proofs.Lists.Local.{none_some}
+use Rattle.std.proofs.lemmas.Option.{same_Some}
+use Rattle.page_laws.proofs.Lists.Pages.{mapped, numbered_hit, numbered_miss}
 
 -- what is found has the number
 pub has_number : {A : Type 0} (number : A → ℕ) (n : ℕ) (xs : List A) (x : A) → numbered number n xs ≡ Some x → number x ≡ n
@@ -28,7 +13,7 @@ has_number number n [] x e = none_some x e
 has_number number n (y ∷ ys) x e = go (number y == n) refl e (has_number number n ys x)
   where
     go : (b : Bool) → (number y == n) ≡ b → cond b (Some y) (numbered number n ys) ≡ Some x → (numbered number n ys ≡ Some x → number x ≡ n) → number x ≡ n
-    go true h k ih = ap number (sym (some_is y x k)) ∙ eq_is (number y) n h
+    go true h k ih = ap number (sym (same_Some y x k)) ∙ eqb-true (number y) n h
     go false h k ih = ih k
 
 -- Changed items, and lists one behind the other.
@@ -57,13 +42,13 @@ numbered_append number n (x ∷ xs) ys = go (number x == n) (numbered_append num
 
 pub absent_none : {A : Type 0} (number : A → ℕ) (n : ℕ) (xs : List A) → IsAbsent n (map number xs) → numbered number n xs ≡ None
 absent_none number n [] a = refl
-absent_none number n (x ∷ xs) a = miss number n x xs a.0 ∙ absent_none number n xs a.1
+absent_none number n (x ∷ xs) a = numbered_miss number n x xs a.0 ∙ absent_none number n xs a.1
 
 pub none_absent : {A : Type 0} (number : A → ℕ) (n : ℕ) (xs : List A) → numbered number n xs ≡ None → IsAbsent n (map number xs)
 none_absent number n [] e = tt
 none_absent number n (x ∷ xs) e = elim (cases_eq (number x) n) [
-  | inl h ↦ none_some x (sym e ∙ hit number n x xs h)
-  | inr d ↦ (d, none_absent number n xs (sym (miss number n x xs d) ∙ e))
+  | inl h ↦ none_some x (sym e ∙ numbered_hit number n x xs h)
+  | inr d ↦ (d, none_absent number n xs (sym (numbered_miss number n x xs d) ∙ e))
 ]
 
 pub below_absent : (n : ℕ) (xs : List ℕ) → AllBelow n xs → IsAbsent n xs
@@ -95,7 +80,7 @@ removed_not {A} number m n (x ∷ xs) d = go (number x == n) refl (removed_not n
   where
     go : (b : Bool) → (number x == n) ≡ b → numbered number m (filter (λ (x : A). not (number x == n)) xs) ≡ numbered number m xs
         → numbered number m (cond (not b) (x ∷ filter (λ (x : A). not (number x == n)) xs) (filter (λ (x : A). not (number x == n)) xs)) ≡ numbered number m (x ∷ xs)
-    go true e ih = ih ∙ sym (miss number m x xs (λ k. d (sym k ∙ eq_is (number x) n e)))
+    go true e ih = ih ∙ sym (numbered_miss number m x xs (λ k. d (sym k ∙ eqb-true (number x) n e)))
     go false e ih = ap (λ (o : Option A). cond (number x == m) (Some x) o) ih
 
 abbrev pub only_if : {A : Type 0} → (A → Bool) → Option A → Option A
@@ -107,29 +92,29 @@ filtered_none number n test [] a = refl
 filtered_none number n test (x ∷ xs) a = go (test x) (filtered_none number n test xs a.1)
   where
     go : (b : Bool) → numbered number n (filter test xs) ≡ None → numbered number n (cond b (x ∷ filter test xs) (filter test xs)) ≡ None
-    go true ih = miss number n x (filter test xs) a.0 ∙ ih
+    go true ih = numbered_miss number n x (filter test xs) a.0 ∙ ih
     go false ih = ih
 
 -- where no number stands twice
 pub numbered_filter : {A : Type 0} (number : A → ℕ) (n : ℕ) (test : A → Bool) (xs : List A) → AllDistinct (map number xs) → numbered number n (filter test xs) ≡ only_if test (numbered number n xs)
 numbered_filter number n test [] d = refl
 numbered_filter number n test (x ∷ xs) d = elim (cases_eq (number x) n) [
-  | inl e ↦ first (test x) e ∙ sym (ap (only_if test) (hit number n x xs e))
-  | inr m ↦ later (test x) m ∙ numbered_filter number n test xs d.1 ∙ sym (ap (only_if test) (miss number n x xs m))
+  | inl e ↦ first (test x) e ∙ sym (ap (only_if test) (numbered_hit number n x xs e))
+  | inr m ↦ later (test x) m ∙ numbered_filter number n test xs d.1 ∙ sym (ap (only_if test) (numbered_miss number n x xs m))
 ]
   where
     first : (b : Bool) → number x ≡ n → numbered number n (cond b (x ∷ filter test xs) (filter test xs)) ≡ cond b (Some x) None
-    first true e = hit number n x (filter test xs) e
+    first true e = numbered_hit number n x (filter test xs) e
     first false e = filtered_none number n test xs (subst (λ (m : ℕ). IsAbsent m (map number xs)) e d.0)
 
     later : (b : Bool) → number x ≢ n → numbered number n (cond b (x ∷ filter test xs) (filter test xs)) ≡ numbered number n (filter test xs)
-    later true m = miss number n x (filter test xs) m
+    later true m = numbered_miss number n x (filter test xs) m
     later false m = refl
 
 -- what a change of a found item says of the item
 pub mapped_some : {A : Type 0} (g : A → A) (o : Option A) (y : A) → mapped g o ≡ Some y → (x : A) × (o ≡ Some x) × (g x ≡ y)
 mapped_some g None y e = none_some y e
-mapped_some g (Some x) y e = (x, refl, some_is (g x) y e)
+mapped_some g (Some x) y e = (x, refl, same_Some (g x) y e)
 
 -- what a list of other items, with the same numbers, has at a number
 abbrev pub image_by : {A : Type 0} {B : Type 0} → (A → B) → Option A → Option B
@@ -151,10 +136,10 @@ or_none None = refl
 or_none (Some x) = refl
 
 pub pushed_new : {A : Type 0} (number : A → ℕ) (n : ℕ) (xs : List A) (x : A) → numbered number n xs ≡ None → number x ≡ n → numbered number n (xs ++ x ∷ []) ≡ Some x
-pushed_new number n xs x e i = numbered_append number n xs (x ∷ []) ∙ ap (λ o. or_else o (numbered number n (x ∷ []))) e ∙ hit number n x [] i
+pushed_new number n xs x e i = numbered_append number n xs (x ∷ []) ∙ ap (λ o. or_else o (numbered number n (x ∷ []))) e ∙ numbered_hit number n x [] i
 
 pub pushed_old : {A : Type 0} (number : A → ℕ) (n : ℕ) (xs : List A) (x : A) → number x ≢ n → numbered number n (xs ++ x ∷ []) ≡ numbered number n xs
-pushed_old number n xs x d = numbered_append number n xs (x ∷ []) ∙ ap (or_else (numbered number n xs)) (miss number n x [] d) ∙ or_none (numbered number n xs)
+pushed_old number n xs x d = numbered_append number n xs (x ∷ []) ∙ ap (or_else (numbered number n xs)) (numbered_miss number n x [] d) ∙ or_none (numbered number n xs)
 
 pub pushed_found : {A : Type 0} (number : A → ℕ) (n : ℕ) (xs : List A) (x y : A) → numbered number n xs ≡ Some y → numbered number n (xs ++ x ∷ []) ≡ Some y
 pushed_found number n xs x y e = numbered_append number n xs (x ∷ []) ∙ ap (λ o. or_else o (numbered number n (x ∷ []))) e

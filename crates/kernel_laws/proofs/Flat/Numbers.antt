@@ -2,20 +2,21 @@
 use Rattle.std.proofs.Common.{◌≡◌, ◌≢◌, ◌⊎◌, inl, inr, ℕ, ◌+◌, ◌<◌, ◌==◌, Bool, true, false, cond, not, List, [], ◌∷◌, ◌++◌, map, filter, Option, Some, None, refl, sym, ap, ◌∙◌, subst, arith}
 use Rattle.std.specs.Prelude.{if◌then◌else◌}
 use Rattle.std.proofs.lemmas.Bool.{cases_eq, cases_Bool}
+use Rattle.flat_state.proofs.SpaceLaws.{puts_sid}
 use Rattle.vm_facts.specs.Answers.{ByteWrite}
-use Rattle.flat_state.specs.Space.{Space, put_at, put, puts, address_in}
+use Rattle.flat_state.specs.Space.{Space, puts}
 use Rattle.flat_state.specs.Flat.{Holding, Holds, Lends, Zombie, Process, FlatState, NamedImage, process_of, image_numbered, space_with, space_held}
 use Rattle.vm_facts.specs.declared.regs.Regs.{Regs}
-use Rattle.flat_state.specs.declared.spot.Spot.{Spot}
-use Rattle.flat_state.specs.declared.spot.Spot.TheVariants as spots
 use Rattle.flat_state.specs.declared.change.Change.{Change}
 use Rattle.flat_state.specs.declared.change.Change.TheVariants.{Keep, Resize, Fork, Lend, Exec, Reap, Sleep, End}
 use Rattle.flat_state.specs.Change.{replaced, replaced_by, returned, returned_by, lends_to, child_of, with_process, without_process, resized, is_zombie_child, without_parent, orphaned, awake, left, ended, entered, forked, lent, changed, changed_by, changed_if, apply_change, apply_writes, wrote_by, wrote_if, NamesChild}
 use Rattle.page_model.specs.Pages.{numbered}
 use Rattle.flat_state.specs.Numbers.{IsAbsent, AllDistinct, AllBelow, AllLower, IsNumbered}
-use Rattle.page_laws.proofs.Lists.Local.{none_some, some_is}
-use Rattle.kernel_laws.proofs.Flat.Numbered.{hit, miss, has_number, absent_none, none_absent, below_absent, distinct_append}
-use Rattle.kernel_laws.proofs.Flat.Lists.{pid_of, sid_of, held, found_is, held_now, Parts, parts_at, replaced_at, replaced_not, replaced_pids, held_at, held-append, held_parts}
+use Rattle.page_laws.proofs.Lists.Local.{none_some}
+use Rattle.std.proofs.lemmas.Option.{same_Some}
+use Rattle.kernel_laws.proofs.Flat.Numbered.{has_number, absent_none, none_absent, below_absent, distinct_append}
+use Rattle.page_laws.proofs.Lists.Pages.{numbered_hit, numbered_miss}
+use Rattle.kernel_laws.proofs.Flat.Lists.{pid_of, sid_of, held, found_is, held_now, Parts, parts_at, replaced_at, replaced_not, replaced_pids, held_at, held-append, held_parts, sids-append}
 use Rattle.kernel_laws.proofs.Machine.Swaps.{applied, found_self}
 use Rattle.kernel_laws.proofs.Machine.Ends.{orphans, left_flat, left_is, orphans_held, orphans_distinct, pids_map, end_held}
 use Rattle.kernel_laws.proofs.Machine.Processes.{lower_at, holds_there, distinct_filter, held_filter}
@@ -51,7 +52,7 @@ below_parts : (n : ℕ) (xs ys : List ℕ) → AllBelow n (xs ++ ys) → AllBelo
 below_parts n [] ys a = (tt, a)
 below_parts n (x ∷ xs) ys a = let h = below_parts n xs ys a.1 in ((a.0, h.0), h.1)
 
-below_more : (n : ℕ) (xs : List ℕ) → AllBelow n xs → AllBelow (n + 1) xs
+pub below_more : (n : ℕ) (xs : List ℕ) → AllBelow n xs → AllBelow (n + 1) xs
 below_more n [] a = tt
 below_more n (x ∷ xs) a = ((let h = a.0 in omega arith), below_more n xs a.1)
 
@@ -101,10 +102,6 @@ lower_filter test (p ∷ ps) l = go (test p) (lower_filter test ps l.1)
     go false ih = ih
 
 -- One process gives way to another of its number and parent, which holds these spaces.
-
-sids-append : (xs ys : List Space) → map sid_of (xs ++ ys) ≡ map sid_of xs ++ map sid_of ys
-sids-append [] ys = refl
-sids-append (x ∷ xs) ys = ap (λ (l : List ℕ). x.sid ∷ l) (sids-append xs ys)
 
 -- what is asked of the spaces of the process
 pub record Exchange (ps : List Process) (q p : Process) (ns ms : ℕ) : Type 0 where
@@ -210,19 +207,19 @@ returned_either [] pid s d = inl refl
 returned_either (q ∷ ps) pid s d = elim (cases_Bool (lends_to pid q.holding)) [
   | inl t ↦ inr (
     q,
-    hit pid_of q.pid q ps refl,
+    numbered_hit pid_of q.pid q ps refl,
     t,
-    ap (λ (b : Bool). returned_by b s q ps (returned pid s ps)) t ∙ sym (ap (λ (b : Bool). replaced_by b (record q { holding = Holds s }) q ps (replaced ps (record q { holding = Holds s }))) (Rattle.kernel_laws.proofs.Flat.Numbered.eq_self q.pid)),
+    ap (λ (b : Bool). returned_by b s q ps (returned pid s ps)) t ∙ sym (ap (λ (b : Bool). replaced_by b (record q { holding = Holds s }) q ps (replaced ps (record q { holding = Holds s }))) (Rattle.vm_facts.proofs.Tests.eq_self q.pid)),
   )
   | inr t ↦ elim (returned_either ps pid s d.1) [
     | inl e ↦ inl (ap (λ (b : Bool). returned_by b s q ps (returned pid s ps)) t ∙ ap (λ (l : List Process). q ∷ l) e)
     | inr e ↦ (let n : q.pid ≢ e.0.pid = λ i. none_some e.0 (sym (absent_none pid_of e.0.pid ps (subst (λ (m : ℕ). IsAbsent m (map pid_of ps)) i d.0)) ∙ e.1) in
         inr (
           e.0,
-          miss pid_of e.0.pid q ps n ∙ e.1,
+          numbered_miss pid_of e.0.pid q ps n ∙ e.1,
           e.2,
           ap (λ (b : Bool). returned_by b s q ps (returned pid s ps)) t ∙ ap (λ (l : List Process). q ∷ l) e.3
-              ∙ sym (ap (λ (b : Bool). replaced_by b (record e.0 { holding = Holds s }) q ps (replaced ps (record e.0 { holding = Holds s }))) (Rattle.kernel_laws.proofs.Flat.Numbered.not_eq q.pid e.0.pid n)),
+              ∙ sym (ap (λ (b : Bool). replaced_by b (record e.0 { holding = Holds s }) q ps (replaced ps (record e.0 { holding = Holds s }))) (Rattle.std.proofs.lemmas.Bool.ne_eqb q.pid e.0.pid n)),
         ))
   ]
 ]
@@ -243,7 +240,7 @@ pub returned_own : (ps : List Process) (pid : ℕ) (s : Space) (q : Process) →
 returned_own ps pid s q d e h = elim (returned_either ps pid s d) [
   | inl i ↦ ap (numbered pid_of q.pid) i ∙ e
   | inr i ↦ ap (numbered pid_of q.pid) i.3 ∙ replaced_not ps (record i.0 { holding = Holds s }) q.pid
-      (λ j. (let same : q ≡ i.0 = some_is q i.0 (sym e ∙ ap (λ (n : ℕ). numbered pid_of n ps) j ∙ i.1) in let z : false ≡ true = sym h ∙ ap (λ (x : Process). lends_to pid x.holding) same ∙ i.2 in cc)) ∙ e
+      (λ j. (let same : q ≡ i.0 = same_Some q i.0 (sym e ∙ ap (λ (n : ℕ). numbered pid_of n ps) j ∙ i.1) in let z : false ≡ true = sym h ∙ ap (λ (x : Process). lends_to pid x.holding) same ∙ i.2 in cc)) ∙ e
 ]
 
 -- The end.
@@ -302,17 +299,6 @@ back_tidy flat pid q fp s n e h f par i z = returned_tidy (replaced flat.process
     (exchange flat.processes q fp flat.next_pid flat.next_sid flat.next_sid (tidy_of flat n) f par (loss flat.processes q fp s flat.next_sid h z))
     (none_absent sid_of s.sid (held (replaced flat.processes fp)) (held_now flat.processes fp s (held_at flat.processes q fp s f h n.sids) ∙ ap (numbered sid_of s.sid) z)) (own_below flat pid q s n e h)
 
-put_sid : (s : Space) (spot : Spot) (byte : ℕ) → (put_at s spot byte).sid ≡ s.sid
-put_sid s (spots.Text i) byte = refl
-put_sid s (spots.Data i) byte = refl
-put_sid s (spots.Stack i) byte = refl
-put_sid s spots.Below byte = refl
-put_sid s spots.Outside byte = refl
-
-pub puts_sid : (ws : List ByteWrite) (s : Space) → (puts s ws).sid ≡ s.sid
-puts_sid [] s = refl
-puts_sid (w ∷ ws) s = puts_sid ws (put s w) ∙ put_sid s (address_in s w.address) w.byte
-
 pub writes_numbered : (flat : FlatState) (pid : ℕ) (ws : List ByteWrite) (q : Process) (s : Space) → process_of flat pid ≡ Some q → q.holding ≡ Holds s → IsNumbered flat → IsNumbered (apply_writes flat pid ws)
 unfolding apply_writes
 writes_numbered flat pid ws q s e h n = subst IsNumbered (sym (ap (wrote_if flat ws) e ∙ ap (wrote_by flat q ws) h))
@@ -339,8 +325,8 @@ reaped flat child status z e h n = of_tidy (without_process flat child) (record 
 
     same : held (filter (λ (x : Process). not (x.pid == child)) flat.processes) ≡ held flat.processes
     same = held_filter (λ (x : Process). not (x.pid == child)) flat.processes n.pids
-        (λ x f t. let i : x.pid ≡ child = Rattle.kernel_laws.proofs.Flat.Numbered.eq_is x.pid child (off (x.pid == child) t) in
-        ap (λ (y : Process). space_held y.holding) (some_is x z (sym f ∙ ap (λ (m : ℕ). numbered pid_of m flat.processes) i ∙ sym (found_is flat.processes child) ∙ e)) ∙ ap space_held h)
+        (λ x f t. let i : x.pid ≡ child = Rattle.std.proofs.lemmas.Bool.eqb-true x.pid child (off (x.pid == child) t) in
+        ap (λ (y : Process). space_held y.holding) (same_Some x z (sym f ∙ ap (λ (m : ℕ). numbered pid_of m flat.processes) i ∙ sym (found_is flat.processes child) ∙ e)) ∙ ap space_held h)
 
 pub changes_numbered : (images : List NamedImage) (flat : FlatState) (pid : ℕ) (regs : Regs) (change : Change) (q : Process) (s : Space) → process_of flat pid ≡ Some q → q.holding ≡ Holds s → NamesChild flat change → IsNumbered flat → IsNumbered (apply_change images flat pid regs change)
 changes_numbered images flat pid regs change q s e h m n = subst IsNumbered (sym (applied images flat pid regs change q s e h)) (go change m)
@@ -361,7 +347,7 @@ changes_numbered images flat pid regs change q s e h m n = subst IsNumbered (sym
         own_pid [] next b f = none_some q f
         own_pid (x ∷ ps) next b f = elim (cases_eq x.pid q.pid) [
           | inl i ↦ (let y = b.0 in omega arith)
-          | inr d ↦ own_pid ps next b.1 (sym (miss pid_of q.pid x ps d) ∙ f)
+          | inr d ↦ own_pid ps next b.1 (sym (numbered_miss pid_of q.pid x ps d) ∙ f)
         ]
 
     -- the spaces without that of the process
@@ -376,7 +362,7 @@ changes_numbered images flat pid regs change q s e h m n = subst IsNumbered (sym
         let l : s.sid < flat.next_sid = own_below flat pid q s n e h in
         of_tidy (record (Rattle.flat_state.specs.Change.given_back (with_process flat fp) q.pid s) { next_sid = flat.next_sid + 1 })
         (returned_tidy (replaced flat.processes fp) q.pid s flat.next_pid (flat.next_sid + 1) t
-        (none_absent sid_of s.sid (held (replaced flat.processes fp)) (held_now flat.processes fp s (held_at flat.processes q fp s found h n.sids) ∙ miss sid_of s.sid z [] (λ j. absurd (let y = i in omega arith)))) (omega arith))
+        (none_absent sid_of s.sid (held (replaced flat.processes fp)) (held_now flat.processes fp s (held_at flat.processes q fp s found h n.sids) ∙ numbered_miss sid_of s.sid z [] (λ j. absurd (let y = i in omega arith)))) (omega arith))
 
     go : (change : Change) → NamesChild flat change → IsNumbered (changed images flat p s change)
     go Keep m = same_numbered flat q p found refl refl n
@@ -401,7 +387,7 @@ changes_numbered images flat pid regs change q s e h m n = subst IsNumbered (sym
     go (Reap child) m = same_numbered (without_process flat child) q p (Rattle.kernel_laws.proofs.Flat.Numbered.removed_not pid_of q.pid child flat.processes other ∙ found) refl refl (reaped flat child m.1 m.0 m.2 m.3 n)
       where
         other : q.pid ≢ child
-        other i = let same : q ≡ m.0 = some_is q m.0 (sym found ∙ ap (λ (x : ℕ). numbered pid_of x flat.processes) i ∙ sym (found_is flat.processes child) ∙ m.2) in
+        other i = let same : q ≡ m.0 = same_Some q m.0 (sym found ∙ ap (λ (x : ℕ). numbered pid_of x flat.processes) i ∙ sym (found_is flat.processes child) ∙ m.2) in
             let z : Holds s ≡ Zombie m.1 = sym h ∙ ap (λ (x : Process). x.holding) same ∙ m.3 in cc
     go (End status) m =
         let fp : Process = record p { holding = Zombie status } in

@@ -14,7 +14,7 @@ use Rattle.swap_book.specs.Placing.{Wanted, wanted, and_then, place_all}
 use Rattle.swap_book.proofs.GrowthLaws.{place_all-append}
 use Rattle.flat_state.specs.Flat.{Process, FlatState, NamedImage, Inputs, image_numbered, start_if, start_process, start_processes, start_state, spaces_of}
 use Rattle.page_model.specs.Pages.{SpacePages, TextPages, numbered, data_in, stack_in, text_in}
-use Rattle.page_model.specs.Frames.{times}
+use Rattle.vm_facts.specs.Lists.{times}
 use Rattle.page_model.specs.Placement.{Placement, Residence, Due, Start, CopyOf, Starting, IsThere, due_at, image_number, space_number, slots_of, slot_of, state_of, filling_of, sharers, sharers_in, new_pages, spaces_from, residents_from, due_from, start_placement}
 use Rattle.page_model.specs.Place.{enter_space, facts_of}
 use Rattle.page_model.specs.Conditions.{IsNew}

@@ -1,17 +1,19 @@
 -- Who lent a space to whom, in the machine as in the flat state.
 use Rattle.std.proofs.Common.{◌≡◌, ◌≢◌, ℕ, ◌||◌, Bool, true, false, cond, List, [], ◌∷◌, map, Some, refl, sym, ap, ap₂, ◌∙◌, subst}
 use Rattle.flat_state.specs.Flat.{Holding, Holds, Lends, Zombie, Process, FlatState}
-use Rattle.flat_state.specs.Change.{lends_to}
+use Rattle.flat_state.specs.Change.{lends_to, is_borrower}
 use Rattle.flat_state.specs.Numbers.{IsAbsent, AllDistinct, IsNumbered}
 use Rattle.flat_state.specs.Lenders.{IsLender}
 use Rattle.page_model.specs.Pages.{numbered}
-use Rattle.page_model.specs.Place.{is_borrower}
 use Rattle.kernel_model.specs.Kernel.{Kernel, Proc, life_of}
 use Rattle.kernel_model.specs.Coupled.{Outline, outline_of, outline_kept, SameTables}
 use Rattle.kernel_model.specs.Unit.{lends_life, lender_among, has_lender}
-use Rattle.page_laws.proofs.Lists.Local.{none_some, some_is}
+use Rattle.page_laws.proofs.Lists.Local.{none_some}
+use Rattle.std.proofs.lemmas.Option.{same_Some}
 use Rattle.kernel_laws.proofs.Flat.Lists.{pid_of, found_is}
-use Rattle.kernel_laws.proofs.Flat.Numbered.{hit, miss, absent_none, eq_self}
+use Rattle.kernel_laws.proofs.Flat.Numbered.{absent_none}
+use Rattle.page_laws.proofs.Lists.Pages.{numbered_hit, numbered_miss}
+use Rattle.vm_facts.proofs.Tests.{eq_self}
 
 lends_is : (pid : ℕ) (h : Holding) → lends_life pid (life_of h) ≡ lends_to pid h
 lends_is pid (Holds s) = refl
@@ -52,12 +54,12 @@ lender_flat (p ∷ ps) pid m d e t only = ap (λ (b : Bool). cond b p.pid (lende
   where
     go : (numbered pid_of m.pid ps ≡ Some m → lends_to pid m.holding ≡ true → ((x : Process) → numbered pid_of x.pid ps ≡ Some x → lends_to pid x.holding ≡ true → x.pid ≡ m.pid) → lender_in (map outline_of ps) pid ≡ m.pid)
         → (b : Bool) → lends_to pid p.holding ≡ b → cond b p.pid (lender_in (map outline_of ps) pid) ≡ m.pid
-    go later true y = only p (hit pid_of p.pid p ps refl) y
-    go later false y = later (sym (miss pid_of m.pid p ps other) ∙ e) t
-        (λ x f l. only x (miss pid_of x.pid p ps (λ i. none_some x (sym (absent_none pid_of x.pid ps (subst (λ (n : ℕ). IsAbsent n (map pid_of ps)) i d.0)) ∙ f)) ∙ f) l)
+    go later true y = only p (numbered_hit pid_of p.pid p ps refl) y
+    go later false y = later (sym (numbered_miss pid_of m.pid p ps other) ∙ e) t
+        (λ x f l. only x (numbered_miss pid_of x.pid p ps (λ i. none_some x (sym (absent_none pid_of x.pid ps (subst (λ (n : ℕ). IsAbsent n (map pid_of ps)) i d.0)) ∙ f)) ∙ f) l)
       where
         other : p.pid ≢ m.pid
-        other i = let same : p ≡ m = some_is p m (sym (hit pid_of m.pid p ps i) ∙ e) in let z : false ≡ true = sym y ∙ ap (λ (r : Process). lends_to pid r.holding) same ∙ t in cc
+        other i = let same : p ≡ m = same_Some p m (sym (numbered_hit pid_of m.pid p ps i) ∙ e) in let z : false ≡ true = sym y ∙ ap (λ (r : Process). lends_to pid r.holding) same ∙ t in cc
 
 pub lender_is : (k : Kernel) (flat : FlatState) (pid sid : ℕ) (m : Process) → SameTables k flat → IsNumbered flat → IsLender flat pid sid m → lender_among k.processes pid ≡ m.pid
 lender_is k flat pid sid m t n is =

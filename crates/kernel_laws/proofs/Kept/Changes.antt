@@ -10,12 +10,12 @@ use Rattle.flat_state.specs.Flat.{Holds, Process, FlatState, NamedImage, process
 use Rattle.flat_state.specs.Journal.{append}
 use Rattle.flat_state.specs.Numbers.{IsNumbered}
 use Rattle.flat_state.specs.Lenders.{IsLender}
-use Rattle.flat_state.specs.Change.{apply_change, NamesChild}
+use Rattle.flat_state.specs.Change.{apply_change, NamesChild, is_borrower}
 use Rattle.flat_state.specs.declared.change.Change.{Change}
 use Rattle.flat_state.specs.declared.change.Change.TheVariants.{Keep, Resize, Fork, Lend, Exec, Reap, Sleep, End}
 use Rattle.page_model.specs.Pages.{numbered}
 use Rattle.page_model.specs.Placement.{Placement}
-use Rattle.page_model.specs.Place.{is_borrower, place_change, facts_of}
+use Rattle.page_model.specs.Place.{place_change, facts_of}
 use Rattle.page_model.specs.Conditions.{HaveParts, CanChange, MayForget, ApartFrom}
 use Rattle.page_model.specs.Dues.{DueStand}
 use Rattle.page_model.specs.Ownership.{OneOwner}

@@ -28,7 +28,8 @@ use Rattle.page_laws.proofs.Due.Entries.{run_in_due}
 use Rattle.page_laws.proofs.Moves.Parts.{run_some}
 use Rattle.page_laws.proofs.Moves.Transfers.{entry_count}
 use Rattle.page_laws.proofs.Moves.Units.{unit_is}
-use Rattle.page_laws.proofs.Swapper.PuttingOut.{unit_case, unit_can, unit_few, not_full}
+use Rattle.page_laws.proofs.Swapper.PuttingOut.{unit_case, unit_can, unit_few}
+use Rattle.std.proofs.lemmas.Bool.{leb-false}
 use Rattle.page_laws.proofs.Swapper.PuttingOut as out
 
 pub read_allowed : (size : ℕ) (images : List NamedImage) (m : KernelState) (q : Page) → Invariant size images m → CanEnter m.kernel.place q → ReadsFrom m.kernel.place (source_for (state_of m.kernel.place q)) q q → NotDue m.kernel.place.due q → IsShared m.kernel.place q
@@ -99,7 +100,7 @@ serve_allowed size images m locked read q now e i there shared due are h =
 
     reads : (full : Bool) → is_full p ≡ full → 0 < length p.free → frame_of (state_of p q) ≡ None → ReadsFrom p (source_for (state_of p q)) q q → P (read_entry_if p q full)
     reads true f some n r = are
-    reads false f some n r = read_allowed size images m q i (record { there = there; frameless = n }) r due shared some (not_full (length p.transfers) f)
+    reads false f some n r = read_allowed size images m q i (record { there = there; frameless = n }) r due shared some (leb-false 16 (length p.transfers) f)
 
     bring : (s : PageState) (x : Filling) → state_of p q ≡ s → filling_of p q ≡ x → frame_of s ≡ None → 0 < length p.free → P (bring_entry_by p q s x (is_full p))
     bring Unfilled Zeros y z n some = record { there = there; unfilled = y; zeros = z; own = subst IsNoCopy (sym due) tt; once = not_again p.due q due; some = some }

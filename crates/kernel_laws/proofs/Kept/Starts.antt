@@ -35,7 +35,7 @@ starts_live images (m ∷ ns) (x ∷ first) pid n (named, e, i, f, more) =
     go true ih = refl
     go false ih = ih
 
-kept_pids : (ps : List Process) → map (λ (p : Proc). p.pid) (map kept_of ps) ≡ map (λ (p : Process). p.pid) ps
+pub kept_pids : (ps : List Process) → map (λ (p : Proc). p.pid) (map kept_of ps) ≡ map (λ (p : Process). p.pid) ps
 kept_pids [] = refl
 kept_pids (p ∷ ps) = ap (λ (l : List ℕ). p.pid ∷ l) (kept_pids ps)
 

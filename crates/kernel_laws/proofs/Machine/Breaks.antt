@@ -2,8 +2,10 @@
 use Rattle.std.proofs.Common.{◌≡◌, ◌≢◌, ◌⊎◌, inl, inr, ℕ, ◌+◌, ◌-◌, ◌*◌, ◌<◌, ◌≤◌, min, Bool, true, false, List, [], ◌∷◌, ◌++◌, length, take, drop, map, Option, Some, None, refl, sym, ap, ◌∙◌, subst, arith, length-append}
 use Rattle.std.specs.Prelude.{replicate}
 use Rattle.std.proofs.lemmas.Bool.{cases_eq, cases_Bool}
-use Rattle.std.proofs.lemmas.List.{length-take, length-replicate, take_all, drop-append-le, take-append-le, drop-replicate, take-replicate}
+use Rattle.std.proofs.lemmas.List.{take_all, drop-append-le, take-append-le, drop-replicate, take-replicate}
 use Rattle.std.proofs.Math.Seq.{drop-append-add}
+use Rattle.vm_facts.proofs.Tests.{cases_le}
+use Rattle.flat_state.proofs.SpaceLaws.{length-resized_bytes}
 use Rattle.flat_state.specs.Space.{Space}
 use Rattle.flat_state.specs.Flat.{Holds, Process, FlatState, NamedImage, process_of, image_numbered, spaces_of}
 use Rattle.vm_facts.specs.declared.page.Page.{Page}
@@ -35,11 +37,10 @@ use Rattle.kernel_model.specs.Coupled.{Fits, AllFit, Coupled, outline_kept, outl
 use Rattle.kernel_model.specs.Kernel.{Kernel, Proc, HoldsSpace}
 use Rattle.page_model.specs.Stored.{stored_at}
 use Rattle.kernel_model.specs.ChangeStep.{change_step}
-use Rattle.page_laws.proofs.Lists.Pages.{mapped, changed_same, changed_other}
-use Rattle.page_laws.proofs.Blocks.Places.{before}
+use Rattle.page_laws.proofs.Lists.Pages.{mapped, changed_same, changed_other, numbered_hit, numbered_miss}
+use Rattle.vm_facts.proofs.Swap.{before}
 use Rattle.page_laws.proofs.Ownership.Changes.{dropped_pages}
 use Rattle.page_laws.proofs.Bytes.Changes.{cut, length_sized, data_bound, stack_bound, resize_coupled}
-use Rattle.kernel_laws.proofs.Flat.Numbered.{hit, miss}
 use Rattle.kernel_laws.proofs.Flat.Lists.{pid_of, sid_of, replaced_at, replaced_not, HeldAt, held_at, held_own, held_other, held_now}
 use Rattle.kernel_laws.proofs.Machine.Shapes.{Shaped, fit_shaped, drop_all_shaped, image_kept, sizes_kept}
 use Rattle.kernel_laws.proofs.Machine.Moves.{u_stored}
@@ -51,15 +52,8 @@ use Rattle.kernel_laws.proofs.Machine.Processes.{with_at, with_not, with_replace
 
 -- Bytes of a segment of another size.
 
-le_or : (a b : ℕ) → (a ≤ b) ⊎ (b < a)
-le_or a b = grind arith
-
-pub resized_length : (m : ℕ) (bytes : List ℕ) → length (resized_bytes m bytes) ≡ 1024 * m
-resized_length m bytes = length-append (take (1024 * m) bytes) (replicate (1024 * m - length bytes) 0)
-    ∙ (let a = length-take (1024 * m) bytes in let b = length-replicate {A = ℕ} (1024 * m - length bytes) 0 in omega arith)
-
 pub resized_old : (v m n : ℕ) (bytes : List ℕ) → length bytes ≡ 1024 * n → v < n → v < m → page_at v (resized_bytes m bytes) ≡ page_at v bytes
-resized_old v m n bytes l a b = elim (le_or m n) [
+resized_old v m n bytes l a b = elim (cases_le m n) [
   | inl h ↦ before bytes (replicate (1024 * m - length bytes) 0) (1024 * m) (1024 * v) 1024 (omega arith) (omega arith)
   | inr h ↦ ap (λ (xs : List ℕ). take 1024 (drop (1024 * v) (xs ++ replicate (1024 * m - length bytes) 0))) (take_all (1024 * m) bytes (omega arith))
       ∙ ap (take 1024) (drop-append-le (1024 * v) bytes (replicate (1024 * m - length bytes) 0) (omega arith))
@@ -126,8 +120,8 @@ pub fit_cut : (s : Space) (o : Option SpacePages) (d t : ℕ) → Fits (Some s) 
 fit_cut s None d t f = absurd f
 fit_cut s (Some x) d t f = record {
   image = f.image;
-  data_size = resized_length d s.data_bytes ∙ ap (λ (n : ℕ). 1024 * n) (sym (length_sized d x.data_pages));
-  stack_size = resized_length t s.stack_bytes ∙ ap (λ (n : ℕ). 1024 * n) (sym (length_sized t x.stack_pages));
+  data_size = length-resized_bytes d s.data_bytes ∙ ap (λ (n : ℕ). 1024 * n) (sym (length_sized d x.data_pages));
+  stack_size = length-resized_bytes t s.stack_bytes ∙ ap (λ (n : ℕ). 1024 * n) (sym (length_sized t x.stack_pages));
 }
 
 -- Growth and break.
@@ -170,10 +164,10 @@ resize_coupled_step k images image flat pid regs e d t q s nums outs due f h out
     held_here = held_at flat.processes q fp s found h nums.sids
 
     own : numbered sid_of s.sid (spaces_of after) ≡ Some z
-    own = held_now flat.processes fp s held_here ∙ hit sid_of s.sid z [] refl
+    own = held_now flat.processes fp s held_here ∙ numbered_hit sid_of s.sid z [] refl
 
     other : (n : ℕ) → n ≢ s.sid → numbered sid_of n (spaces_of after) ≡ numbered sid_of n (spaces_of flat)
-    other n m = held_other flat.processes fp s n held_here m (miss sid_of n z [] (λ i. m (sym i)))
+    other n m = held_other flat.processes fp s n held_here m (numbered_miss sid_of n z [] (λ i. m (sym i)))
 
     was : numbered sid_of s.sid (spaces_of flat) ≡ Some s
     was = held_own flat.processes fp s held_here

@@ -21,10 +21,12 @@ use Rattle.page_model.specs.PageBytes.{Bytes, IfSaved, bytes_in, source_bytes, B
 use Rattle.kernel_model.specs.Kernel.{Kernel, frame_bytes, store_all, image_after, image_after_of, image_after_by, landed, landed_by, plain_step, done_step}
 use Rattle.kernel_model.specs.Coupled.{Coupled, Fits, SameTables, AreRead, AreReadBy, text_of, memory_of, data_bytes_in, stack_bytes_in, beside_kernel}
 use Rattle.kernel_model.specs.Sound.{Sound, TextFits, lives}
-use Rattle.page_model.specs.Stored.{stored, stored_at, store_at, put_blocks}
+use Rattle.page_model.specs.Stored.{stored, store_at}
+use Rattle.vm_facts.specs.Swap.{put_blocks}
 use Rattle.page_laws.proofs.Moves.Steps.{page_in}
 use Rattle.page_laws.proofs.Blocks.Aside.{places_found}
-use Rattle.page_laws.proofs.Blocks.Places.{page_within, length_put, blocks_put_other}
+use Rattle.page_laws.proofs.Blocks.Places.{page_within, stored_other}
+use Rattle.vm_facts.proofs.Swap.{length-put_blocks}
 use Rattle.kernel_laws.proofs.Machine.Images.{CanStore, AllStore, written_bytes, read_bytes}
 use Rattle.page_laws.proofs.Bytes.Pages.{keeps_at}
 use Rattle.page_laws.proofs.Bytes.Runs.{done_coupled}
@@ -109,10 +111,6 @@ u_apart size hs q pid x y book e h =
     other (Stack sid v) e = cc
     other (Text image v) e = cc
 
-pub stored_apart : (image bytes : List ℕ) (x : ℕ) (o : Option ℕ) → 512 * x + 1024 ≤ length image → length bytes ≡ 1024 → ((y : ℕ) → o ≡ Some y → (x + 2 ≤ y) ⊎ (y + 2 ≤ x)) → stored_at (put_blocks image x bytes) o ≡ stored_at image o
-stored_apart image bytes x None l lb n = refl
-stored_apart image bytes x (Some y) l lb n = blocks_put_other image bytes x y l lb (n y refl)
-
 -- A write keeps the image's length, and all u pages.
 record Writing (k : Kernel) (before after : List ℕ) : Type 0 where
   pub whole : length after ≡ length before
@@ -124,12 +122,12 @@ all_written (x ∷ xs) size k image book l a =
     let c : CanStore k x = a.0 in
     let w = page_within size k.holdings x.page c.block book c.found in
     let put : store_at image (block_of k.holdings x.page) (frame_bytes k x.frame) ≡ put_blocks image c.block (frame_bytes k x.frame) = ap (λ (o : Option ℕ). store_at image o (frame_bytes k x.frame)) c.found in
-    let same : length (store_at image (block_of k.holdings x.page) (frame_bytes k x.frame)) ≡ length image = ap length put ∙ length_put image (frame_bytes k x.frame) c.block (omega arith) c.whole in
+    let same : length (store_at image (block_of k.holdings x.page) (frame_bytes k x.frame)) ≡ length image = ap length put ∙ length-put_blocks image (frame_bytes k x.frame) c.block (omega arith) c.whole in
     let more : Writing k (store_at image (block_of k.holdings x.page) (frame_bytes k x.frame)) (store_all k image (x ∷ xs)) = all_written xs size k (store_at image (block_of k.holdings x.page) (frame_bytes k x.frame)) book (omega arith) a.1 in
     record {
       whole = more.whole ∙ same;
       u_pages = λ pid. more.u_pages pid ∙ ap (λ (i : List ℕ). u_stored k i pid) put
-          ∙ stored_apart image (frame_bytes k x.frame) c.block (block_in k.holdings (owners.U pid) 0) (omega arith) c.whole (λ y h. u_apart size k.holdings x.page pid c.block y book c.found h);
+          ∙ stored_other image (frame_bytes k x.frame) c.block (block_in k.holdings (owners.U pid) 0) (omega arith) c.whole (λ y h. u_apart size k.holdings x.page pid c.block y book c.found h);
     }
 
 -- Done.

@@ -1,6 +1,6 @@
 -- The end of a process keeps the whole machine coupled.
 use Rattle.std.proofs.Common.{◌≡◌, ◌≢◌, ◌⊎◌, inl, inr, ℕ, ◌==◌, ◌&&◌, Bool, true, false, cond, not, List, [], ◌∷◌, ◌++◌, map, filter, Option, Some, None, refl, sym, ap, ◌∙◌, subst}
-use Rattle.std.proofs.lemmas.Bool.{cases_eq, cases_Bool}
+use Rattle.std.proofs.lemmas.Bool.{cases_eq, cases_Bool, eqb-true, ne_eqb}
 use Rattle.flat_state.specs.Space.{Space}
 use Rattle.flat_state.specs.Flat.{Holding, Holds, Lends, Zombie, Process, FlatState, NamedImage, process_of, image_numbered, spaces_of, space_held}
 use Rattle.vm_facts.specs.declared.page.Page.{Page}
@@ -11,11 +11,11 @@ use Rattle.aout_image.specs.Image.{page_at}
 use Rattle.swap_book.specs.declared.Owner.TheVariants as owners
 use Rattle.swap_book.specs.Holdings.{kept}
 use Rattle.flat_state.specs.declared.change.Change.TheVariants.{End}
-use Rattle.flat_state.specs.Change.{with_process, replaced, returned, is_zombie, is_zombie_child, without_parent, orphaned, awake, woken, left, ended, without_process, apply_change}
+use Rattle.flat_state.specs.Change.{with_process, replaced, returned, is_zombie, is_zombie_child, without_parent, orphaned, awake, woken, left, ended, without_process, apply_change, is_borrower}
 use Rattle.flat_state.specs.Journal.{append}
 use Rattle.page_model.specs.Pages.{numbered}
 use Rattle.page_model.specs.Placement.{Placement, Residence, Due, due_at, space_number, image_of, sharers, IsThere}
-use Rattle.page_model.specs.Place.{give_up_unless, end_residence, space_of_holding, is_borrower, facts_of}
+use Rattle.page_model.specs.Place.{give_up_unless, end_residence, space_of_holding, facts_of}
 use Rattle.page_model.specs.Swapper.{is_out, residence_of}
 use Rattle.page_model.specs.Conditions.{IsSettled, MayForget}
 use Rattle.page_model.specs.Ownership.{OwnsFrames, OneOwner, TextAside, owner_of}
@@ -27,11 +27,15 @@ use Rattle.kernel_model.specs.Kernel.{Kernel, Proc, HoldsSpace, Ended, life_of}
 use Rattle.kernel_model.specs.Sound.{Sound, lives}
 use Rattle.page_model.specs.Stored.{stored, stored_at}
 use Rattle.kernel_model.specs.ChangeStep.{with_proc, without_proc, is_ended, orphaned_procs, woken_procs, left_procs, given_back_unless, change_step}
-use Rattle.page_laws.proofs.Lists.Local.{none_some, some_is}
+use Rattle.page_laws.proofs.Lists.Local.{none_some}
+use Rattle.std.proofs.lemmas.Option.{same_Some}
+use Rattle.kernel_laws.proofs.Sound.Changes.{with_number}
 use Rattle.page_laws.proofs.Bytes.Couples.{NoCopy}
 use Rattle.page_laws.proofs.Blocks.Changes.{place_change_aside}
 use Rattle.page_laws.proofs.Bytes.Runs.{still_coupled}
-use Rattle.kernel_laws.proofs.Flat.Numbered.{eq_is, eq_self, not_eq, hit, miss, has_number, numbered_map, mapped_some, only_if, numbered_filter, removed_is, removed_not}
+use Rattle.kernel_laws.proofs.Flat.Numbered.{has_number, numbered_map, mapped_some, only_if, numbered_filter, removed_is, removed_not}
+use Rattle.page_laws.proofs.Lists.Pages.{numbered_hit, numbered_miss}
+use Rattle.vm_facts.proofs.Tests.{eq_self}
 use Rattle.kernel_laws.proofs.Flat.Lists.{pid_of, sid_of, held, replaced_at, replaced_not, HeldAt, held_at, held_other, held_now}
 use Rattle.kernel_laws.proofs.Machine.Shapes.{fit_shapes, image_by_shape, sizes_by_shape}
 use Rattle.kernel_laws.proofs.Machine.Breaks.{block_kept}
@@ -40,7 +44,7 @@ use Rattle.kernel_laws.proofs.Machine.Swaps.{applied}
 use Rattle.kernel_laws.proofs.Machine.Still.{outline_is}
 use Rattle.kernel_laws.proofs.Machine.Gone.{Gone, gone_unless, gone_data, gone_stack, unless_coupled, unless_blocks, unless_u, OtherBytes, AsideText, other_coupled}
 use Rattle.kernel_laws.proofs.Machine.Execs.{returned_none, borrower_replaced}
-use Rattle.kernel_laws.proofs.Machine.Processes.{not_own_parent, with_replaced, removed_outlines, held_filter, distinct_filter, pids_same, other_space, Stepping, stepping, by_life, step_is, regs_carried}
+use Rattle.kernel_laws.proofs.Machine.Processes.{not_own_parent, with_replaced, removed_outlines, held_filter, distinct_filter, pids_same, other_space, Stepping, stepping, by_life, step_is, regs_carried, first_same}
 
 -- Children of a process that ends.
 
@@ -54,9 +58,6 @@ ended_same : (h : Holding) → is_ended (life_of h) ≡ is_zombie h
 ended_same (Holds s) = refl
 ended_same (Lends sid child) = refl
 ended_same (Zombie status) = refl
-
-first_same : (x y : Outline) (xs ys : List Outline) → x ∷ xs ≡ y ∷ ys → (x ≡ y) × (xs ≡ ys)
-first_same x y xs ys e = (cc, cc)
 
 -- in both tables the same children go, and the others have no parent
 pub orphaned_outlines : (ks : List Proc) (fs : List Process) (pid : ℕ) → map outline_kept ks ≡ map outline_of fs
@@ -108,9 +109,9 @@ NotOwn n pid (x ∷ xs) = (x.pid ≡ n → x.parent ≢ pid) × NotOwn n pid xs
 not_own : (ks : List Proc) (p : Proc) (n pid : ℕ) → AllDistinct (map kept_pid ks) → numbered kept_pid n ks ≡ Some p → p.parent ≢ pid → NotOwn n pid ks
 not_own [] p n pid d e h = tt
 not_own (x ∷ ks) p n pid d e h = elim (cases_eq x.pid n) [
-  | inl i ↦ (let same : x ≡ p = some_is x p (sym (hit kept_pid n x ks i) ∙ e) in
+  | inl i ↦ (let same : x ≡ p = same_Some x p (sym (numbered_hit kept_pid n x ks i) ∙ e) in
       ((λ _ y. h (ap (λ (z : Proc). z.parent) (sym same) ∙ y)), absent_own ks (subst (λ (m : ℕ). IsAbsent m (map kept_pid ks)) i d.0)))
-  | inr m ↦ ((λ i. absurd (m i)), not_own ks p n pid d.1 (sym (miss kept_pid n x ks m) ∙ e) h)
+  | inr m ↦ ((λ i. absurd (m i)), not_own ks p n pid d.1 (sym (numbered_miss kept_pid n x ks m) ∙ e) h)
 ]
   where
     absent_own : (ys : List Proc) → IsAbsent n (map kept_pid ys) → NotOwn n pid ys
@@ -123,12 +124,12 @@ orphan_with [] p pid n d = refl
 orphan_with (x ∷ ks) p pid n d = elim (cases_eq x.pid p.pid) [
   | inl i ↦ (let t : (x.pid == p.pid) ≡ true = ap (λ (m : ℕ). m == p.pid) i ∙ eq_self p.pid in
       ap (λ (b : Bool). map (orphan pid) (cond (stays pid (cond b p x)) (cond b p x ∷ filter (stays pid) (with_proc ks p)) (filter (stays pid) (with_proc ks p)))) t
-      ∙ ap (λ (b : Bool). map (orphan pid) (cond (not (b && is_ended p.life)) (p ∷ filter (stays pid) (with_proc ks p)) (filter (stays pid) (with_proc ks p)))) (not_eq p.parent pid d)
-      ∙ ap (λ (b : Bool). (let y : Proc = record p { parent = cond b 0 p.parent } in y) ∷ map (orphan pid) (filter (stays pid) (with_proc ks p))) (not_eq p.parent pid d)
+      ∙ ap (λ (b : Bool). map (orphan pid) (cond (not (b && is_ended p.life)) (p ∷ filter (stays pid) (with_proc ks p)) (filter (stays pid) (with_proc ks p)))) (ne_eqb p.parent pid d)
+      ∙ ap (λ (b : Bool). (let y : Proc = record p { parent = cond b 0 p.parent } in y) ∷ map (orphan pid) (filter (stays pid) (with_proc ks p))) (ne_eqb p.parent pid d)
       ∙ ap (λ (l : List Proc). p ∷ l) (orphan_with ks p pid n.1 d)
-      ∙ sym (ap (λ (b : Bool). with_proc (map (orphan pid) (cond (not (b && is_ended x.life)) (x ∷ filter (stays pid) ks) (filter (stays pid) ks))) p) (not_eq x.parent pid (n.0 i))
+      ∙ sym (ap (λ (b : Bool). with_proc (map (orphan pid) (cond (not (b && is_ended x.life)) (x ∷ filter (stays pid) ks) (filter (stays pid) ks))) p) (ne_eqb x.parent pid (n.0 i))
       ∙ ap (λ (b : Bool). cond b p (orphan pid x) ∷ with_proc (map (orphan pid) (filter (stays pid) ks)) p) t))
-  | inr m ↦ (let t : (x.pid == p.pid) ≡ false = not_eq x.pid p.pid m in
+  | inr m ↦ (let t : (x.pid == p.pid) ≡ false = ne_eqb x.pid p.pid m in
       ap (λ (b : Bool). map (orphan pid) (cond (stays pid (cond b p x)) (cond b p x ∷ filter (stays pid) (with_proc ks p)) (filter (stays pid) (with_proc ks p)))) t
       ∙ by (stays pid x) t (orphan_with ks p pid n.1 d))
 ]
@@ -225,16 +226,9 @@ orphan_kept ks pid n b d e =
     mapped_some (orphan pid) (numbered kept_pid n (filter (stays pid) ks)) b (sym (numbered_map kept_pid (orphan pid) (λ x. refl) n (filter (stays pid) ks)) ∙ e) in
     (m.0, only_some (stays pid) (numbered kept_pid n ks) m.0 (sym (numbered_filter kept_pid n (stays pid) ks d) ∙ m.1), ap (λ (x : Proc). x.regs) (sym m.2))
 
-with_pid : (p q : Proc) → (cond (q.pid == p.pid) p q).pid ≡ q.pid
-with_pid p q = go (q.pid == p.pid) refl
-  where
-    go : (b : Bool) → (q.pid == p.pid) ≡ b → (cond b p q).pid ≡ q.pid
-    go true e = sym (eq_is q.pid p.pid e)
-    go false e = refl
-
 pub with_pids : (ks : List Proc) (p : Proc) → map kept_pid (with_proc ks p) ≡ map kept_pid ks
 with_pids [] p = refl
-with_pids (x ∷ ks) p = ap (λ (m : ℕ). m ∷ map kept_pid (with_proc ks p)) (with_pid p x) ∙ ap (λ (y : List ℕ). x.pid ∷ y) (with_pids ks p)
+with_pids (x ∷ ks) p = ap (λ (m : ℕ). m ∷ map kept_pid (with_proc ks p)) (with_number p x) ∙ ap (λ (y : List ℕ). x.pid ∷ y) (with_pids ks p)
 
 pub end_kept : (c : Bool) (ks : List Proc) (p : Proc) (status n : ℕ) (b : Proc) → AllDistinct (map kept_pid ks) → numbered kept_pid n (left_procs c (orphaned_procs ks p.pid) p status) ≡ Some b → WasKept ks p n b
 end_kept true ks p status n b d e = record {
@@ -246,7 +240,7 @@ end_kept false ks p status n b d e = record {
   other = λ m. let y = orphan_kept ks p.pid n v.0 d v.1 in (
     y.0,
     y.1,
-    ap (λ (x : Proc). x.regs) (sym w.2) ∙ ap (λ (x : Proc). x.regs) (sym v.2) ∙ ap (λ (t : Bool). (cond t z v.0).regs) (not_eq v.0.pid p.pid (λ i. m (sym (has_number kept_pid n (orphaned_procs ks p.pid) v.0 v.1) ∙ i))) ∙ y.2,
+    ap (λ (x : Proc). x.regs) (sym w.2) ∙ ap (λ (x : Proc). x.regs) (sym v.2) ∙ ap (λ (t : Bool). (cond t z v.0).regs) (ne_eqb v.0.pid p.pid (λ i. m (sym (has_number kept_pid n (orphaned_procs ks p.pid) v.0 v.1) ∙ i))) ∙ y.2,
   );
 }
   where
@@ -262,7 +256,7 @@ end_kept false ks p status n b d e = record {
 
     v : (y : Proc) × (numbered kept_pid n (orphaned_procs ks p.pid) ≡ Some y) × (cond (y.pid == p.pid) z y ≡ w.0)
     v = mapped_some (λ (q : Proc). cond (q.pid == z.pid) z q) (numbered kept_pid n (orphaned_procs ks p.pid)) w.0
-        (sym (numbered_map kept_pid (λ (q : Proc). cond (q.pid == z.pid) z q) (with_pid z) n (orphaned_procs ks p.pid)) ∙ w.1)
+        (sym (numbered_map kept_pid (λ (q : Proc). cond (q.pid == z.pid) z q) (with_number z) n (orphaned_procs ks p.pid)) ∙ w.1)
 
 -- Spaces behind the end.
 
@@ -297,9 +291,9 @@ orphans_distinct ps pid d = subst AllDistinct (sym (pids_map (without_parent pid
 -- the end leaves the spaces of all others, where the process itself holds none any more
 pub end_held : (b : Bool) (ps : List Process) (q : Process) (pid parent : ℕ) → AllDistinct (map pid_of ps) → numbered pid_of pid ps ≡ Some q → space_held q.holding ≡ [] → held (left_flat b (orphans pid ps) pid parent) ≡ held ps
 end_held true ps q pid parent d e h = held_filter (λ (x : Process). not (x.pid == pid)) (orphans pid ps) (orphans_distinct ps pid d)
-    (λ x f t. let i : x.pid ≡ pid = eq_is x.pid pid (off (x.pid == pid) t) in
+    (λ x f t. let i : x.pid ≡ pid = eqb-true x.pid pid (off (x.pid == pid) t) in
     let w : WasFlat ps x.pid x = orphan_was ps pid x.pid x d f in
-    ap space_held w.holding ∙ ap (λ (y : Process). space_held y.holding) (some_is w.before q (sym w.found ∙ ap (λ (n : ℕ). numbered pid_of n ps) i ∙ e)) ∙ h) ∙ orphans_held ps pid d
+    ap space_held w.holding ∙ ap (λ (y : Process). space_held y.holding) (same_Some w.before q (sym w.found ∙ ap (λ (n : ℕ). numbered pid_of n ps) i ∙ e)) ∙ h) ∙ orphans_held ps pid d
   where
     off : (b : Bool) → not b ≡ false → b ≡ true
     off true e = refl
@@ -314,7 +308,7 @@ out_ended (r ∷ rs) pid n d = go (r.pid == pid) refl (out_ended rs pid n d)
   where
     go : (b : Bool) → (r.pid == pid) ≡ b → (residence_of (filter (λ (r : Residence). not (r.pid == pid)) rs) n).out ≡ (residence_of rs n).out
         → (residence_of (cond (not b) (r ∷ filter (λ (r : Residence). not (r.pid == pid)) rs) (filter (λ (r : Residence). not (r.pid == pid)) rs)) n).out ≡ (residence_of (r ∷ rs) n).out
-    go true e ih = ih ∙ sym (ap (λ (b : Bool). (cond b r (residence_of rs n)).out) (not_eq r.pid n (λ i. d (sym i ∙ eq_is r.pid pid e))))
+    go true e ih = ih ∙ sym (ap (λ (b : Bool). (cond b r (residence_of rs n)).out) (ne_eqb r.pid n (λ i. d (sym i ∙ eqb-true r.pid pid e))))
     go false e ih = head (r.pid == n)
       where
         head : (b : Bool) → (cond b r (residence_of (filter (λ (r : Residence). not (r.pid == pid)) rs) n)).out ≡ (cond b r (residence_of rs n)).out
@@ -504,7 +498,7 @@ end_coupled_step size k images image flat pid regs e status q s so nums outs due
       | inl i ↦ λ a b ea eb.
           let w : WasFlat rs m a = end_was (q.parent == 0) rs q.pid q.parent m a distinct ea in
           let x : WasKept k.processes kp m b = end_kept (kp.parent == 0) k.processes kp status m b distinct_kept eb in
-          let same : w.before ≡ fp = some_is w.before fp (sym w.found ∙ ap (λ (n : ℕ). numbered pid_of n rs) (i ∙ pids) ∙ replaced_at flat.processes q fp found) in
+          let same : w.before ≡ fp = same_Some w.before fp (sym w.found ∙ ap (λ (n : ℕ). numbered pid_of n rs) (i ∙ pids) ∙ replaced_at flat.processes q fp found) in
           subst (λ (z : Bool). Rattle.kernel_model.specs.Coupled.KeepsRegs l image z a b.regs (space_of_holding a.holding)) (sym (ap (is_out l.place) i ∙ out_gone (give_up_unless false k.place s.sid).residents kp.pid))
           (x.own i ∙ ap (λ (y : Process). y.regs) (sym same) ∙ sym w.regs)
       | inr d ↦ regs_carried k l images image image flat after m c outs (record {

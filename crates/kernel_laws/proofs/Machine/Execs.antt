@@ -14,12 +14,12 @@ use Rattle.aout_image.specs.declared.Image.{Image}
 use Rattle.aout_image.specs.Image.{page_at, data_given, data_pages_of}
 use Rattle.swap_book.specs.Holdings.{Holdings}
 use Rattle.flat_state.specs.declared.change.Change.TheVariants.{Exec}
-use Rattle.flat_state.specs.Change.{with_process, replaced, replaced_by, returned, returned_by, entered, apply_change}
+use Rattle.flat_state.specs.Change.{with_process, replaced, replaced_by, returned, returned_by, entered, apply_change, is_borrower}
 use Rattle.flat_state.specs.Journal.{append}
 use Rattle.page_model.specs.Pages.{Zeros, OfImage, SpacePages, numbered, data_in, stack_in}
 use Rattle.flat_state.specs.PageNames.{same_page}
 use Rattle.page_model.specs.Placement.{Placement, Residence, Due, Start, due_at, space_number, slots_of, image_in, image_of, sharers, data_filling, new_pages, IsThere}
-use Rattle.page_model.specs.Place.{enter_space, enter_image, give_up_unless, place_change, is_borrower, facts_of}
+use Rattle.page_model.specs.Place.{enter_space, enter_image, give_up_unless, place_change, facts_of}
 use Rattle.page_model.specs.Swapper.{is_out, residence_of}
 use Rattle.page_model.specs.Conditions.{IsNew, IsSettled, MayForget}
 use Rattle.page_model.specs.Ownership.{OwnsFrames, OneOwner, TextAside}
@@ -31,13 +31,14 @@ use Rattle.kernel_model.specs.Kernel.{Kernel, Proc, StartBytes, HoldsSpace, star
 use Rattle.kernel_model.specs.Sound.{Sound, KeepsStarts, DataFits, is_start, has_start, lives}
 use Rattle.page_model.specs.Stored.{stored, stored_at}
 use Rattle.kernel_model.specs.ChangeStep.{with_proc, given_back_unless, change_step}
-use Rattle.page_laws.proofs.Lists.Pages.{same_page_self}
+use Rattle.flat_state.proofs.PageNames.{same_page_self}
 use Rattle.page_laws.proofs.Ownership.Changes.{added_other, added_same}
 use Rattle.page_laws.proofs.Ownership.Entries.{enter_image_owner, enter_settled}
 use Rattle.page_laws.proofs.Blocks.Changes.{place_change_aside}
 use Rattle.page_laws.proofs.Bytes.Couples.{NoCopy}
 use Rattle.page_laws.proofs.Bytes.Spaces.{apart_page, unfilled_length, enter_coupled}
-use Rattle.kernel_laws.proofs.Flat.Numbered.{hit, miss, pushed_new, pushed_old}
+use Rattle.kernel_laws.proofs.Flat.Numbered.{pushed_new, pushed_old}
+use Rattle.page_laws.proofs.Lists.Pages.{numbered_hit, numbered_miss}
 use Rattle.kernel_laws.proofs.Flat.Lists.{pid_of, sid_of, held, held-append, replaced_at, replaced_not, HeldAt, held_at, held_other, held_now, held_new}
 use Rattle.kernel_laws.proofs.Machine.Shapes.{fit_shapes, image_by_shape, sizes_by_shape}
 use Rattle.kernel_laws.proofs.Machine.Tables.{kept_pid, tables_of, RegsAt, coupled_of}
@@ -361,9 +362,9 @@ exec_coupled_step size before k images image flat pid regs e number top named q 
       image = im;
       fits = fit;
       whole = whole;
-      own = held_new flat.processes fp s n held_here (next_sid_none flat nums) ∙ hit sid_of n z [] refl;
-      other = λ m a b. held_other flat.processes fp s m held_here (b refl) (miss sid_of m z [] (λ i. a (sym i)));
-      gone = λ i. held_now flat.processes fp s held_here ∙ miss sid_of s.sid z [] apart;
+      own = held_new flat.processes fp s n held_here (next_sid_none flat nums) ∙ numbered_hit sid_of n z [] refl;
+      other = λ m a b. held_other flat.processes fp s m held_here (b refl) (numbered_miss sid_of m z [] (λ i. a (sym i)));
+      gone = λ i. held_now flat.processes fp s held_here ∙ numbered_miss sid_of s.sid z [] apart;
     }
 
     core : AllFit after l.place × CouplesPages l.place (beside_kernel l images image after)

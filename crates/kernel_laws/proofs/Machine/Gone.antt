@@ -1,18 +1,18 @@
 -- A space that is given up: what it leaves of spaces, residents, blocks and coupled pages.
-use Rattle.std.proofs.Common.{◌≡◌, ◌≢◌, ◌⊎◌, inl, inr, ℕ, zero, suc, ◌<◌, Bool, true, false, not, List, [], ◌∷◌, length, get_or, Option, Some, None, refl, sym, ap, ◌∙◌, subst, arith}
+use Rattle.std.proofs.Common.{◌≡◌, ◌≢◌, ◌⊎◌, inl, inr, ℕ, zero, suc, ◌<◌, Bool, true, false, not, List, [], length, get_or, Option, Some, None, refl, sym, ap, ◌∙◌, subst, arith}
 use Rattle.std.proofs.lemmas.Bool.{cases_eq}
+use Rattle.page_laws.proofs.Due.Changes.{leave_all_due}
 use Rattle.vm_facts.specs.declared.page.Page.{Page}
 use Rattle.vm_facts.specs.declared.page.Page.TheVariants.{Data, Stack, Text}
-use Rattle.vm_facts.specs.declared.page.PageState.{PageState}
-use Rattle.vm_facts.specs.declared.page.PageState.TheVariants.{Unfilled, Valid, Invalid, Coming, Going, OnSwap}
+use Rattle.vm_facts.specs.declared.page.PageState.TheVariants.{Invalid}
 use Rattle.swap_book.specs.declared.Owner.{Owner}
 use Rattle.swap_book.specs.declared.Owner.TheVariants as owners
 use Rattle.swap_book.specs.Holdings.{Holdings, block_in, kept}
 use Rattle.page_model.specs.Pages.{Slot, SpacePages, no_slot, numbered, data_in, stack_in, is_dirty_by}
 use Rattle.flat_state.specs.PageNames.{number_of}
 use Rattle.page_model.specs.Frames.{at_frame}
-use Rattle.page_model.specs.Placement.{Placement, Transfer, Due, space_number, slots_of, state_of, is_dirty, due_at, errand_at, parts_of, image_of, sharers, IsThere}
-use Rattle.page_model.specs.Moves.{drop_all, leave_page, leave_by, leave_all, listed}
+use Rattle.page_model.specs.Placement.{Placement, Transfer, Due, space_number, slots_of, is_dirty, due_at, errand_at, parts_of, image_of, sharers, IsThere}
+use Rattle.page_model.specs.Moves.{drop_all}
 use Rattle.page_model.specs.Place.{data_count, stack_count, data_from, stack_from, remove_space, pages_of_space, pages_of_text, leave_text, leave_text_by, give_up, give_up_unless}
 use Rattle.page_model.specs.Conditions.{IsSettled}
 use Rattle.page_model.specs.Ownership.{OwnsFrames, TextAside, IsAside, block_of}
@@ -26,7 +26,7 @@ use Rattle.page_laws.proofs.Bytes.Couples.{NoCopy, Unmoved}
 use Rattle.page_laws.proofs.Bytes.Pages.{keeps_at}
 use Rattle.page_laws.proofs.Bytes.Changes.{changed_coupled, drop_all_rest, removed_there, apart_data, apart_stack}
 use Rattle.page_laws.proofs.Bytes.Spaces.{leave_text_coupled}
-use Rattle.kernel_laws.proofs.Machine.Shapes.{sizes_kept, shape_in, Shaped, shaped_self, drop_all_shaped, leave_all_shaped}
+use Rattle.kernel_laws.proofs.Machine.Shapes.{shape_in, Shaped, shaped_self, drop_all_shaped, leave_all_shaped}
 use Rattle.kernel_laws.proofs.Machine.Breaks.{block_kept}
 
 -- Spaces.
@@ -37,22 +37,6 @@ leave_text_shaped p image = go (sharers p image)
     go : (n : ℕ) → Shaped p (leave_text_by p image n)
     go zero = leave_all_shaped (pages_of_text p image) p
     go (suc n) = shaped_self p
-
-leave_page_due : (p : Placement) (v : Page) → (leave_page p v).due ≡ p.due
-leave_page_due p v = go (state_of p v) (listed p v)
-  where
-    go : (s : PageState) (n : ℕ) → (leave_by p v s n).due ≡ p.due
-    go (Valid f) n = refl
-    go (Invalid f) zero = refl
-    go (Invalid f) (suc n) = refl
-    go OnSwap n = refl
-    go Unfilled n = refl
-    go (Coming f) n = refl
-    go (Going f) n = refl
-
-leave_all_due : (qs : List Page) (p : Placement) → (leave_all p qs).due ≡ p.due
-leave_all_due [] p = refl
-leave_all_due (v ∷ qs) p = leave_all_due qs (leave_page p v) ∙ leave_page_due p v
 
 leave_text_due : (p : Placement) (image : ℕ) → (leave_text p image).due ≡ p.due
 leave_text_due p image = go (sharers p image)
@@ -93,13 +77,6 @@ gone p sid = record {
 pub gone_unless : (borrowed : Bool) (p : Placement) (sid : ℕ) → Gone p (give_up_unless borrowed p sid) borrowed sid
 gone_unless true p sid = record { other = λ n d. refl; own = λ e. absurd cc; residents = refl; due = refl }
 gone_unless false p sid = gone p sid
-
--- texts are as long as they were
-pub gone_texts : (borrowed : Bool) (p : Placement) (sid i : ℕ) → length (slots_of (give_up_unless borrowed p sid) (Text i 0)) ≡ length (slots_of p (Text i 0))
-gone_texts true p sid i = refl
-gone_texts false p sid i =
-    sizes_kept (remove_space (drop_all p (pages_of_space p sid)) sid) (give_up p sid) (leave_text_shaped (remove_space (drop_all p (pages_of_space p sid)) sid) (image_of p sid)) (Text i 0)
-    ∙ sizes_kept p (drop_all p (pages_of_space p sid)) (drop_all_shaped (pages_of_space p sid) p) (Text i 0)
 
 -- a page of a space that is there is of another one
 pub gone_data : (p q : Placement) (borrowed : Bool) (sid m v : ℕ) → Gone p q borrowed sid → IsThere q (Data m v) → borrowed ≡ false → m ≢ sid

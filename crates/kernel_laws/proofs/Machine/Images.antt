@@ -11,7 +11,8 @@ use Rattle.page_model.specs.PageBytes.{Bytes, source_bytes, bytes_read, StoresAl
 use Rattle.kernel_model.specs.Kernel.{Kernel, frame_bytes, read_into, store_all}
 use Rattle.page_model.specs.Stored.{store_at}
 use Rattle.kernel_model.specs.Coupled.{beside_kernel}
-use Rattle.page_laws.proofs.Blocks.Places.{page_within, length_put, image_stores}
+use Rattle.page_laws.proofs.Blocks.Places.{page_within, image_stores}
+use Rattle.vm_facts.proofs.Swap.{length-put_blocks}
 
 -- the page of a part has blocks, and its frame a page's bytes
 pub record CanStore (k : Kernel) (x : Part) : Type 0 where
@@ -31,7 +32,7 @@ written_bytes (x ∷ xs) size k images flat image book l a =
     let c : CanStore k x = a.0 in
     let w = page_within size k.holdings x.page c.block book c.found in
     let same : length (store_at image (block_of k.holdings x.page) (frame_bytes k x.frame)) ≡ length image =
-    ap (λ (o : Option ℕ). length (store_at image o (frame_bytes k x.frame))) c.found ∙ length_put image (frame_bytes k x.frame) c.block (omega arith) c.whole in (
+    ap (λ (o : Option ℕ). length (store_at image o (frame_bytes k x.frame))) c.found ∙ length-put_blocks image (frame_bytes k x.frame) c.block (omega arith) c.whole in (
       beside_kernel k images (store_at image (block_of k.holdings x.page) (frame_bytes k x.frame)) flat,
       image_stores size k.holdings image (frame_bytes k x.frame) x.page c.block (beside_kernel k images image flat) book l c.whole c.found,
       written_bytes xs size k images flat (store_at image (block_of k.holdings x.page) (frame_bytes k x.frame)) book (omega arith) a.1,

@@ -1,6 +1,6 @@
 -- Vfork keeps the whole machine coupled: the child comes, and the space passes to it at once.
 use Rattle.std.proofs.Common.{◌≡◌, ◌≢◌, inl, inr, ℕ, ◌+◌, ◌==◌, Bool, true, false, cond, List, [], ◌∷◌, ◌++◌, length, map, Option, Some, None, refl, sym, ap, ◌∙◌, subst}
-use Rattle.std.proofs.lemmas.Bool.{cases_eq}
+use Rattle.std.proofs.lemmas.Bool.{cases_eq, ne_eqb}
 use Rattle.flat_state.specs.Space.{Space}
 use Rattle.flat_state.specs.Flat.{Holds, Lends, Process, FlatState, NamedImage, process_of, spaces_of}
 use Rattle.vm_facts.specs.declared.page.Page.{Page}
@@ -20,7 +20,8 @@ use Rattle.kernel_model.specs.Kernel.{Kernel, Proc, Life, New, HoldsSpace, Lends
 use Rattle.kernel_model.specs.ChangeStep.{with_proc, child_proc, space_of_life, life_of_proc, passed_life, pass_step, change_step}
 use Rattle.page_laws.proofs.Lists.Local.{none_some}
 use Rattle.page_laws.proofs.Bytes.Runs.{still_coupled}
-use Rattle.kernel_laws.proofs.Flat.Numbered.{eq_self, not_eq, none_absent, pushed_new, pushed_old, pushed_found, map_pushed}
+use Rattle.kernel_laws.proofs.Flat.Numbered.{none_absent, pushed_new, pushed_old, pushed_found, map_pushed}
+use Rattle.vm_facts.proofs.Tests.{eq_self}
 use Rattle.kernel_laws.proofs.Flat.Lists.{pid_of, sid_of, held, replaced_at, replaced_not, held-append, HeldAt, held_at, held_own, held_other, held_now}
 use Rattle.kernel_laws.proofs.Machine.Moves.{alike_coupled}
 use Rattle.kernel_laws.proofs.Machine.Tables.{kept_pid, tables_of, RegsAt, coupled_of}
@@ -49,11 +50,11 @@ passed_list (x ∷ ks) p sid to a = ap (λ (y : Proc). y ∷ map (passed sid p.p
     go : (b : Bool) → (x.pid == p.pid) ≡ b → passed sid p.pid to New (cond b p x) ≡ cond b (record p { life = LendsSpace sid to }) x
     go true e = ap (λ (b : Bool). let y : Proc = record p { life = cond b (LendsSpace sid to) (cond (p.pid == to) (HoldsSpace sid) p.life) } in y) (eq_self p.pid)
     go false e = ap (λ (b : Bool). let y : Proc = record x { life = cond b (LendsSpace sid to) (cond (x.pid == to) (HoldsSpace sid) x.life) } in y) e
-        ∙ ap (λ (b : Bool). let y : Proc = record x { life = cond b (HoldsSpace sid) x.life } in y) (not_eq x.pid to a.0)
+        ∙ ap (λ (b : Bool). let y : Proc = record x { life = cond b (HoldsSpace sid) x.life } in y) (ne_eqb x.pid to a.0)
 
 -- the child holds
 pub passed_child : (p : Proc) (sid to : ℕ) → to ≢ p.pid → passed sid p.pid to New (child_proc p to New) ≡ child_proc p to (HoldsSpace sid)
-passed_child p sid to d = ap (λ (b : Bool). let y : Proc = record (child_proc p to New) { life = cond b (LendsSpace sid to) (cond (to == to) (HoldsSpace sid) New) } in y) (not_eq to p.pid d)
+passed_child p sid to d = ap (λ (b : Bool). let y : Proc = record (child_proc p to New) { life = cond b (LendsSpace sid to) (cond (to == to) (HoldsSpace sid) New) } in y) (ne_eqb to p.pid d)
     ∙ ap (λ (b : Bool). let y : Proc = record (child_proc p to New) { life = cond b (HoldsSpace sid) New } in y) (eq_self to)
 
 pub lend_coupled_step : (k : Kernel) (images : List NamedImage) (image : List ℕ) (flat : FlatState) (pid : ℕ) (regs : Regs) (e : Entry) (q : Process) (s : Space) → IsNumbered flat → OutHold k.place flat → process_of flat pid ≡ Some q → q.holding ≡ Holds s

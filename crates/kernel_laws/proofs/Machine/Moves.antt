@@ -30,7 +30,8 @@ use Rattle.kernel_model.specs.Sound.{is_start, has_start, KeepsStarts, Sound, li
 use Rattle.kernel_model.specs.Coupled.{outline_kept, memory_of, file_of, data_of, beside_kernel, SameTables, KeepsRegs, Coupled}
 use Rattle.page_model.specs.Stored.{stored_at}
 use Rattle.kernel_model.specs.UPage.{u_page}
-use Rattle.page_laws.proofs.Lists.Pages.{page_cases, put_state, same_page_is}
+use Rattle.page_laws.proofs.Lists.Pages.{page_cases, put_state}
+use Rattle.flat_state.proofs.PageNames.{same_page_is}
 use Rattle.page_laws.proofs.Lists.Runs.{each_page_both, pages_from_apart}
 use Rattle.page_laws.proofs.Moves.Steps.{page_in}
 use Rattle.page_laws.proofs.Ownership.Pages.{fill_enters}

@@ -1,6 +1,6 @@
 -- The tables of processes, of the machine and of the flat state, through the changes of processes.
 use Rattle.std.proofs.Common.{◌≡◌, ◌≢◌, inl, inr, ℕ, ◌<◌, ◌==◌, Bool, true, false, cond, not, List, [], ◌∷◌, ◌++◌, map, filter, length, Option, Some, None, refl, sym, ap, ◌∙◌, subst, arith}
-use Rattle.std.proofs.lemmas.Bool.{cases_eq}
+use Rattle.std.proofs.lemmas.Bool.{cases_eq, ne_eqb}
 use Rattle.flat_state.specs.Space.{Space}
 use Rattle.flat_state.specs.Flat.{Holding, Holds, Lends, Zombie, Process, FlatState, NamedImage, process_of, holds_space, space_held}
 use Rattle.vm_facts.specs.declared.regs.Regs.{Regs}
@@ -18,9 +18,12 @@ use Rattle.kernel_model.specs.Stands.{OutHold, holds_some}
 use Rattle.kernel_model.specs.Kernel.{Kernel, Proc, Life, HoldsSpace, life_of}
 use Rattle.kernel_model.specs.Coupled.{KeepsRegs, Outline, outline_kept, outline_of, Coupled, SameTables}
 use Rattle.kernel_model.specs.ChangeStep.{with_proc, procs_after, pid_after, sid_after, holdings_after, starts_with, space_of_life, gave_back, change_if, change_step}
-use Rattle.page_laws.proofs.Lists.Pages.{mapped}
-use Rattle.page_laws.proofs.Lists.Local.{none_some, some_is}
-use Rattle.kernel_laws.proofs.Flat.Numbered.{eq_is, eq_self, not_eq, hit, miss, has_number, numbered_map, numbered_append, or_else, absent_none}
+use Rattle.page_laws.proofs.Lists.Pages.{mapped, numbered_hit, numbered_miss}
+use Rattle.page_laws.proofs.Lists.Local.{none_some}
+use Rattle.std.proofs.lemmas.Option.{same_Some}
+use Rattle.kernel_laws.proofs.Sound.Changes.{with_number}
+use Rattle.kernel_laws.proofs.Flat.Numbered.{has_number, numbered_map, numbered_append, or_else, absent_none}
+use Rattle.vm_facts.proofs.Tests.{eq_self}
 use Rattle.kernel_laws.proofs.Flat.Lists.{pid_of, sid_of, held, found_is, held_at, held_now, replaced_not, HeldAt}
 use Rattle.kernel_laws.proofs.Machine.Tables.{kept_pid, kept_at, outline_at, RegsAt, regs_at, regs_carry}
 use Rattle.kernel_laws.proofs.Machine.Moves.{u_stored}
@@ -29,28 +32,21 @@ use Rattle.aout_image.specs.declared.Image.{Image}
 
 -- One process of the machine gives way to another.
 
-with_pid : (p q : Proc) → (cond (q.pid == p.pid) p q).pid ≡ q.pid
-with_pid p q = go (q.pid == p.pid) refl
-  where
-    go : (b : Bool) → (q.pid == p.pid) ≡ b → (cond b p q).pid ≡ q.pid
-    go true e = sym (eq_is q.pid p.pid e)
-    go false e = refl
-
 pub with_at : (ks : List Proc) (p q : Proc) → numbered kept_pid p.pid ks ≡ Some q → numbered kept_pid p.pid (with_proc ks p) ≡ Some p
 with_at ks p q e =
-    numbered_map kept_pid (λ (x : Proc). cond (x.pid == p.pid) p x) (with_pid p) p.pid ks ∙ ap (mapped (λ (x : Proc). cond (x.pid == p.pid) p x)) e
+    numbered_map kept_pid (λ (x : Proc). cond (x.pid == p.pid) p x) (with_number p) p.pid ks ∙ ap (mapped (λ (x : Proc). cond (x.pid == p.pid) p x)) e
     ∙ ap (λ (b : Bool). Some (cond b p q)) (ap (λ (n : ℕ). n == p.pid) (has_number kept_pid p.pid ks q e) ∙ eq_self p.pid)
 
 pub with_not : (ks : List Proc) (p : Proc) (n : ℕ) → n ≢ p.pid → numbered kept_pid n (with_proc ks p) ≡ numbered kept_pid n ks
-with_not ks p n d = numbered_map kept_pid (λ (x : Proc). cond (x.pid == p.pid) p x) (with_pid p) n ks ∙ go (numbered kept_pid n ks) refl
+with_not ks p n d = numbered_map kept_pid (λ (x : Proc). cond (x.pid == p.pid) p x) (with_number p) n ks ∙ go (numbered kept_pid n ks) refl
   where
     go : (o : Option Proc) → numbered kept_pid n ks ≡ o → mapped (λ (x : Proc). cond (x.pid == p.pid) p x) o ≡ o
     go None e = refl
-    go (Some x) e = ap (λ (b : Bool). Some (cond b p x)) (not_eq x.pid p.pid (λ h. d (sym (has_number kept_pid n ks x e) ∙ h)))
+    go (Some x) e = ap (λ (b : Bool). Some (cond b p x)) (ne_eqb x.pid p.pid (λ h. d (sym (has_number kept_pid n ks x e) ∙ h)))
 
 absent_with : (ks : List Proc) (p : Proc) → IsAbsent p.pid (map kept_pid ks) → with_proc ks p ≡ ks
 absent_with [] p a = refl
-absent_with (x ∷ ks) p a = ap (λ (b : Bool). cond b p x ∷ with_proc ks p) (not_eq x.pid p.pid a.0) ∙ ap (λ (l : List Proc). x ∷ l) (absent_with ks p a.1)
+absent_with (x ∷ ks) p a = ap (λ (b : Bool). cond b p x ∷ with_proc ks p) (ne_eqb x.pid p.pid a.0) ∙ ap (λ (l : List Proc). x ∷ l) (absent_with ks p a.1)
 
 pub pids_same : (ks : List Proc) (fs : List Process) → map outline_kept ks ≡ map outline_of fs → map kept_pid ks ≡ map pid_of fs
 pids_same ks fs e = sym (kept_pids ks) ∙ ap (map (λ (o : Outline). o.pid)) e ∙ flat_pids fs
@@ -63,7 +59,7 @@ pids_same ks fs e = sym (kept_pids ks) ∙ ap (map (λ (o : Outline). o.pid)) e 
     flat_pids [] = refl
     flat_pids (x ∷ fs) = ap (λ (l : List ℕ). x.pid ∷ l) (flat_pids fs)
 
-first_same : (x y : Outline) (xs ys : List Outline) → x ∷ xs ≡ y ∷ ys → (x ≡ y) × (xs ≡ ys)
+pub first_same : (x y : Outline) (xs ys : List Outline) → x ∷ xs ≡ y ∷ ys → (x ≡ y) × (xs ≡ ys)
 first_same x y xs ys e = (cc, cc)
 
 -- both tables have the new process in the place of the old one
@@ -81,9 +77,9 @@ with_replaced (k ∷ ks) (f ∷ fs) p q e d h =
           ap (λ (b : Bool). outline_kept (cond b p k) ∷ map outline_kept (with_proc ks p)) (ap (λ (n : ℕ). n == p.pid) (kf ∙ s ∙ sym pq) ∙ eq_self p.pid)
           ∙ ap (λ (l : List Proc). outline_kept p ∷ map outline_kept l) rest ∙ ap (λ (l : List Outline). outline_kept p ∷ l) a.1 ∙ ap (λ (o : Outline). o ∷ map outline_of fs) h
           ∙ sym (ap (λ (b : Bool). map outline_of (replaced_by b q f fs (replaced fs q))) (ap (λ (n : ℕ). n == q.pid) s ∙ eq_self q.pid)))
-      | inr n ↦ ap (λ (b : Bool). outline_kept (cond b p k) ∷ map outline_kept (with_proc ks p)) (not_eq k.pid p.pid (λ g. n (sym kf ∙ g ∙ pq)))
+      | inr n ↦ ap (λ (b : Bool). outline_kept (cond b p k) ∷ map outline_kept (with_proc ks p)) (ne_eqb k.pid p.pid (λ g. n (sym kf ∙ g ∙ pq)))
           ∙ ap (λ (l : List Outline). outline_kept k ∷ l) (with_replaced ks fs p q a.1 d.1 h) ∙ ap (λ (o : Outline). o ∷ map outline_of (replaced fs q)) a.0
-          ∙ sym (ap (λ (b : Bool). map outline_of (replaced_by b q f fs (replaced fs q))) (not_eq f.pid q.pid n))
+          ∙ sym (ap (λ (b : Bool). map outline_of (replaced_by b q f fs (replaced fs q))) (ne_eqb f.pid q.pid n))
     ]
 
 -- A process that goes.
@@ -107,11 +103,11 @@ held_filter test [] d h = refl
 held_filter test (p ∷ ps) d h = go (test p) refl (held_filter test ps d.1 (λ x e t. h x (later x e) t))
   where
     later : (x : Process) → numbered pid_of x.pid ps ≡ Some x → numbered pid_of x.pid (p ∷ ps) ≡ Some x
-    later x e = miss pid_of x.pid p ps (λ s. none_some x (sym (absent_none pid_of x.pid ps (subst (λ (n : ℕ). IsAbsent n (map pid_of ps)) s d.0)) ∙ e)) ∙ e
+    later x e = numbered_miss pid_of x.pid p ps (λ s. none_some x (sym (absent_none pid_of x.pid ps (subst (λ (n : ℕ). IsAbsent n (map pid_of ps)) s d.0)) ∙ e)) ∙ e
 
     go : (b : Bool) → test p ≡ b → held (filter test ps) ≡ held ps → held (cond b (p ∷ filter test ps) (filter test ps)) ≡ held (p ∷ ps)
     go true e ih = ap (λ (l : List Space). space_held p.holding ++ l) ih
-    go false e ih = ih ∙ ap (λ (l : List Space). l ++ held ps) (sym (h p (hit pid_of p.pid p ps refl) e))
+    go false e ih = ih ∙ ap (λ (l : List Space). l ++ held ps) (sym (h p (numbered_hit pid_of p.pid p ps refl) e))
 
 distinct_absent : {A : Type 0} (number : A → ℕ) (n : ℕ) (test : A → Bool) (xs : List A) → IsAbsent n (map number xs) → IsAbsent n (map number (filter test xs))
 distinct_absent number n test [] a = tt
@@ -135,10 +131,10 @@ distinct_filter number test (x ∷ xs) d = go (test x) (distinct_filter number t
 pub holds_there : (ps : List Process) (n : ℕ) (q : Process) (s : Space) → numbered pid_of n ps ≡ Some q → q.holding ≡ Holds s → numbered sid_of s.sid (held ps) ≡ None → ⊥
 holds_there [] n q s e h z = none_some q e
 holds_there (p ∷ ps) n q s e h z = elim (cases_eq p.pid n) [
-  | inl i ↦ (let same : p ≡ q = some_is p q (sym (hit pid_of n p ps i) ∙ e) in
+  | inl i ↦ (let same : p ≡ q = same_Some p q (sym (numbered_hit pid_of n p ps i) ∙ e) in
       let k : numbered sid_of s.sid (s ∷ held ps) ≡ None = subst (λ (x : Holding). numbered sid_of s.sid (space_held x ++ held ps) ≡ None) (ap (λ (x : Process). x.holding) same ∙ h) z in
-      let j : None ≡ Some s = sym k ∙ hit sid_of s.sid s (held ps) refl in cc)
-  | inr d ↦ holds_there ps n q s (sym (miss pid_of n p ps d) ∙ e) h (second (numbered sid_of s.sid (space_held p.holding)) (numbered sid_of s.sid (held ps)) (sym (numbered_append sid_of s.sid (space_held p.holding) (held ps)) ∙ z))
+      let j : None ≡ Some s = sym k ∙ numbered_hit sid_of s.sid s (held ps) refl in cc)
+  | inr d ↦ holds_there ps n q s (sym (numbered_miss pid_of n p ps d) ∙ e) h (second (numbered sid_of s.sid (space_held p.holding)) (numbered sid_of s.sid (held ps)) (sym (numbered_append sid_of s.sid (space_held p.holding) (held ps)) ∙ z))
 ]
   where
     second : (o r : Option Space) → or_else o r ≡ None → r ≡ None
@@ -167,8 +163,8 @@ out_space p flat n q o e h = go q.holding refl (sym (ap holds_some (found_is fla
 pub lower_at : (ps : List Process) (n : ℕ) (q : Process) → AllLower ps → numbered pid_of n ps ≡ Some q → q.parent < q.pid
 lower_at [] n q l e = none_some q e
 lower_at (p ∷ ps) n q l e = elim (cases_eq p.pid n) [
-  | inl i ↦ subst (λ (x : Process). x.parent < x.pid) (some_is p q (sym (hit pid_of n p ps i) ∙ e)) l.0
-  | inr d ↦ lower_at ps n q l.1 (sym (miss pid_of n p ps d) ∙ e)
+  | inl i ↦ subst (λ (x : Process). x.parent < x.pid) (same_Some p q (sym (numbered_hit pid_of n p ps i) ∙ e)) l.0
+  | inr d ↦ lower_at ps n q l.1 (sym (numbered_miss pid_of n p ps d) ∙ e)
 ]
 
 -- no process is its own parent
@@ -251,4 +247,4 @@ regs_carried k l images image after flat flat2 n c o r a b ea eb =
 -- a process that is in has its registers in its record
 pub regs_in_record : (l : Kernel) (after : List ℕ) (flat2 : FlatState) (n : ℕ) (fp : Process) (kp : Proc) → is_out l.place n ≡ false → numbered pid_of n flat2.processes ≡ Some fp → numbered kept_pid n l.processes ≡ Some kp → kp.regs ≡ fp.regs → RegsAt l after flat2 n
 regs_in_record l after flat2 n fp kp out ef ek r a b ea eb = subst (λ (z : Bool). KeepsRegs l after z a b.regs (space_of_holding a.holding)) (sym out)
-    (ap (λ (x : Proc). x.regs) (some_is b kp (sym eb ∙ ek)) ∙ r ∙ ap (λ (x : Process). x.regs) (some_is fp a (sym ef ∙ ea)))
+    (ap (λ (x : Proc). x.regs) (same_Some b kp (sym eb ∙ ek)) ∙ r ∙ ap (λ (x : Process). x.regs) (same_Some fp a (sym ef ∙ ea)))

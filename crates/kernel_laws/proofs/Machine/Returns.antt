@@ -1,6 +1,6 @@
 -- A borrowed space goes back before a new image or the end: both together keep the whole machine coupled.
 use Rattle.std.proofs.Common.{◌≡◌, ◌≢◌, inl, inr, ℕ, ◌+◌, ◌==◌, Bool, true, false, cond, List, [], ◌∷◌, length, map, Option, Some, refl, sym, ap, ◌∙◌, subst}
-use Rattle.std.proofs.lemmas.Bool.{cases_eq, cases_Bool}
+use Rattle.std.proofs.lemmas.Bool.{cases_eq, cases_Bool, eqb-true, ne_eqb}
 use Rattle.flat_state.specs.Space.{Space}
 use Rattle.flat_state.specs.Flat.{Holds, Lends, Zombie, Process, FlatState, NamedImage, process_of, image_numbered, space_with, spaces_of, space_held}
 use Rattle.vm_facts.specs.declared.regs.Regs.{Regs}
@@ -24,11 +24,13 @@ use Rattle.kernel_model.specs.Kernel.{Kernel, Proc, New, HoldsSpace, LendsSpace,
 use Rattle.kernel_model.specs.Sound.{Sound, KeepsStarts, DataFits, lives}
 use Rattle.page_model.specs.Stored.{stored_at}
 use Rattle.kernel_model.specs.ChangeStep.{with_proc, orphaned_procs, left_procs, pass_step, change_step}
-use Rattle.page_laws.proofs.Lists.Pages.{mapped}
-use Rattle.page_laws.proofs.Lists.Local.{none_some, some_is}
+use Rattle.page_laws.proofs.Lists.Pages.{mapped, numbered_hit, numbered_miss}
+use Rattle.page_laws.proofs.Lists.Local.{none_some}
+use Rattle.std.proofs.lemmas.Option.{same_Some}
 use Rattle.page_laws.proofs.Ownership.Changes.{added_other}
 use Rattle.page_laws.proofs.Blocks.Changes.{place_change_aside}
-use Rattle.kernel_laws.proofs.Flat.Numbered.{eq_is, eq_self, not_eq, hit, miss, has_number, numbered_map, mapped_some, absent_none}
+use Rattle.kernel_laws.proofs.Flat.Numbered.{has_number, numbered_map, mapped_some, absent_none}
+use Rattle.vm_facts.proofs.Tests.{eq_self}
 use Rattle.kernel_laws.proofs.Flat.Lists.{pid_of, sid_of, held, found_is, replaced_at, replaced_not, replaced_pids, HeldAt, held_at, held_own, held_other, held_now, held_new, held_gain}
 use Rattle.kernel_laws.proofs.Machine.Breaks.{block_kept}
 use Rattle.kernel_laws.proofs.Machine.Tables.{kept_pid, kept_at, outline_at, tables_of, RegsAt, coupled_of}
@@ -49,14 +51,14 @@ pub returned_is : (ps : List Process) (m : Process) (pid : ℕ) (s : Space) → 
 unfolding returned replaced
 returned_is [] m pid s d e t only = none_some m e
 returned_is (q ∷ ps) m pid s d e t only = elim (cases_Bool (lends_to pid q.holding)) [
-  | inl y ↦ (let i : q.pid ≡ m.pid = only q (hit pid_of q.pid q ps refl) y in
-      let same : q ≡ m = some_is q m (sym (hit pid_of m.pid q ps i) ∙ e) in
+  | inl y ↦ (let i : q.pid ≡ m.pid = only q (numbered_hit pid_of q.pid q ps refl) y in
+      let same : q ≡ m = same_Some q m (sym (numbered_hit pid_of m.pid q ps i) ∙ e) in
       ap (λ (b : Bool). returned_by b s q ps (returned pid s ps)) y ∙ ap (λ (x : Process). (let z : Process = record x { holding = Holds s } in z) ∷ ps) same
       ∙ sym (ap (λ (b : Bool). replaced_by b (record m { holding = Holds s }) q ps (replaced ps (record m { holding = Holds s }))) (ap (λ (n : ℕ). n == m.pid) i ∙ eq_self m.pid)))
-  | inr y ↦ (let n : q.pid ≢ m.pid = λ i. (let same : q ≡ m = some_is q m (sym (hit pid_of m.pid q ps i) ∙ e) in let z : false ≡ true = sym y ∙ ap (λ (x : Process). lends_to pid x.holding) same ∙ t in cc) in
+  | inr y ↦ (let n : q.pid ≢ m.pid = λ i. (let same : q ≡ m = same_Some q m (sym (numbered_hit pid_of m.pid q ps i) ∙ e) in let z : false ≡ true = sym y ∙ ap (λ (x : Process). lends_to pid x.holding) same ∙ t in cc) in
       ap (λ (b : Bool). returned_by b s q ps (returned pid s ps)) y
-      ∙ ap (λ (l : List Process). q ∷ l) (returned_is ps m pid s d.1 (sym (miss pid_of m.pid q ps n) ∙ e) t (λ x f l. only x (miss pid_of x.pid q ps (λ i. none_some x (sym (absent_none pid_of x.pid ps (subst (λ (n : ℕ). IsAbsent n (map pid_of ps)) i d.0)) ∙ f)) ∙ f) l))
-      ∙ sym (ap (λ (b : Bool). replaced_by b (record m { holding = Holds s }) q ps (replaced ps (record m { holding = Holds s }))) (not_eq q.pid m.pid n)))
+      ∙ ap (λ (l : List Process). q ∷ l) (returned_is ps m pid s d.1 (sym (numbered_miss pid_of m.pid q ps n) ∙ e) t (λ x f l. only x (numbered_miss pid_of x.pid q ps (λ i. none_some x (sym (absent_none pid_of x.pid ps (subst (λ (n : ℕ). IsAbsent n (map pid_of ps)) i d.0)) ∙ f)) ∙ f) l))
+      ∙ sym (ap (λ (b : Bool). replaced_by b (record m { holding = Holds s }) q ps (replaced ps (record m { holding = Holds s }))) (ne_eqb q.pid m.pid n)))
 ]
 
 -- what passing a space back makes of one process
@@ -71,8 +73,8 @@ OnlyAt m (x ∷ xs) = (x.pid ≡ m.pid → x ≡ m) × OnlyAt m xs
 only_at : (ks : List Proc) (m : Proc) → AllDistinct (map kept_pid ks) → numbered kept_pid m.pid ks ≡ Some m → OnlyAt m ks
 only_at [] m d e = tt
 only_at (x ∷ ks) m d e = elim (cases_eq x.pid m.pid) [
-  | inl i ↦ ((λ _. some_is x m (sym (hit kept_pid m.pid x ks i) ∙ e)), none ks (subst (λ (n : ℕ). IsAbsent n (map kept_pid ks)) i d.0))
-  | inr n ↦ ((λ i. absurd (n i)), only_at ks m d.1 (sym (miss kept_pid m.pid x ks n) ∙ e))
+  | inl i ↦ ((λ _. same_Some x m (sym (numbered_hit kept_pid m.pid x ks i) ∙ e)), none ks (subst (λ (n : ℕ). IsAbsent n (map kept_pid ks)) i d.0))
+  | inr n ↦ ((λ i. absurd (n i)), only_at ks m d.1 (sym (numbered_miss kept_pid m.pid x ks n) ∙ e))
 ]
   where
     none : (ys : List Proc) → IsAbsent m.pid (map kept_pid ys) → OnlyAt m ys
@@ -86,8 +88,8 @@ passed_back (x ∷ ks) p m sid d o = ap (λ (y : Proc). y ∷ with_proc (map (pa
   where
     go : (b c : Bool) → (x.pid == p.pid) ≡ b → (x.pid == m.pid) ≡ c
         → cond b p (record x { life = cond b New (cond c (HoldsSpace sid) x.life) }) ≡ cond ((cond b p x).pid == m.pid) (record m { life = HoldsSpace sid }) (cond b p x)
-    go true c e f = sym (ap (λ (t : Bool). cond t (record m { life = HoldsSpace sid }) p) (not_eq p.pid m.pid (λ i. d (sym i))))
-    go false true e f = ap (λ (y : Proc). let z : Proc = record y { life = HoldsSpace sid } in z) (o.0 (eq_is x.pid m.pid f)) ∙ sym (ap (λ (t : Bool). cond t (record m { life = HoldsSpace sid }) x) f)
+    go true c e f = sym (ap (λ (t : Bool). cond t (record m { life = HoldsSpace sid }) p) (ne_eqb p.pid m.pid (λ i. d (sym i))))
+    go false true e f = ap (λ (y : Proc). let z : Proc = record y { life = HoldsSpace sid } in z) (o.0 (eqb-true x.pid m.pid f)) ∙ sym (ap (λ (t : Bool). cond t (record m { life = HoldsSpace sid }) x) f)
     go false false e f = sym (ap (λ (t : Bool). cond t (record m { life = HoldsSpace sid }) x) f)
 
 -- The borrower and the lender in both tables.
@@ -115,7 +117,7 @@ borrowing k flat pid q m s c f h a =
       pid_is = has_number kept_pid m.pid k.processes p.0 p.1;
       outline = o;
       life = ap (λ (x : Outline). x.life) o ∙ ap life_of a.holding;
-      apart = λ i. differs (some_is m q (sym at ∙ ap (λ (n : ℕ). numbered pid_of n flat.processes) (i ∙ g.pid_was) ∙ g.found));
+      apart = λ i. differs (same_Some m q (sym at ∙ ap (λ (n : ℕ). numbered pid_of n flat.processes) (i ∙ g.pid_was) ∙ g.found));
     }
   where
     differs : m ≡ q → ⊥
@@ -175,7 +177,7 @@ back k flat pid q m fp kp s nums c is a fpid holds kpid o = record {
 
     only : (x : Process) → numbered pid_of x.pid (replaced flat.processes fp) ≡ Some x → lends_to q.pid x.holding ≡ true → x.pid ≡ m.pid
     only x e l = elim (cases_eq x.pid fp.pid) [
-      | inl i ↦ absurd (let same : fp ≡ x = some_is fp x (sym (replaced_at flat.processes q fp found) ∙ ap (λ (n : ℕ). numbered pid_of n (replaced flat.processes fp)) (sym i) ∙ e) in
+      | inl i ↦ absurd (let same : fp ≡ x = same_Some fp x (sym (replaced_at flat.processes q fp found) ∙ ap (λ (n : ℕ). numbered pid_of n (replaced flat.processes fp)) (sym i) ∙ e) in
           let z : false ≡ true = sym holds ∙ ap (λ (y : Process). lends_to q.pid y.holding) same ∙ l in cc)
       | inr n ↦ is.only x (found_is flat.processes x.pid ∙ sym (replaced_not flat.processes fp x.pid n) ∙ e) (ap (λ (y : ℕ). lends_to y x.holding) (sym g.pid_was) ∙ l)
     ]
@@ -185,7 +187,7 @@ flat_both : (k : Kernel) (flat : FlatState) (pid : ℕ) (q m fp : Process) (s : 
     → IsLender flat pid s.sid m → (x : Process) × (numbered pid_of n flat.processes ≡ Some x) × (a.regs ≡ x.regs) × (space_of_holding a.holding ≡ space_of_holding x.holding)
 flat_both k flat pid q m fp s n a g lf d e is = elim (cases_eq n m.pid) [
   | inl i ↦ (let same : (let y : Process = record m { holding = Holds s } in y) ≡ a =
-      some_is (record m { holding = Holds s }) a (sym (replaced_at (replaced flat.processes fp) m (record m { holding = Holds s }) lf) ∙ ap (λ (y : ℕ). numbered pid_of y (replaced (replaced flat.processes fp) (record m { holding = Holds s }))) (sym i) ∙ e) in
+      same_Some (record m { holding = Holds s }) a (sym (replaced_at (replaced flat.processes fp) m (record m { holding = Holds s }) lf) ∙ ap (λ (y : ℕ). numbered pid_of y (replaced (replaced flat.processes fp) (record m { holding = Holds s }))) (sym i) ∙ e) in
       (m, ap (λ (y : ℕ). numbered pid_of y flat.processes) i ∙ g.found, ap (λ (x : Process). x.regs) (sym same), ap (λ (x : Process). space_of_holding x.holding) (sym same) ∙ sym (ap space_of_holding is.holding)))
   | inr j ↦ (a, sym (replaced_not flat.processes fp n d) ∙ sym (replaced_not (replaced flat.processes fp) (record m { holding = Holds s }) n j) ∙ e, refl, refl)
 ]
@@ -261,7 +263,7 @@ exec_back size before k images image flat pid regs e number top named q m s so n
     apart i = holds_there flat.processes q.pid q s found h (ap (λ (y : ℕ). numbered sid_of y (held flat.processes)) (sym i) ∙ next_sid_none flat nums)
 
     gain : (numbered sid_of s.sid (spaces_of after) ≡ Some s) × ((y : ℕ) → y ≢ s.sid → numbered sid_of y (spaces_of after) ≡ numbered sid_of y (held r1))
-    gain = held_gain r1 m mp s b.lender_found (ap space_held is.holding) refl (held_now flat.processes fp s held_here ∙ miss sid_of s.sid z [] apart)
+    gain = held_gain r1 m mp s b.lender_found (ap space_held is.holding) refl (held_now flat.processes fp s held_here ∙ numbered_miss sid_of s.sid z [] apart)
 
     o : OneOwner size (lives k.processes) k.place before
     o = so.owner
@@ -279,10 +281,10 @@ exec_back size before k images image flat pid regs e number top named q m s so n
       image = im;
       fits = fit;
       whole = whole;
-      own = gain.1 n apart ∙ held_new flat.processes fp s n held_here (next_sid_none flat nums) ∙ hit sid_of n z [] refl;
+      own = gain.1 n apart ∙ held_new flat.processes fp s n held_here (next_sid_none flat nums) ∙ numbered_hit sid_of n z [] refl;
       other = λ y d _. elim (cases_eq y s.sid) [
         | inl i ↦ ap (λ (x : ℕ). numbered sid_of x (spaces_of after)) i ∙ gain.0 ∙ sym (held_own flat.processes fp s held_here) ∙ ap (λ (x : ℕ). numbered sid_of x (spaces_of flat)) (sym i)
-        | inr j ↦ gain.1 y j ∙ held_other flat.processes fp s y held_here j (miss sid_of y z [] (λ i. d (sym i)))
+        | inr j ↦ gain.1 y j ∙ held_other flat.processes fp s y held_here j (numbered_miss sid_of y z [] (λ i. d (sym i)))
       ];
       gone = λ i. absurd cc;
     }
@@ -417,7 +419,7 @@ end_back size k images image flat pid regs e status q m s so nums outs due f h i
       | inl i ↦ λ x v ex ev.
           let w : WasFlat rs y x = end_was (q.parent == 0) rs q.pid q.parent y x b.distinct_both ex in
           let u : WasKept k1.processes kp y v = end_kept (kp.parent == 0) k1.processes kp status y v distinct_kept ev in
-          let same : w.before ≡ fp = some_is w.before fp (sym w.found ∙ ap (λ (t : ℕ). numbered pid_of t rs) (i ∙ pids) ∙ own_flat) in
+          let same : w.before ≡ fp = same_Some w.before fp (sym w.found ∙ ap (λ (t : ℕ). numbered pid_of t rs) (i ∙ pids) ∙ own_flat) in
           subst (λ (t : Bool). KeepsRegs l image t x v.regs (space_of_holding x.holding)) (sym (ap (is_out l.place) i ∙ out_gone k.place.residents kp.pid))
           (u.own i ∙ ap (λ (t : Process). t.regs) (sym same) ∙ sym w.regs)
       | inr d ↦ regs_carried k l images image image flat after y c outs (record {

@@ -1,20 +1,17 @@
 -- Steps that move pages leave each space its image and its sizes, each text its size, and who is in or out.
-use Rattle.std.proofs.Common.{◌≡◌, inl, inr, ℕ, zero, suc, ◌*◌, Bool, true, false, List, [], ◌∷◌, length, Option, Some, None, refl, sym, ap, ◌∙◌, subst}
+use Rattle.std.proofs.Common.{◌≡◌, inl, inr, ℕ, ◌*◌, Bool, List, length, Option, Some, None, refl, sym, ap, ◌∙◌, subst}
 use Rattle.std.proofs.lemmas.Bool.{cases_eq}
 use Rattle.vm_facts.specs.declared.page.Page.{Page}
 use Rattle.vm_facts.specs.declared.page.Page.TheVariants.{Data, Stack, Text}
 use Rattle.vm_facts.specs.declared.page.PageState.{PageState}
-use Rattle.vm_facts.specs.declared.page.PageState.TheVariants.{Unfilled, Valid, Invalid, Coming, Going, OnSwap}
 use Rattle.flat_state.specs.Space.{Space}
 use Rattle.kernel_model.specs.Coupled.{Fits}
 use Rattle.page_model.specs.Pages.{SpacePages, TextPages, numbered, data_in, stack_in, text_in, with_data, with_stack, with_text, frame_of, left_state, written_mark}
-use Rattle.flat_state.specs.PageNames.{is_among, same_page}
-use Rattle.page_model.specs.Frames.{times}
-use Rattle.page_model.specs.Placement.{Placement, Residence, Transfer, Part, Errand, Writes, Reads, space_number, image_number, slots_of, state_of, mark_of, is_dirty, page_of, image_in, image_of, put}
-use Rattle.page_model.specs.Moves.{evict, evict_at, fill_at, begin, get_one, get_at, get_all, get_run, launch, launch_to, launch_all, launch_run, land, land_read, land_all, done, done_of, arrived_mark, reclaim, reclaim_to, retire, retire_to, touch, touch_to, drop_page, drop_at, drop_all, leave_page, leave_by, leave_all, listed}
-use Rattle.page_model.specs.Runs.{run_out, pages_of_run}
-use Rattle.page_model.specs.Hands.{expire, expire_of, expire_if, expire_to, sweep, sweep_of, sweep_to, sweep_by, hand_move, hand_moves}
-use Rattle.page_model.specs.Place.{filled, put_step, put_by}
+use Rattle.page_model.specs.Placement.{Placement, Residence, Errand, space_number, image_number, slots_of, image_in, image_of, put}
+use Rattle.page_model.specs.Moves.{get_run, done, reclaim, touch, drop_all, leave_all}
+use Rattle.page_model.specs.Hands.{hand_moves}
+use Rattle.page_model.specs.Place.{filled, put_step}
+use Rattle.page_laws.proofs.Moves.Puts.{KeptByPuts, filled_kept, get_run_kept, reclaim_kept, put_step_kept, moves_kept, done_kept, touch_kept, drop_all_kept, leave_all_kept}
 use Rattle.page_laws.proofs.Lists.Pages.{mapped, changed_same, changed_other, length_change}
 
 -- the image of a space, and how many pages it has
@@ -132,200 +129,42 @@ put_shaped p (Data n v) s m = record { spaces = λ sid. changed_shape n sid (wit
 put_shaped p (Stack n v) s m = record { spaces = λ sid. changed_shape n sid (with_stack v s m) (λ x. refl) (with_stack_shape v s m) p.spaces; texts = λ i. refl; residents = refl }
 put_shaped p (Text n v) s m = record { spaces = λ sid. refl; texts = λ i. changed_text n i v s m p.texts; residents = refl }
 
-evict_shaped : (p : Placement) (f : ℕ) → Shaped p (evict p f)
-evict_shaped p f = go (page_of p f)
-  where
-    go : (h : Option Page) → Shaped p (evict_at p f h)
-    go None = shaped_self p
-    go (Some v) = put_shaped p v (left_state v (mark_of p v)) (mark_of p v)
+pub shaped_by_puts : KeptByPuts Shaped
+shaped_by_puts = record {
+  still = λ p q a b c. record {
+    spaces = λ sid. ap (λ (ss : List SpacePages). shape_in (numbered space_number sid ss)) a;
+    texts = λ i. ap (λ (ts : List TextPages). length (text_in (numbered image_number i ts))) b;
+    residents = c;
+  };
+  both = shaped_both;
+  puts = put_shaped;
+}
 
--- Fills and reads.
+-- Each move keeps the shapes.
 
 pub filled_shaped : (p : Placement) (v : Page) → Shaped p (filled p v)
-filled_shaped p v = go p.free
-  where
-    go : (fr : List ℕ) → Shaped p (fill_at p v fr)
-    go [] = shaped_self p
-    go (f ∷ rest) = shaped_both p (evict p f) (put (evict p f) v (Valid f) true) (evict_shaped p f) (put_shaped (evict p f) v (Valid f) true)
-
-get_shaped : (p : Placement) (e : Errand) (v : Page) → Shaped p (get_one p e v)
-get_shaped p e v = go p.free
-  where
-    go : (fr : List ℕ) → Shaped p (get_at p e v fr)
-    go [] = shaped_self p
-    go (f ∷ rest) = shaped_both p (evict p f) (put (evict p f) v (Coming f) (mark_of p v)) (evict_shaped p f) (put_shaped (evict p f) v (Coming f) (mark_of p v))
-
-get_all_shaped : (qs : List Page) (p : Placement) (e : Errand) → Shaped p (get_all p e qs)
-get_all_shaped [] p e = shaped_self p
-get_all_shaped (v ∷ qs) p e = shaped_both p (get_one p e v) (get_all (get_one p e v) e qs) (get_shaped p e v) (get_all_shaped qs (get_one p e v) e)
+filled_shaped = filled_kept shaped_by_puts
 
 pub get_run_shaped : (p : Placement) (e : Errand) (qs : List Page) → Shaped p (get_run p e qs)
-get_run_shaped p e qs = shaped_both p (begin p e) (get_run p e qs) (shaped_self p) (get_all_shaped qs (begin p e) e)
+get_run_shaped = get_run_kept shaped_by_puts
 
 pub reclaim_shaped : (p : Placement) (v : Page) → Shaped p (reclaim p v)
-reclaim_shaped p v = go (state_of p v)
-  where
-    go : (s : PageState) → Shaped p (reclaim_to p v s)
-    go (Invalid f) = put_shaped p v (Valid f) (mark_of p v)
-    go Unfilled = shaped_self p
-    go (Valid f) = shaped_self p
-    go (Coming f) = shaped_self p
-    go (Going f) = shaped_self p
-    go OnSwap = shaped_self p
-
--- Writes.
-
-launch_shaped : (p : Placement) (v : Page) → Shaped p (launch p v)
-launch_shaped p v = go (state_of p v)
-  where
-    go : (s : PageState) → Shaped p (launch_to p v s)
-    go (Valid f) = put_shaped p v (Going f) (mark_of p v)
-    go (Invalid f) = put_shaped p v (Going f) (mark_of p v)
-    go Unfilled = shaped_self p
-    go (Coming f) = shaped_self p
-    go (Going f) = shaped_self p
-    go OnSwap = shaped_self p
-
-launch_all_shaped : (qs : List Page) (p : Placement) → Shaped p (launch_all p qs)
-launch_all_shaped [] p = shaped_self p
-launch_all_shaped (v ∷ qs) p = shaped_both p (launch p v) (launch_all (launch p v) qs) (launch_shaped p v) (launch_all_shaped qs (launch p v))
-
-launch_run_shaped : (p : Placement) (qs : List Page) → Shaped p (launch_run p qs)
-launch_run_shaped p qs = shaped_both p (begin p Writes) (launch_run p qs) (shaped_self p) (launch_all_shaped qs (begin p Writes))
-
-retire_shaped : (p : Placement) (v : Page) → Shaped p (retire p v)
-retire_shaped p v = go (state_of p v)
-  where
-    go : (s : PageState) → Shaped p (retire_to p v s)
-    go (Valid f) = put_shaped p v (Invalid f) (mark_of p v)
-    go (Invalid f) = put_shaped p v (Invalid f) (mark_of p v)
-    go Unfilled = shaped_self p
-    go (Coming f) = shaped_self p
-    go (Going f) = shaped_self p
-    go OnSwap = shaped_self p
+reclaim_shaped = reclaim_kept shaped_by_puts
 
 pub put_step_shaped : (p : Placement) (v : Page) (qs : List Page) → Shaped p (put_step p v qs)
-put_step_shaped p v qs = go (is_dirty p v)
-  where
-    go : (d : Bool) → Shaped p (put_by p v qs d)
-    go true = launch_run_shaped p qs
-    go false = retire_shaped p v
-
--- The hands.
-
-expire_shaped : (p : Placement) (locked : List Page) → Shaped p (expire p locked)
-expire_shaped p locked = go (page_of p p.front)
-  where
-    to : (v : Page) (s : PageState) → Shaped p (expire_to p v s)
-    to v (Valid f) = put_shaped p v (Invalid f) (mark_of p v)
-    to v Unfilled = shaped_self p
-    to v (Invalid f) = shaped_self p
-    to v (Coming f) = shaped_self p
-    to v (Going f) = shaped_self p
-    to v OnSwap = shaped_self p
-
-    at : (v : Page) (b : Bool) → Shaped p (expire_if p v b)
-    at v true = shaped_self p
-    at v false = to v (state_of p v)
-
-    go : (h : Option Page) → Shaped p (expire_of p locked h)
-    go None = shaped_self p
-    go (Some v) = at v (is_among v locked)
-
-sweep_shaped : (p : Placement) (locked : List Page) → Shaped p (sweep p locked)
-sweep_shaped p locked = go (page_of p p.back)
-  where
-    by : (q : Page) (d : Bool) → Shaped p (sweep_by p locked q d)
-    by q true = launch_run_shaped p (pages_of_run q (run_out p locked q))
-    by q false = retire_shaped p q
-
-    to : (q : Page) (s : PageState) (n : ℕ) (b : Bool) → Shaped p (sweep_to p locked q s n b)
-    to q (Invalid f) zero false = by q (is_dirty p q)
-    to q (Invalid f) zero true = shaped_self p
-    to q (Invalid f) (suc n) b = shaped_self p
-    to q Unfilled n b = shaped_self p
-    to q (Valid f) n b = shaped_self p
-    to q (Coming f) n b = shaped_self p
-    to q (Going f) n b = shaped_self p
-    to q OnSwap n b = shaped_self p
-
-    go : (h : Option Page) → Shaped p (sweep_of p locked p.back h)
-    go None = shaped_self p
-    go (Some q) = to q (state_of p q) (times p.back p.free) (is_among q locked)
-
-move_shaped : (p : Placement) (locked : List Page) → Shaped p (hand_move p locked)
-move_shaped p locked = shaped_both p (expire p locked) (sweep (expire p locked) locked) (expire_shaped p locked) (sweep_shaped (expire p locked) locked)
+put_step_shaped = put_step_kept shaped_by_puts
 
 pub moves_shaped : (n : ℕ) (p : Placement) (locked : List Page) → Shaped p (hand_moves p locked n)
-moves_shaped zero p locked = shaped_self p
-moves_shaped (suc n) p locked = shaped_both p (hand_move p locked) (hand_moves (hand_move p locked) locked n) (move_shaped p locked) (moves_shaped n (hand_move p locked) locked)
-
--- The end of a transfer.
-
-land_shaped : (p : Placement) (e : Errand) (x : Part) (rest : List Transfer) → Shaped p (land p e x rest)
-land_shaped p Writes x rest = put_shaped p x.page (Invalid x.frame) (written_mark x.page)
-land_shaped p (Reads source demanded) x rest = go (same_page x.page demanded)
-  where
-    go : (b : Bool) → Shaped p (land_read p source x rest b)
-    go true = put_shaped p x.page (Valid x.frame) (arrived_mark source x.page (mark_of p x.page))
-    go false = put_shaped p x.page (Invalid x.frame) (mark_of p x.page)
-
-land_all_shaped : (xs : List Part) (p : Placement) (e : Errand) (ts : List Transfer) → Shaped p (land_all p e xs ts)
-land_all_shaped [] p e ts = shaped_self p
-land_all_shaped (x ∷ xs) p e ts =
-    shaped_both p (land p e x (record { errand = e; parts = xs } ∷ ts)) (land_all (land p e x (record { errand = e; parts = xs } ∷ ts)) e xs ts)
-    (land_shaped p e x (record { errand = e; parts = xs } ∷ ts)) (land_all_shaped xs (land p e x (record { errand = e; parts = xs } ∷ ts)) e ts)
+moves_shaped = moves_kept shaped_by_puts
 
 pub done_shaped : (p : Placement) → Shaped p (done p)
-done_shaped p = go p.transfers
-  where
-    go : (ts : List Transfer) → Shaped p (done_of p ts)
-    go [] = shaped_self p
-    go (t ∷ ts) = land_all_shaped t.parts p t.errand ts
-
--- User writes, and pages that are given up.
+done_shaped = done_kept shaped_by_puts
 
 pub touch_shaped : (p : Placement) (v : Page) → Shaped p (touch p v)
-touch_shaped p v = go v (state_of p v)
-  where
-    go : (v : Page) (s : PageState) → Shaped p (touch_to p v s)
-    go (Data sid n) (Valid f) = put_shaped p (Data sid n) (Valid f) true
-    go (Data sid n) Unfilled = shaped_self p
-    go (Data sid n) (Invalid f) = shaped_self p
-    go (Data sid n) (Coming f) = shaped_self p
-    go (Data sid n) (Going f) = shaped_self p
-    go (Data sid n) OnSwap = shaped_self p
-    go (Stack sid n) (Valid f) = put_shaped p (Stack sid n) (Valid f) true
-    go (Stack sid n) Unfilled = shaped_self p
-    go (Stack sid n) (Invalid f) = shaped_self p
-    go (Stack sid n) (Coming f) = shaped_self p
-    go (Stack sid n) (Going f) = shaped_self p
-    go (Stack sid n) OnSwap = shaped_self p
-    go (Text image n) s = shaped_self p
-
-drop_shaped : (p : Placement) (v : Page) → Shaped p (drop_page p v)
-drop_shaped p v = go (frame_of (state_of p v))
-  where
-    go : (h : Option ℕ) → Shaped p (drop_at p v h)
-    go None = put_shaped p v Unfilled false
-    go (Some f) = put_shaped p v Unfilled false
+touch_shaped = touch_kept shaped_by_puts
 
 pub drop_all_shaped : (qs : List Page) (p : Placement) → Shaped p (drop_all p qs)
-drop_all_shaped [] p = shaped_self p
-drop_all_shaped (v ∷ qs) p = shaped_both p (drop_page p v) (drop_all (drop_page p v) qs) (drop_shaped p v) (drop_all_shaped qs (drop_page p v))
-
-leave_shaped : (p : Placement) (v : Page) → Shaped p (leave_page p v)
-leave_shaped p v = go (state_of p v) (listed p v)
-  where
-    go : (s : PageState) (m : ℕ) → Shaped p (leave_by p v s m)
-    go (Valid f) m = put_shaped p v (Invalid f) false
-    go (Invalid f) zero = put_shaped p v (Invalid f) false
-    go (Invalid f) (suc m) = put_shaped p v (Invalid f) false
-    go OnSwap m = put_shaped p v Unfilled false
-    go Unfilled m = put_shaped p v Unfilled false
-    go (Coming f) m = shaped_self p
-    go (Going f) m = shaped_self p
+drop_all_shaped = drop_all_kept shaped_by_puts
 
 pub leave_all_shaped : (qs : List Page) (p : Placement) → Shaped p (leave_all p qs)
-leave_all_shaped [] p = shaped_self p
-leave_all_shaped (v ∷ qs) p = shaped_both p (leave_page p v) (leave_all (leave_page p v) qs) (leave_shaped p v) (leave_all_shaped qs (leave_page p v))
+leave_all_shaped = leave_all_kept shaped_by_puts

@@ -20,11 +20,12 @@ use Rattle.kernel_model.specs.Coupled.{IsSized, Fits, AllFit, Outline, Coupled, 
 use Rattle.kernel_model.specs.Kernel.{Kernel, Proc, start_bytes}
 use Rattle.kernel_model.specs.Sound.{DataFits}
 use Rattle.kernel_model.specs.Start.{kept_of, start_of, start_kernel, AreStarting, ImageFits, ImagesFit}
-use Rattle.page_laws.proofs.Lists.Local.{some_is}
-use Rattle.page_laws.proofs.Lists.Pages.{same_page_self}
+use Rattle.std.proofs.lemmas.Option.{same_Some}
+use Rattle.flat_state.proofs.PageNames.{same_page_self}
 use Rattle.page_laws.proofs.Bytes.Spaces.{apart_page, unfilled_at, unfilled_length}
 use Rattle.page_laws.proofs.Starts.{start_blank}
-use Rattle.kernel_laws.proofs.Flat.Numbered.{hit, miss, image_by, numbered_image}
+use Rattle.kernel_laws.proofs.Flat.Numbered.{image_by, numbered_image}
+use Rattle.page_laws.proofs.Lists.Pages.{numbered_hit, numbered_miss}
 use Rattle.kernel_laws.proofs.Flat.Lists.{pid_of, sid_of, held}
 use Rattle.kernel_laws.proofs.Machine.Tables.{kept_pid, tables_of, coupled_of}
 
@@ -52,19 +53,19 @@ one_more images n number named ss xs ds sid im r = elim (cases_eq n sid) [
     number = number;
     named = named;
     image = im;
-    flat = hit sid_of n (new_space n number named.image (named.name ∷ [])) ss refl;
-    pages = hit space_number n (new_pages n number named.image.facts) xs refl;
+    flat = numbered_hit sid_of n (new_space n number named.image (named.name ∷ [])) ss refl;
+    pages = numbered_hit space_number n (new_pages n number named.image.facts) xs refl;
     due = ap (λ (b : Bool). cond b (Some (Start (Stack n 0))) (due_at ds (Stack n 0))) (same_page_self (Stack n 0));
     start = ap (λ (b : Bool). cond b (start_page (named.name ∷ [])) (start_bytes (map start_of ss) (Stack n 0))) (same_page_self (Stack n 0));
   }))
   | inr d ↦ elim r [
-    | inl z ↦ inl (miss sid_of sid (new_space n number named.image (named.name ∷ [])) ss d ∙ z.0, miss space_number sid (new_pages n number named.image.facts) xs d ∙ z.1)
+    | inl z ↦ inl (numbered_miss sid_of sid (new_space n number named.image (named.name ∷ [])) ss d ∙ z.0, numbered_miss space_number sid (new_pages n number named.image.facts) xs d ∙ z.1)
     | inr a ↦ inr (record {
       number = a.number;
       named = a.named;
       image = a.image;
-      flat = miss sid_of sid (new_space n number named.image (named.name ∷ [])) ss d ∙ a.flat;
-      pages = miss space_number sid (new_pages n number named.image.facts) xs d ∙ a.pages;
+      flat = numbered_miss sid_of sid (new_space n number named.image (named.name ∷ [])) ss d ∙ a.flat;
+      pages = numbered_miss space_number sid (new_pages n number named.image.facts) xs d ∙ a.pages;
       due = ap (λ (b : Bool). cond b (Some (Start (Stack n 0))) (due_at ds (Stack sid 0))) (apart_page (Stack n 0) (Stack sid 0) (λ e. d (stack_sid n sid 0 0 e))) ∙ a.due;
       start = ap (λ (b : Bool). cond b (start_page (named.name ∷ [])) (start_bytes (map start_of ss) (Stack sid 0))) (apart_page (Stack n 0) (Stack sid 0) (λ e. d (stack_sid n sid 0 0 e))) ∙ a.start;
     })
@@ -99,7 +100,7 @@ all_in (a ∷ first) n pid = go (n == pid) (all_in first (n + 1) pid)
     go true h = refl
     go false h = h
 
-start_outlines : (ps : List Process) → map outline_kept (map kept_of ps) ≡ map outline_of ps
+pub start_outlines : (ps : List Process) → map outline_kept (map kept_of ps) ≡ map outline_of ps
 start_outlines [] = refl
 start_outlines (p ∷ ps) = ap (λ (l : List Outline). outline_of p ∷ l) (start_outlines ps)
 
@@ -111,7 +112,7 @@ pub start_coupled_all : (A : Inputs) (first : List Starting) (hs : Holdings) (fr
 start_coupled_all A first hs frames image a fit = coupled_of k A.images image flat (tables_of k flat (start_outlines flat.processes) refl refl fits)
     (record { each = each; text = λ i v. refl; text_due = λ i v. due_stacks first 1 (Text i v) (λ sid e. cc) })
     (λ n q p eq ep. subst (λ (o : Bool). Rattle.kernel_model.specs.Coupled.KeepsRegs k image o q p.regs (Rattle.page_model.specs.Place.space_of_holding q.holding)) (sym (all_in first 1 n))
-    (let same : kept_of q ≡ p = some_is (kept_of q) p (ap (image_by kept_of) (sym eq) ∙ sym (numbered_image kept_of pid_of kept_pid (λ x. refl) n flat.processes) ∙ ep) in ap (λ (x : Proc). x.regs) (sym same)))
+    (let same : kept_of q ≡ p = same_Some (kept_of q) p (ap (image_by kept_of) (sym eq) ∙ sym (numbered_image kept_of pid_of kept_pid (λ x. refl) n flat.processes) ∙ ep) in ap (λ (x : Proc). x.regs) (sym same)))
   where
     k : Kernel
     k = start_kernel A first hs frames

@@ -1,6 +1,6 @@
 -- Changes that leave all spaces: an entry of a process, one that falls asleep, and a zombie that goes.
 use Rattle.std.proofs.Common.{◌≡◌, ◌≢◌, inl, inr, ℕ, ◌==◌, Bool, true, false, not, List, [], map, Some, refl, sym, ap, ◌∙◌, subst}
-use Rattle.std.proofs.lemmas.Bool.{cases_eq}
+use Rattle.std.proofs.lemmas.Bool.{cases_eq, eqb-true}
 use Rattle.flat_state.specs.Space.{Space}
 use Rattle.flat_state.specs.Flat.{Holds, Zombie, Process, FlatState, NamedImage, process_of, space_held}
 use Rattle.vm_facts.specs.declared.regs.Regs.{Regs}
@@ -16,8 +16,9 @@ use Rattle.flat_state.specs.Numbers.{AllDistinct, IsNumbered}
 use Rattle.kernel_model.specs.Coupled.{Fits, Outline, Coupled, SameTables, KeepsRegs, outline_kept, outline_of, beside_kernel}
 use Rattle.kernel_model.specs.Kernel.{Kernel, Proc, HoldsSpace, life_of}
 use Rattle.kernel_model.specs.ChangeStep.{with_proc, without_proc, change_step}
-use Rattle.page_laws.proofs.Lists.Local.{none_some, some_is}
-use Rattle.kernel_laws.proofs.Flat.Numbered.{eq_is, removed_is, removed_not}
+use Rattle.page_laws.proofs.Lists.Local.{none_some}
+use Rattle.std.proofs.lemmas.Option.{same_Some}
+use Rattle.kernel_laws.proofs.Flat.Numbered.{removed_is, removed_not}
 use Rattle.kernel_laws.proofs.Flat.Lists.{pid_of, sid_of, held, replaced_at, replaced_not, same_held}
 use Rattle.kernel_laws.proofs.Machine.Moves.{alike_coupled}
 use Rattle.kernel_laws.proofs.Machine.Tables.{kept_pid, all_fit, tables_of, RegsAt, regs_at, coupled_of}
@@ -52,8 +53,8 @@ stay_coupled k images image flat q fp p kp journal d f g h o r out c = coupled_o
 
     regs_now : (n : ℕ) → RegsAt l image after n
     regs_now n a b ea eb = elim (cases_eq n fp.pid) [
-      | inl same ↦ (let fa : fp ≡ a = some_is fp a (sym (replaced_at flat.processes q fp f) ∙ ap (λ (m : ℕ). numbered pid_of m (replaced flat.processes fp)) (sym same) ∙ ea) in
-          let kb : kp ≡ b = some_is kp b (sym (with_at k.processes kp p g) ∙ ap (λ (m : ℕ). numbered kept_pid m (with_proc k.processes kp)) (pids ∙ sym same) ∙ eb) in
+      | inl same ↦ (let fa : fp ≡ a = same_Some fp a (sym (replaced_at flat.processes q fp f) ∙ ap (λ (m : ℕ). numbered pid_of m (replaced flat.processes fp)) (sym same) ∙ ea) in
+          let kb : kp ≡ b = same_Some kp b (sym (with_at k.processes kp p g) ∙ ap (λ (m : ℕ). numbered kept_pid m (with_proc k.processes kp)) (pids ∙ sym same) ∙ eb) in
           subst (λ (z : Bool). KeepsRegs l image z a b.regs (space_of_holding a.holding)) (sym (ap (is_out k.place) same ∙ out)) (ap (λ (x : Proc). x.regs) (sym kb) ∙ r ∙ ap (λ (x : Process). x.regs) fa))
       | inr m ↦ same_regs n a b (regs_at k images image flat c n a b (sym (replaced_not flat.processes fp n m) ∙ ea) (sym (with_not k.processes kp n (λ i. m (i ∙ pids))) ∙ eb))
     ]
@@ -82,8 +83,8 @@ gone_coupled k images image flat child z d f h c = coupled_of l images image aft
 
     spaces : held after.processes ≡ held flat.processes
     spaces = held_filter (λ (x : Process). not (x.pid == child)) flat.processes d
-        (λ x e n. let i : x.pid ≡ child = eq_is x.pid child (off (x.pid == child) n) in
-        ap (λ (y : Process). space_held y.holding) (some_is x z (sym e ∙ ap (λ (m : ℕ). numbered pid_of m flat.processes) i ∙ f)) ∙ h)
+        (λ x e n. let i : x.pid ≡ child = eqb-true x.pid child (off (x.pid == child) n) in
+        ap (λ (y : Process). space_held y.holding) (same_Some x z (sym e ∙ ap (λ (m : ℕ). numbered pid_of m flat.processes) i ∙ f)) ∙ h)
       where
         off : (b : Bool) → not b ≡ false → b ≡ true
         off true e = refl
@@ -130,7 +131,7 @@ pub reap_coupled : (k : Kernel) (images : List NamedImage) (image : List ℕ) (f
 reap_coupled k images image flat pid regs e child status q z s nums f h out fz hz c =
     let g : Stepping k flat pid q s = stepping k flat pid q s c.tables f h in
     let at : numbered pid_of child flat.processes ≡ Some z = sym (Rattle.kernel_laws.proofs.Flat.Lists.found_is flat.processes child) ∙ fz in
-    let other : pid ≢ child = λ i. holder (some_is q z (sym g.found ∙ ap (λ (n : ℕ). numbered pid_of n flat.processes) i ∙ at)) in
+    let other : pid ≢ child = λ i. holder (same_Some q z (sym g.found ∙ ap (λ (n : ℕ). numbered pid_of n flat.processes) i ∙ at)) in
     subst (λ (x : Kernel). Coupled x images image (apply_change images flat pid regs (Reap child))) (sym (step_is (facts_of images) k pid regs e (Reap child) g.proc (HoldsSpace s.sid) g.kept g.life))
     (subst (Coupled (by_life (facts_of images) k (record g.proc { regs = regs }) (HoldsSpace s.sid) e (Reap child)) images image) (sym (applied images flat pid regs (Reap child) q s f h))
     (stay_coupled (record k { processes = without_proc k.processes child }) images image (without_process flat child) q (record q { regs = regs }) g.proc (record g.proc { regs = regs }) (append k.journal e)

@@ -1,7 +1,7 @@
 -- Instructions that ran, and processes that go out and come in, keep the whole machine coupled.
 use Rattle.std.proofs.Common.{◌≡◌, ◌≢◌, ◌⊎◌, inl, inr, ℕ, ◌*◌, ◌≤◌, ◌==◌, Bool, true, false, cond, List, [], ◌∷◌, ◌++◌, length, map, Option, Some, IsSome, refl, sym, ap, ◌∙◌, subst, length-append, arith}
 use Rattle.std.specs.Prelude.{flat_map, replicate}
-use Rattle.std.proofs.lemmas.Bool.{cases_eq}
+use Rattle.std.proofs.lemmas.Bool.{cases_eq, eqb-true, ne_eqb}
 use Rattle.flat_state.specs.Space.{Space}
 use Rattle.flat_state.specs.Flat.{Holds, Process, FlatState, NamedImage, process_of, spaces_of, cleared}
 use Rattle.vm_facts.specs.declared.page.Page.{Page}
@@ -32,16 +32,19 @@ use Rattle.kernel_model.specs.Coupled.{Fits, Outline, Coupled, SameTables, Keeps
 use Rattle.kernel_model.specs.Kernel.{Kernel, Proc, with_regs, out_step, in_step}
 use Rattle.kernel_model.specs.Sound.{Sound, has_life, lives, lives_in}
 use Rattle.kernel_model.specs.UPage.{AreRegs, codes_of, u_page, regs_in}
-use Rattle.page_model.specs.Stored.{stored_at, store_at, put_blocks, blocks_at}
+use Rattle.page_model.specs.Stored.{stored_at, store_at}
+use Rattle.vm_facts.specs.Swap.{blocks_at, put_blocks}
 use Rattle.kernel_model.specs.ChangeStep.{ran_by, space_of_life}
-use Rattle.page_laws.proofs.Lists.Local.{some_is}
-use Rattle.page_laws.proofs.Blocks.Places.{length_put, blocks_put_same}
 use Rattle.page_laws.proofs.Swapper.Residences.{moved_own}
+use Rattle.std.proofs.lemmas.Option.{same_Some}
+use Rattle.vm_facts.proofs.Swap.{length-put_blocks, blocks_at-put_blocks_same}
 use Rattle.kernel_laws.proofs.Registers.{regs_back_any}
-use Rattle.kernel_laws.proofs.Flat.Numbered.{eq_is, eq_self, not_eq, has_number, numbered_map, mapped_some}
+use Rattle.kernel_laws.proofs.Flat.Numbered.{has_number, numbered_map, mapped_some}
+use Rattle.vm_facts.proofs.Tests.{eq_self}
 use Rattle.kernel_laws.proofs.Flat.Lists.{pid_of, sid_of, held, found_is, Parts, parts_at, replaced_at, replaced_not, same_held}
 use Rattle.kernel_laws.proofs.Machine.Moves.{alike_coupled, regs_kept}
-use Rattle.kernel_laws.proofs.Machine.Done.{some_of, stored_apart}
+use Rattle.kernel_laws.proofs.Machine.Done.{some_of}
+use Rattle.page_laws.proofs.Blocks.Places.{stored_other}
 use Rattle.kernel_laws.proofs.Machine.Tables.{outline_at, space_same, kept_pid, all_fit, tables_of, RegsAt, regs_at, coupled_of}
 use Rattle.kernel_model.specs.Unit.{proc_of}
 use Rattle.page_laws.proofs.Lists.Pages.{mapped}
@@ -94,7 +97,7 @@ regs_other : (pid n : ℕ) (regs : Regs) (ps : List Proc) (p : Proc) → n ≢ p
 regs_other pid n regs ps p d e =
     let m : (x : Proc) × (numbered kept_pid n ps ≡ Some x) × (with_regs pid regs x ≡ p) = mapped_some (with_regs pid regs) (numbered kept_pid n ps) p (sym (numbered_map kept_pid (with_regs pid regs) (with_regs_pid pid regs) n ps) ∙ e) in
     let i : m.0.pid ≡ n = has_number kept_pid n ps m.0 m.1 in
-    m.1 ∙ ap Some (ap (λ (b : Bool). cond b (record m.0 { regs = regs }) m.0) (sym (not_eq m.0.pid pid (λ h. d (sym i ∙ h)))) ∙ m.2)
+    m.1 ∙ ap Some (ap (λ (b : Bool). cond b (record m.0 { regs = regs }) m.0) (sym (ne_eqb m.0.pid pid (λ h. d (sym i ∙ h)))) ∙ m.2)
 
 pub replaced_outlines : (ps : List Process) (q p : Process) → numbered pid_of p.pid ps ≡ Some q → outline_of p ≡ outline_of q → map outline_of (replaced ps p) ≡ map outline_of ps
 replaced_outlines ps q p e h =
@@ -138,7 +141,7 @@ ran_coupled k images image flat pid regs e q s f h out c = subst (Coupled l imag
 
     regs_now : (n : ℕ) → RegsAt l image after n
     regs_now n a b ea eb = elim (cases_eq n pid) [
-      | inl same ↦ (let is : p ≡ a = some_is p a (sym (replaced_at flat.processes q p found) ∙ ap (λ (m : ℕ). numbered pid_of m (replaced flat.processes p)) (at ∙ sym same) ∙ ea) in
+      | inl same ↦ (let is : p ≡ a = same_Some p a (sym (replaced_at flat.processes q p found) ∙ ap (λ (m : ℕ). numbered pid_of m (replaced flat.processes p)) (at ∙ sym same) ∙ ea) in
           subst (λ (o : Bool). KeepsRegs l image o a b.regs (space_of_holding a.holding)) (sym (ap (is_out k.place) same ∙ out))
           (regs_same pid regs k.processes b (ap (λ (m : ℕ). numbered kept_pid m l.processes) (sym same) ∙ eb) ∙ ap (λ (x : Process). x.regs) is))
       | inr d ↦ regs_at k images image flat c n a b (sym (replaced_not flat.processes p n (λ i. d (i ∙ at))) ∙ ea) (regs_other pid n regs k.processes b d eb)
@@ -152,7 +155,7 @@ out_other (r ∷ rs) pid n out at d = go (r.pid == pid) refl (out_other rs pid n
   where
     go : (b : Bool) → (r.pid == pid) ≡ b → (residence_of (Rattle.page_model.specs.Pages.changed (λ (r : Residence). r.pid) pid (λ (r : Residence). record r { out = out; since = at }) rs) n).out ≡ (residence_of rs n).out
         → (residence_of (cond b (record r { out = out; since = at } ∷ rs) (r ∷ Rattle.page_model.specs.Pages.changed (λ (r : Residence). r.pid) pid (λ (r : Residence). record r { out = out; since = at }) rs)) n).out ≡ (residence_of (r ∷ rs) n).out
-    go true e ih = let m : (r.pid == n) ≡ false = not_eq r.pid n (λ h. d (sym h ∙ eq_is r.pid pid e)) in
+    go true e ih = let m : (r.pid == n) ≡ false = ne_eqb r.pid n (λ h. d (sym h ∙ eqb-true r.pid pid e)) in
         ap (λ (b : Bool). (cond b (record r { out = out; since = at }) (residence_of rs n)).out) m ∙ sym (ap (λ (b : Bool). (cond b r (residence_of rs n)).out) m)
     go false e ih = head (r.pid == n)
       where
@@ -223,7 +226,7 @@ in_coupled_any k images image flat pid regs q f out are is c = coupled_of l imag
 
     regs_now : (n : ℕ) → RegsAt l image flat n
     regs_now n a b ea eb = elim (cases_eq n pid) [
-      | inl same ↦ (let same_q : q ≡ a = some_is q a (sym (found_at flat pid q f).1 ∙ ap (λ (m : ℕ). numbered pid_of m flat.processes) (sym same) ∙ ea) in
+      | inl same ↦ (let same_q : q ≡ a = same_Some q a (sym (found_at flat pid q f).1 ∙ ap (λ (m : ℕ). numbered pid_of m flat.processes) (sym same) ∙ ea) in
           let now : numbered kept_pid pid (map (with_regs pid regs) k.processes) ≡ Some b = ap (λ (m : ℕ). numbered kept_pid m l.processes) (sym same) ∙ eb in
           let was : (x : Proc) × (numbered kept_pid pid k.processes ≡ Some x) × (with_regs pid regs x ≡ b) =
           mapped_some (with_regs pid regs) (numbered kept_pid pid k.processes) b (sym (numbered_map kept_pid (with_regs pid regs) (with_regs_pid pid regs) pid k.processes) ∙ now) in
@@ -255,7 +258,7 @@ u_other size hs image bytes pid x owner v book l lb e n =
     let a : ArePlacesApart size hs = places_apart_of size hs book in
     let p : IsPlace size hs (owners.U pid) x = a.own (owners.U pid) 0 x e in
     let w = p.within in
-    stored_apart image bytes x (block_in hs owner v) (omega arith) lb (λ y h. elim (a.apart (owners.U pid) owner 0 v x y e h) [
+    stored_other image bytes x (block_in hs owner v) (omega arith) lb (λ y h. elim (a.apart (owners.U pid) owner 0 v x y e h) [
       | inl k ↦ absurd (n (sym k.0))
       | inr k ↦ k
     ])
@@ -265,7 +268,7 @@ u_own size hs image bytes pid x book l lb e =
     let a : ArePlacesApart size hs = places_apart_of size hs book in
     let p : IsPlace size hs (owners.U pid) x = a.own (owners.U pid) 0 x e in
     let w = p.within in
-    blocks_put_same image bytes x (omega arith) lb
+    blocks_at-put_blocks_same image bytes x (omega arith) lb
 
 -- a process that lives has a u page
 pub u_found : (size : ℕ) (k : Kernel) (pid : ℕ) → Sound size k → lives k.processes pid ≡ true → IsSome (block_in k.holdings (owners.U pid) 0)
@@ -359,7 +362,7 @@ out_length size k image pid p d s so li e alive are =
     let b : (x : ℕ) × (block_in k.holdings (owners.U pid) 0 ≡ Some x) = some_of (block_in k.holdings (owners.U pid) 0) (u_found size k pid so (ap lives_in e ∙ alive)) in
     let y : IsPlace size k.holdings (owners.U pid) b.0 = a.own (owners.U pid) 0 b.0 b.1 in
     let z = y.within in
-    ap (λ (i : Option ℕ). length (store_at image i (u_page p.regs d s))) b.1 ∙ length_put image (u_page p.regs d s) b.0 (omega arith) (u_length p.regs d s are)
+    ap (λ (i : Option ℕ). length (store_at image i (u_page p.regs d s))) b.1 ∙ length-put_blocks image (u_page p.regs d s) b.0 (omega arith) (u_length p.regs d s are)
 
 -- Whatever the record has of a process that is out, the machine stands for the same.
 pub left_coupled : (k : Kernel) (images : List NamedImage) (image : List ℕ) (flat : FlatState) (pid : ℕ) (regs : Regs) → is_out k.place pid ≡ true → Coupled k images image flat → Coupled (record k { processes = map (with_regs pid regs) k.processes }) images image flat

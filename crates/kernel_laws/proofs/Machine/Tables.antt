@@ -13,7 +13,7 @@ use Rattle.page_model.specs.PageBytes.{CouplesPages}
 use Rattle.kernel_model.specs.Coupled.{Fits, AllFit, Outline, outline_kept, outline_of, beside_kernel, SameTables, KeepsRegs, Coupled}
 use Rattle.kernel_model.specs.Kernel.{Kernel, Proc, life_of}
 use Rattle.kernel_model.specs.UPage.{u_page}
-use Rattle.page_laws.proofs.Lists.Local.{some_is}
+use Rattle.std.proofs.lemmas.Option.{same_Some}
 use Rattle.kernel_laws.proofs.Flat.Numbered.{has_number, image_by, numbered_image}
 use Rattle.kernel_laws.proofs.Flat.Lists.{pid_of}
 use Rattle.kernel_laws.proofs.Machine.Moves.{u_stored}
@@ -34,7 +34,7 @@ pub outlines_at : (ks : List Proc) (fs : List Process) → map outline_kept ks �
 outlines_at ks fs e n = sym (numbered_image outline_kept kept_pid (λ (o : Outline). o.pid) (λ x. refl) n ks) ∙ ap (numbered (λ (o : Outline). o.pid) n) e ∙ numbered_image outline_of pid_of (λ (o : Outline). o.pid) (λ x. refl) n fs
 
 pub outline_at : (ks : List Proc) (fs : List Process) → map outline_kept ks ≡ map outline_of fs → (n : ℕ) (p : Proc) (q : Process) → numbered kept_pid n ks ≡ Some p → numbered pid_of n fs ≡ Some q → outline_kept p ≡ outline_of q
-outline_at ks fs e n p q a b = some_is (outline_kept p) (outline_of q) (ap (image_by outline_kept) (sym a) ∙ outlines_at ks fs e n ∙ ap (image_by outline_of) b)
+outline_at ks fs e n p q a b = same_Some (outline_kept p) (outline_of q) (ap (image_by outline_kept) (sym a) ∙ outlines_at ks fs e n ∙ ap (image_by outline_of) b)
 
 pub space_same : (h : Holding) → space_of_life (life_of h) ≡ space_of_holding h
 space_same (Holds s) = refl

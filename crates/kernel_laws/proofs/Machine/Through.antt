@@ -1,6 +1,6 @@
 -- The tables of the machine are those of the flat state through each change, with no bytes.
 use Rattle.std.proofs.Common.{◌≡◌, ◌≢◌, inl, inr, ℕ, ◌+◌, ◌*◌, ◌==◌, Bool, true, false, List, [], ◌∷◌, ◌++◌, length, map, Option, Some, None, refl, sym, ap, ◌∙◌, subst, not, filter}
-use Rattle.std.proofs.lemmas.Bool.{cases_eq, cases_Bool}
+use Rattle.std.proofs.lemmas.Bool.{cases_eq, cases_Bool, eqb-true}
 use Rattle.flat_state.specs.Space.{Space}
 use Rattle.flat_state.specs.Flat.{Holds, Process, FlatState, Lends, Zombie, NamedImage, process_of, image_numbered, space_with, spaces_of, space_held}
 use Rattle.vm_facts.specs.declared.page.Page.TheVariants.{Data, Stack}
@@ -8,11 +8,11 @@ use Rattle.vm_facts.specs.declared.regs.Regs.{Regs}
 use Rattle.vm_facts.specs.declared.entry.Entry.{Entry}
 use Rattle.aout_image.specs.Image.{data_pages_of}
 use Rattle.flat_state.specs.declared.change.Change.TheVariants.{Fork, Lend, Resize, Exec, End, Keep, Reap, Sleep}
-use Rattle.flat_state.specs.Change.{replaced, with_results, child_of, forked, apply_change, lent, with_process, resized_bytes, resized, replaced_by, returned, returned_by, entered, is_zombie, is_zombie_child, without_parent, orphaned, awake, woken, left, ended, without_process, lends_to}
+use Rattle.flat_state.specs.Change.{replaced, with_results, child_of, forked, apply_change, lent, with_process, resized_bytes, resized, replaced_by, returned, returned_by, entered, is_zombie, is_zombie_child, without_parent, orphaned, awake, woken, left, ended, without_process, lends_to, is_borrower}
 use Rattle.flat_state.specs.Journal.{append}
 use Rattle.page_model.specs.Pages.{SpacePages, numbered}
 use Rattle.page_model.specs.Placement.{Placement, space_number, slots_of, image_of, new_pages}
-use Rattle.page_model.specs.Place.{child_slot, enter_space, give_up_unless, is_borrower, facts_of}
+use Rattle.page_model.specs.Place.{child_slot, enter_space, give_up_unless, facts_of}
 use Rattle.page_model.specs.Conditions.{IsNew}
 use Rattle.flat_state.specs.Numbers.{IsNumbered, AllDistinct}
 use Rattle.flat_state.specs.Lenders.{IsLender}
@@ -20,10 +20,12 @@ use Rattle.kernel_model.specs.Coupled.{IsSized, Fits, AllFit, Outline, SameTable
 use Rattle.kernel_model.specs.Kernel.{Kernel, Proc, Life, HoldsSpace, New, LendsSpace, StartBytes, start_bytes, Ended, life_of}
 use Rattle.kernel_model.specs.Sound.{DataFits}
 use Rattle.kernel_model.specs.ChangeStep.{with_proc, child_proc, change_step, pass_step, without_proc, orphaned_procs, left_procs}
-use Rattle.page_laws.proofs.Lists.Local.{none_some, some_is}
+use Rattle.page_laws.proofs.Lists.Local.{none_some}
+use Rattle.std.proofs.lemmas.Option.{same_Some}
 use Rattle.page_laws.proofs.Ownership.Changes.{added_other, added_same, dropped_pages}
 use Rattle.page_laws.proofs.Bytes.Spaces.{map_length, unfilled_length}
-use Rattle.kernel_laws.proofs.Flat.Numbered.{pushed_new, pushed_old, pushed_found, map_pushed, none_absent, hit, miss, eq_is, removed_not}
+use Rattle.kernel_laws.proofs.Flat.Numbered.{pushed_new, pushed_old, pushed_found, map_pushed, none_absent, removed_not}
+use Rattle.page_laws.proofs.Lists.Pages.{numbered_hit, numbered_miss}
 use Rattle.kernel_laws.proofs.Flat.Lists.{pid_of, sid_of, held, found_is, replaced_at, replaced_not, same_held, held-append, held_at, held_own, HeldAt, held_other, held_now, held_new, held_gain}
 use Rattle.kernel_laws.proofs.Machine.Done.{fit_data, fit_stack}
 use Rattle.kernel_laws.proofs.Machine.Tables.{kept_pid, tables_of, all_fit}
@@ -78,10 +80,10 @@ resize_tables k images flat pid regs e d t q s nums f h c =
     held_here = held_at flat.processes q fp s found h nums.sids
 
     own : numbered sid_of s.sid (spaces_of after) ≡ Some z
-    own = held_now flat.processes fp s held_here ∙ hit sid_of s.sid z [] refl
+    own = held_now flat.processes fp s held_here ∙ numbered_hit sid_of s.sid z [] refl
 
     other : (n : ℕ) → n ≢ s.sid → numbered sid_of n (spaces_of after) ≡ numbered sid_of n (spaces_of flat)
-    other n m = held_other flat.processes fp s n held_here m (miss sid_of n z [] (λ i. m (sym i)))
+    other n m = held_other flat.processes fp s n held_here m (numbered_miss sid_of n z [] (λ i. m (sym i)))
 
     was : numbered sid_of s.sid (spaces_of flat) ≡ Some s
     was = held_own flat.processes fp s held_here
@@ -421,9 +423,9 @@ exec_tables k images flat pid regs e number top named q s nums f h own_space im 
       apart = λ i. apart;
       fits = fit;
       whole = whole;
-      own = held_new flat.processes fp s n held_here (next_sid_none flat nums) ∙ hit sid_of n z [] refl;
-      other = λ m a b. held_other flat.processes fp s m held_here (b refl) (miss sid_of m z [] (λ i. a (sym i)));
-      gone = λ i. held_now flat.processes fp s held_here ∙ miss sid_of s.sid z [] apart;
+      own = held_new flat.processes fp s n held_here (next_sid_none flat nums) ∙ numbered_hit sid_of n z [] refl;
+      other = λ m a b. held_other flat.processes fp s m held_here (b refl) (numbered_miss sid_of m z [] (λ i. a (sym i)));
+      gone = λ i. held_now flat.processes fp s held_here ∙ numbered_miss sid_of s.sid z [] apart;
     }
 
 -- what is asked of the flat state behind an end, of the tables alone
@@ -592,7 +594,7 @@ exec_back_tables k images flat pid regs e number top named q m s nums f h is im 
     apart i = holds_there flat.processes q.pid q s found h (ap (λ (y : ℕ). numbered sid_of y (held flat.processes)) (sym i) ∙ next_sid_none flat nums)
 
     gain : (numbered sid_of s.sid (spaces_of after) ≡ Some s) × ((y : ℕ) → y ≢ s.sid → numbered sid_of y (spaces_of after) ≡ numbered sid_of y (held r1))
-    gain = held_gain r1 m mp s b.lender_found (ap space_held is.holding) refl (held_now flat.processes fp s held_here ∙ miss sid_of s.sid z [] apart)
+    gain = held_gain r1 m mp s b.lender_found (ap space_held is.holding) refl (held_now flat.processes fp s held_here ∙ numbered_miss sid_of s.sid z [] apart)
 
     enters : EntersTables k flat after n 0 number true named top
     enters = record {
@@ -600,10 +602,10 @@ exec_back_tables k images flat pid regs e number top named q m s nums f h is im 
       apart = λ i. absurd cc;
       fits = fit;
       whole = whole;
-      own = gain.1 n apart ∙ held_new flat.processes fp s n held_here (next_sid_none flat nums) ∙ hit sid_of n z [] refl;
+      own = gain.1 n apart ∙ held_new flat.processes fp s n held_here (next_sid_none flat nums) ∙ numbered_hit sid_of n z [] refl;
       other = λ y d _. elim (cases_eq y s.sid) [
         | inl i ↦ ap (λ (x : ℕ). numbered sid_of x (spaces_of after)) i ∙ gain.0 ∙ sym (held_own flat.processes fp s held_here) ∙ ap (λ (x : ℕ). numbered sid_of x (spaces_of flat)) (sym i)
-        | inr j ↦ gain.1 y j ∙ held_other flat.processes fp s y held_here j (miss sid_of y z [] (λ i. d (sym i)))
+        | inr j ↦ gain.1 y j ∙ held_other flat.processes fp s y held_here j (numbered_miss sid_of y z [] (λ i. d (sym i)))
       ];
       gone = λ i. absurd cc;
     }
@@ -729,7 +731,7 @@ pub reap_tables : (k : Kernel) (images : List NamedImage) (flat : FlatState) (pi
 reap_tables k images flat pid regs e child status q z s nums f h fz hz c =
     let g : Stepping k flat pid q s = stepping k flat pid q s c f h in
     let at : numbered pid_of child flat.processes ≡ Some z = sym (found_is flat.processes child) ∙ fz in
-    let other : pid ≢ child = λ i. holder (some_is q z (sym g.found ∙ ap (λ (n : ℕ). numbered pid_of n flat.processes) i ∙ at)) in
+    let other : pid ≢ child = λ i. holder (same_Some q z (sym g.found ∙ ap (λ (n : ℕ). numbered pid_of n flat.processes) i ∙ at)) in
     subst (λ (x : Kernel). SameTables x (apply_change images flat pid regs (Reap child))) (sym (step_is (facts_of images) k pid regs e (Reap child) g.proc (HoldsSpace s.sid) g.kept g.life))
     (subst (SameTables (by_life (facts_of images) k (record g.proc { regs = regs }) (HoldsSpace s.sid) e (Reap child))) (sym (applied images flat pid regs (Reap child) q s f h))
     (stay_tables (record k { processes = without_proc k.processes child }) (without_process flat child) q (record q { regs = regs }) (record g.proc { regs = regs }) (append k.journal e)
@@ -751,5 +753,5 @@ reap_tables k images flat pid regs e child status q z s nums f h fz hz c =
 
         spaces : held (filter (λ (x : Process). not (x.pid == child)) flat.processes) ≡ held flat.processes
         spaces = held_filter (λ (x : Process). not (x.pid == child)) flat.processes nums.pids
-            (λ x e n. let i : x.pid ≡ child = eq_is x.pid child (off (x.pid == child) n) in
-            ap (λ (y : Process). space_held y.holding) (some_is x z (sym e ∙ ap (λ (m : ℕ). numbered pid_of m flat.processes) i ∙ at)) ∙ ap space_held hz)
+            (λ x e n. let i : x.pid ≡ child = eqb-true x.pid child (off (x.pid == child) n) in
+            ap (λ (y : Process). space_held y.holding) (same_Some x z (sym e ∙ ap (λ (m : ℕ). numbered pid_of m flat.processes) i ∙ at)) ∙ ap space_held hz)

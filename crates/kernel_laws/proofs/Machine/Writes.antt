@@ -26,11 +26,12 @@ use Rattle.flat_state.specs.Numbers.{IsNumbered}
 use Rattle.kernel_model.specs.Coupled.{Fits, AllFit, Coupled, SameTables, KeepsRegs, Outline, memory_of, data_bytes_in, stack_bytes_in, beside_kernel}
 use Rattle.kernel_model.specs.Kernel.{Kernel, frame_bytes, write_step}
 use Rattle.kernel_model.specs.Sound.{Sound, lives}
-use Rattle.page_laws.proofs.Lists.Local.{some_is}
+use Rattle.std.proofs.lemmas.Option.{same_Some}
 use Rattle.page_laws.proofs.Moves.Steps.{page_in}
 use Rattle.page_laws.proofs.Bytes.Pages.{keeps_at, touch_coupled}
-use Rattle.kernel_laws.proofs.Flat.Numbered.{hit, miss}
-use Rattle.kernel_laws.proofs.Flat.Lists.{pid_of, sid_of, replaced_at, replaced_not, HeldAt, held_at, held_own, held_other, held_now, found_is, replaced_twice}
+use Rattle.page_laws.proofs.Lists.Pages.{numbered_hit, numbered_miss}
+use Rattle.kernel_laws.proofs.Flat.Lists.{pid_of, sid_of, replaced_at, replaced_not, HeldAt, held_at, held_own, held_other, held_now, found_is}
+use Rattle.flat_state.proofs.Processes.{replaced_twice}
 use Rattle.kernel_laws.proofs.Machine.Shapes.{fit_shaped, Shaped, touch_shaped, sizes_kept}
 use Rattle.kernel_laws.proofs.Machine.Moves.{alike_coupled, file_same}
 use Rattle.kernel_laws.proofs.Machine.Tables.{all_fit, tables_of, RegsAt, regs_at, regs_carry, coupled_of, fit_bytes}
@@ -168,10 +169,10 @@ write_coupled size k images image flat pid q s w v f at so due nums fq hq is e c
 
     -- what the spaces are
     own : numbered sid_of s.sid (spaces_of after) ≡ Some z
-    own = held_now flat.processes p s place_of ∙ hit sid_of s.sid z [] i.sid
+    own = held_now flat.processes p s place_of ∙ numbered_hit sid_of s.sid z [] i.sid
 
     other : (n : ℕ) → n ≢ s.sid → numbered sid_of n (spaces_of after) ≡ numbered sid_of n (spaces_of flat)
-    other n d = held_other flat.processes p s n place_of d (miss sid_of n z [] (λ h. d (sym h ∙ i.sid)))
+    other n d = held_other flat.processes p s n place_of d (numbered_miss sid_of n z [] (λ h. d (sym h ∙ i.sid)))
 
     was : numbered sid_of s.sid (spaces_of flat) ≡ Some s
     was = held_own flat.processes p s place_of
@@ -231,7 +232,7 @@ write_coupled size k images image flat pid q s w v f at so due nums fq hq is e c
 
     regs_now : (n : ℕ) → RegsAt l image after n
     regs_now n x y ex ey = subst (λ (out : Bool). KeepsRegs l image out x y.regs (space_of_holding x.holding)) (sym (ap (λ (rs : List Rattle.page_model.specs.Placement.Residence). (residence_of rs n).out) shaped.residents)) (elim (cases_eq n q.pid) [
-      | inl h ↦ (let same : p ≡ x = some_is p x (sym (replaced_at flat.processes q p found) ∙ ap (λ (m : ℕ). numbered pid_of m (replaced flat.processes p)) (sym h) ∙ ex) in
+      | inl h ↦ (let same : p ≡ x = same_Some p x (sym (replaced_at flat.processes q p found) ∙ ap (λ (m : ℕ). numbered pid_of m (replaced flat.processes p)) (sym h) ∙ ex) in
           subst (λ (r : Process). KeepsRegs l image (is_out k.place n) r y.regs (space_of_holding r.holding)) same
           (regs_carry k l image image (is_out k.place n) q p y.regs y.regs (space_of_holding q.holding) z.sid refl refl
           (λ out. (refl, size_at (λ m. Data m 0), size_at (λ m. Stack m 0))) (regs_at k images image flat c n q y (ap (λ (m : ℕ). numbered pid_of m flat.processes) h ∙ found) ey)))

@@ -224,7 +224,7 @@ change_fits images p pid sid borrowed next at (End status) hs c m f =
     record { of_data = u.of_data; of_stack = u.of_stack; of_text = u.of_text }
 
 -- no change makes a text longer or shorter
-unless_texts : (borrowed : Bool) (p : Placement) (sid i : ℕ) → length (slots_of (give_up_unless borrowed p sid) (Text i 0)) ≡ length (slots_of p (Text i 0))
+pub unless_texts : (borrowed : Bool) (p : Placement) (sid i : ℕ) → length (slots_of (give_up_unless borrowed p sid) (Text i 0)) ≡ length (slots_of p (Text i 0))
 unless_texts true p sid i = refl
 unless_texts false p sid i = leave_text_length (remove_space (drop_all p (pages_of_space p sid)) sid) (image_of p sid) (Text i 0) ∙ drop_all_length (pages_of_space p sid) p (Text i 0)
 

@@ -2,6 +2,7 @@
 use Rattle.std.proofs.Common.{◌≡◌, ◌≢◌, ◌⊎◌, inl, inr, ℕ, zero, suc, ◌+◌, ◌*◌, ◌<◌, ◌≤◌, ◌==◌, Bool, true, false, cond, List, [], ◌∷◌, ◌++◌, length, Some, Ok, refl, sym, ap, ap₂, ◌∙◌, subst, arith}
 use Rattle.std.proofs.lemmas.Bool.Decides.{nat_tests}
 use Rattle.std.proofs.lemmas.List.{append-nil}
+use Rattle.std.proofs.lemmas.Bool.{eqb-true, ne_eqb}
 use Rattle.vm_facts.specs.declared.page.Page.TheVariants.{Data, Stack, Text}
 use Rattle.aout_image.specs.declared.Image.{Image}
 use Rattle.aout_image.specs.Image.{data_pages_of}
@@ -9,31 +10,25 @@ use Rattle.swap_dmap.specs.Chunks.{pieces, text_pieces}
 use Rattle.swap_dmap.proofs.PieceLaws.{pieces_none}
 use Rattle.swap_book.specs.declared.Owner.{Owner}
 use Rattle.swap_book.specs.declared.Owner.TheVariants as owners
-use Rattle.swap_book.specs.Owners.{same_owner, u_pieces}
+use Rattle.swap_book.specs.Owners.{u_pieces}
 use Rattle.swap_book.specs.Holdings.{Holdings}
 use Rattle.swap_book.specs.Placing.{Wanted, wanted, place_all}
 use Rattle.swap_book.proofs.OwnerLaws.{pieces_whole}
 use Rattle.page_model.specs.Pages.{numbered, data_in, stack_in}
-use Rattle.page_model.specs.Frames.{times}
+use Rattle.vm_facts.specs.Lists.{times}
 use Rattle.page_model.specs.Placement.{Placement, Starting, space_number, slots_of, sharers, sharers_in, spaces_from, start_placement}
 use Rattle.page_model.specs.Ownership.{OneOwner, text_pieces_while, u_blocks}
 use Rattle.kernel_model.specs.Taken.{wanted_lengths}
 use Rattle.kernel_model.specs.Asks.{text_asked, start_asks, is_started}
-use Rattle.page_laws.proofs.Lists.Frames.{times_head}
+use Rattle.vm_facts.proofs.Lists.{times_head}
 use Rattle.page_laws.proofs.Bytes.Spaces.{unfilled_length}
 use Rattle.page_laws.proofs.Starts.{start_owner, start_aside}
 use Rattle.kernel_laws.proofs.Pieces.GivenBack.{owns_from}
 use Rattle.kernel_laws.proofs.Pieces.Found.{AllWhole, found_apart, found_lengths, wanted_whole, whole_from, even_text}
-use Rattle.kernel_laws.proofs.Pieces.Wanted.{lengths_both, lengths_own, lengths_other}
-
-equal : (a b : ℕ) → (a == b) ≡ true → a ≡ b
-equal a b e = grind (arith, nat_tests)
+use Rattle.kernel_laws.proofs.Pieces.Wanted.{lengths_both, lengths_own, lengths_other, text_none}
 
 apart : (a b : ℕ) → (a == b) ≡ false → a ≢ b
 apart a b e = grind (arith, nat_tests)
-
-differs : (a b : ℕ) → a ≢ b → (a == b) ≡ false
-differs a b n = grind (arith, nat_tests)
 
 -- One process's part, and the rest.
 
@@ -50,10 +45,6 @@ parts p earlier pid a more owner =
     (lengths_both owner d (s ++ (u ++ rest)) ∙ ap (λ (xs : List ℕ). wanted_lengths owner d ++ xs)
     (lengths_both owner s (u ++ rest) ∙ ap (λ (xs : List ℕ). wanted_lengths owner s ++ xs) (lengths_both owner u rest)))
 
-text_none : (n image blocks : ℕ) (owner : Owner) → same_owner (owners.Text image) owner ≡ false → wanted_lengths owner (text_asked n image blocks) ≡ []
-text_none zero image blocks owner d = lengths_other (owners.Text image) owner (text_pieces blocks) d
-text_none (suc n) image blocks owner d = refl
-
 abbrev in_order : List ℕ → List ℕ → List ℕ → List ℕ → List ℕ → List ℕ
 in_order t d s u r = t ++ (d ++ (s ++ (u ++ r)))
 
@@ -67,7 +58,7 @@ data_later p earlier pid [] t l = refl
 data_later p earlier pid (a ∷ more) t l = parts p earlier pid a more (owners.Data t)
     ∙ put_parts (wanted_lengths (owners.Data t) (text_asked (times a.image earlier) a.image (2 * length (slots_of p (Text a.image 0))))) (wanted_lengths (owners.Data t) (wanted (owners.Data pid) (pieces (2 * data_pages_of a.facts))))
     (wanted_lengths (owners.Data t) (wanted (owners.Stack pid) (pieces 2))) (wanted_lengths (owners.Data t) (wanted (owners.U pid) (u_pieces 2))) (wanted_lengths (owners.Data t) (start_asks p (a.image ∷ earlier) (pid + 1) more)) [] [] [] [] []
-    (text_none (times a.image earlier) a.image (2 * length (slots_of p (Text a.image 0))) (owners.Data t) refl) (lengths_other (owners.Data pid) (owners.Data t) (pieces (2 * data_pages_of a.facts)) (differs pid t (λ e. absurd (omega arith))))
+    (text_none (times a.image earlier) a.image (2 * length (slots_of p (Text a.image 0))) (owners.Data t) refl) (lengths_other (owners.Data pid) (owners.Data t) (pieces (2 * data_pages_of a.facts)) (ne_eqb pid t (λ e. absurd (omega arith))))
     (lengths_other (owners.Stack pid) (owners.Data t) (pieces 2) refl) (lengths_other (owners.U pid) (owners.Data t) (u_pieces 2) refl) (data_later p (a.image ∷ earlier) (pid + 1) more t (omega arith))
 
 data_asked : (p : Placement) (earlier : List ℕ) (pid : ℕ) (first : List Starting) (t : ℕ) → wanted_lengths (owners.Data t) (start_asks p earlier pid first) ≡ pieces (2 * length (data_in (numbered space_number t (spaces_from pid first))))
@@ -87,8 +78,8 @@ data_asked p earlier pid (a ∷ more) t = parts p earlier pid a more (owners.Dat
     go : (b : Bool) → (pid == t) ≡ b → rest ≡ pieces (2 * length (data_in (numbered space_number t (spaces_from (pid + 1) more))))
         → in_order (wanted_lengths (owners.Data t) (text_asked (times a.image earlier) a.image (2 * length (slots_of p (Text a.image 0))))) (wanted_lengths (owners.Data t) (wanted (owners.Data pid) own)) (wanted_lengths (owners.Data t) (wanted (owners.Stack pid) (pieces 2))) (wanted_lengths (owners.Data t) (wanted (owners.U pid) (u_pieces 2))) rest
         ≡ pieces (2 * length (data_in (cond b (Some (Rattle.page_model.specs.Placement.new_pages pid a.image a.facts)) (numbered space_number t (spaces_from (pid + 1) more)))))
-    go true e ih = with (wanted_lengths (owners.Data t) (wanted (owners.Data pid) own)) rest own [] (subst (λ (n : ℕ). wanted_lengths (owners.Data n) (wanted (owners.Data pid) own) ≡ own) (equal pid t e) (lengths_own (owners.Data pid) own))
-        (data_later p (a.image ∷ earlier) (pid + 1) more t (let k = equal pid t e in omega arith)) ∙ append-nil own ∙ ap (λ (n : ℕ). pieces (2 * n)) (sym (unfilled_length a.facts 0 (data_pages_of a.facts)))
+    go true e ih = with (wanted_lengths (owners.Data t) (wanted (owners.Data pid) own)) rest own [] (subst (λ (n : ℕ). wanted_lengths (owners.Data n) (wanted (owners.Data pid) own) ≡ own) (eqb-true pid t e) (lengths_own (owners.Data pid) own))
+        (data_later p (a.image ∷ earlier) (pid + 1) more t (let k = eqb-true pid t e in omega arith)) ∙ append-nil own ∙ ap (λ (n : ℕ). pieces (2 * n)) (sym (unfilled_length a.facts 0 (data_pages_of a.facts)))
     go false e ih = with (wanted_lengths (owners.Data t) (wanted (owners.Data pid) own)) rest [] (pieces (2 * length (data_in (numbered space_number t (spaces_from (pid + 1) more))))) (lengths_other (owners.Data pid) (owners.Data t) own e) ih
 
 stack_later : (p : Placement) (earlier : List ℕ) (pid : ℕ) (first : List Starting) (t : ℕ) → t < pid → wanted_lengths (owners.Stack t) (start_asks p earlier pid first) ≡ []
@@ -97,7 +88,7 @@ stack_later p earlier pid (a ∷ more) t l = parts p earlier pid a more (owners.
     ∙ put_parts (wanted_lengths (owners.Stack t) (text_asked (times a.image earlier) a.image (2 * length (slots_of p (Text a.image 0))))) (wanted_lengths (owners.Stack t) (wanted (owners.Data pid) (pieces (2 * data_pages_of a.facts))))
     (wanted_lengths (owners.Stack t) (wanted (owners.Stack pid) (pieces 2))) (wanted_lengths (owners.Stack t) (wanted (owners.U pid) (u_pieces 2))) (wanted_lengths (owners.Stack t) (start_asks p (a.image ∷ earlier) (pid + 1) more)) [] [] [] [] []
     (text_none (times a.image earlier) a.image (2 * length (slots_of p (Text a.image 0))) (owners.Stack t) refl) (lengths_other (owners.Data pid) (owners.Stack t) (pieces (2 * data_pages_of a.facts)) refl)
-    (lengths_other (owners.Stack pid) (owners.Stack t) (pieces 2) (differs pid t (λ e. absurd (omega arith)))) (lengths_other (owners.U pid) (owners.Stack t) (u_pieces 2) refl) (stack_later p (a.image ∷ earlier) (pid + 1) more t (omega arith))
+    (lengths_other (owners.Stack pid) (owners.Stack t) (pieces 2) (ne_eqb pid t (λ e. absurd (omega arith)))) (lengths_other (owners.U pid) (owners.Stack t) (u_pieces 2) refl) (stack_later p (a.image ∷ earlier) (pid + 1) more t (omega arith))
 
 stack_asked : (p : Placement) (earlier : List ℕ) (pid : ℕ) (first : List Starting) (t : ℕ) → wanted_lengths (owners.Stack t) (start_asks p earlier pid first) ≡ pieces (2 * length (stack_in (numbered space_number t (spaces_from pid first))))
 stack_asked p earlier pid [] t = sym pieces_none
@@ -116,8 +107,8 @@ stack_asked p earlier pid (a ∷ more) t = parts p earlier pid a more (owners.St
     go : (b : Bool) → (pid == t) ≡ b → rest ≡ pieces (2 * length (stack_in (numbered space_number t (spaces_from (pid + 1) more))))
         → in_order (wanted_lengths (owners.Stack t) (text_asked (times a.image earlier) a.image (2 * length (slots_of p (Text a.image 0))))) (wanted_lengths (owners.Stack t) (wanted (owners.Data pid) (pieces (2 * data_pages_of a.facts)))) (wanted_lengths (owners.Stack t) (wanted (owners.Stack pid) own)) (wanted_lengths (owners.Stack t) (wanted (owners.U pid) (u_pieces 2))) rest
         ≡ pieces (2 * length (stack_in (cond b (Some (Rattle.page_model.specs.Placement.new_pages pid a.image a.facts)) (numbered space_number t (spaces_from (pid + 1) more)))))
-    go true e ih = with (wanted_lengths (owners.Stack t) (wanted (owners.Stack pid) own)) rest own [] (subst (λ (n : ℕ). wanted_lengths (owners.Stack n) (wanted (owners.Stack pid) own) ≡ own) (equal pid t e) (lengths_own (owners.Stack pid) own))
-        (stack_later p (a.image ∷ earlier) (pid + 1) more t (let k = equal pid t e in omega arith)) ∙ append-nil own
+    go true e ih = with (wanted_lengths (owners.Stack t) (wanted (owners.Stack pid) own)) rest own [] (subst (λ (n : ℕ). wanted_lengths (owners.Stack n) (wanted (owners.Stack pid) own) ≡ own) (eqb-true pid t e) (lengths_own (owners.Stack pid) own))
+        (stack_later p (a.image ∷ earlier) (pid + 1) more t (let k = eqb-true pid t e in omega arith)) ∙ append-nil own
     go false e ih = with (wanted_lengths (owners.Stack t) (wanted (owners.Stack pid) own)) rest [] (pieces (2 * length (stack_in (numbered space_number t (spaces_from (pid + 1) more))))) (lengths_other (owners.Stack pid) (owners.Stack t) own e) ih
 
 u_later : (p : Placement) (earlier : List ℕ) (pid : ℕ) (first : List Starting) (t : ℕ) → t < pid → wanted_lengths (owners.U t) (start_asks p earlier pid first) ≡ []
@@ -126,7 +117,7 @@ u_later p earlier pid (a ∷ more) t l = parts p earlier pid a more (owners.U t)
     ∙ put_parts (wanted_lengths (owners.U t) (text_asked (times a.image earlier) a.image (2 * length (slots_of p (Text a.image 0))))) (wanted_lengths (owners.U t) (wanted (owners.Data pid) (pieces (2 * data_pages_of a.facts))))
     (wanted_lengths (owners.U t) (wanted (owners.Stack pid) (pieces 2))) (wanted_lengths (owners.U t) (wanted (owners.U pid) (u_pieces 2))) (wanted_lengths (owners.U t) (start_asks p (a.image ∷ earlier) (pid + 1) more)) [] [] [] [] []
     (text_none (times a.image earlier) a.image (2 * length (slots_of p (Text a.image 0))) (owners.U t) refl) (lengths_other (owners.Data pid) (owners.U t) (pieces (2 * data_pages_of a.facts)) refl)
-    (lengths_other (owners.Stack pid) (owners.U t) (pieces 2) refl) (lengths_other (owners.U pid) (owners.U t) (u_pieces 2) (differs pid t (λ e. absurd (omega arith)))) (u_later p (a.image ∷ earlier) (pid + 1) more t (omega arith))
+    (lengths_other (owners.Stack pid) (owners.U t) (pieces 2) refl) (lengths_other (owners.U pid) (owners.U t) (u_pieces 2) (ne_eqb pid t (λ e. absurd (omega arith)))) (u_later p (a.image ∷ earlier) (pid + 1) more t (omega arith))
 
 u_asked : (p : Placement) (earlier : List ℕ) (pid : ℕ) (first : List Starting) (t : ℕ) → wanted_lengths (owners.U t) (start_asks p earlier pid first) ≡ u_pieces (u_blocks (is_started pid first t))
 u_asked p earlier pid [] t = refl
@@ -142,8 +133,8 @@ u_asked p earlier pid (a ∷ more) t = parts p earlier pid a more (owners.U t) �
     go : (b : Bool) → (pid == t) ≡ b → rest ≡ u_pieces (u_blocks (is_started (pid + 1) more t))
         → in_order (wanted_lengths (owners.U t) (text_asked (times a.image earlier) a.image (2 * length (slots_of p (Text a.image 0))))) (wanted_lengths (owners.U t) (wanted (owners.Data pid) (pieces (2 * data_pages_of a.facts)))) (wanted_lengths (owners.U t) (wanted (owners.Stack pid) (pieces 2))) (wanted_lengths (owners.U t) (wanted (owners.U pid) (u_pieces 2))) rest
         ≡ u_pieces (u_blocks (cond b true (is_started (pid + 1) more t)))
-    go true e ih = with (wanted_lengths (owners.U t) (wanted (owners.U pid) (u_pieces 2))) rest (u_pieces 2) [] (subst (λ (n : ℕ). wanted_lengths (owners.U n) (wanted (owners.U pid) (u_pieces 2)) ≡ u_pieces 2) (equal pid t e) (lengths_own (owners.U pid) (u_pieces 2)))
-        (u_later p (a.image ∷ earlier) (pid + 1) more t (let k = equal pid t e in omega arith))
+    go true e ih = with (wanted_lengths (owners.U t) (wanted (owners.U pid) (u_pieces 2))) rest (u_pieces 2) [] (subst (λ (n : ℕ). wanted_lengths (owners.U n) (wanted (owners.U pid) (u_pieces 2)) ≡ u_pieces 2) (eqb-true pid t e) (lengths_own (owners.U pid) (u_pieces 2)))
+        (u_later p (a.image ∷ earlier) (pid + 1) more t (let k = eqb-true pid t e in omega arith))
     go false e ih = with (wanted_lengths (owners.U t) (wanted (owners.U pid) (u_pieces 2))) rest [] (u_pieces (u_blocks (is_started (pid + 1) more t))) (lengths_other (owners.U pid) (owners.U t) (u_pieces 2) e) ih
 
 -- Text.
@@ -154,7 +145,7 @@ text_shared (suc n) image blocks owner l = refl
 
 -- the text of an image that started before, or of another one
 text_other : (earlier : List ℕ) (image i blocks : ℕ) → (image ≢ i) ⊎ (0 < times image earlier) → wanted_lengths (owners.Text i) (text_asked (times image earlier) image blocks) ≡ []
-text_other earlier image i blocks (inl n) = text_none (times image earlier) image blocks (owners.Text i) (differs image i n)
+text_other earlier image i blocks (inl n) = text_none (times image earlier) image blocks (owners.Text i) (ne_eqb image i n)
 text_other earlier image i blocks (inr l) = text_shared (times image earlier) image blocks (owners.Text i) l
 
 text_rest : (p : Placement) (earlier : List ℕ) (pid : ℕ) (a : Starting) (more : List Starting) (i : ℕ) (t r b f : List ℕ) → t ≡ b → r ≡ f
@@ -173,7 +164,7 @@ text_later p earlier pid (a ∷ more) i l = parts p earlier pid a more (owners.T
     (text_other earlier a.image i (2 * length (slots_of p (Text a.image 0))) (go (a.image == i) refl)) (text_later p (a.image ∷ earlier) (pid + 1) more i (let k = counted (a.image == i) (times i earlier) in omega arith))
   where
     go : (b : Bool) → (a.image == i) ≡ b → (a.image ≢ i) ⊎ (0 < times a.image earlier)
-    go true e = inr (subst (λ (n : ℕ). 0 < times n earlier) (sym (equal a.image i e)) l)
+    go true e = inr (subst (λ (n : ℕ). 0 < times n earlier) (sym (eqb-true a.image i e)) l)
     go false e = inl (apart a.image i e)
 
 while_more : (n blocks : ℕ) → text_pieces blocks ≡ text_pieces_while (1 + n) blocks
@@ -199,8 +190,8 @@ text_all p earlier pid (a ∷ more) i z = parts p earlier pid a more (owners.Tex
     go : (b : Bool) → (a.image == i) ≡ b → (times i (a.image ∷ earlier) ≡ 0 → rest ≡ text_pieces_while (sharers_in i (spaces_from (pid + 1) more)) blocks)
         → in_order mine (wanted_lengths (owners.Text i) (wanted (owners.Data pid) (pieces (2 * data_pages_of a.facts)))) (wanted_lengths (owners.Text i) (wanted (owners.Stack pid) (pieces 2))) (wanted_lengths (owners.Text i) (wanted (owners.U pid) (u_pieces 2))) rest
         ≡ text_pieces_while (cond b 1 0 + sharers_in i (spaces_from (pid + 1) more)) blocks
-    go true e ih = text_rest p earlier pid a more i mine rest (text_pieces blocks) [] (first_text (equal a.image i e))
-        (text_later p (a.image ∷ earlier) (pid + 1) more i (subst (λ (n : ℕ). 0 < times i (n ∷ earlier)) (sym (equal a.image i e)) (let k = times_head i earlier in omega arith)))
+    go true e ih = text_rest p earlier pid a more i mine rest (text_pieces blocks) [] (first_text (eqb-true a.image i e))
+        (text_later p (a.image ∷ earlier) (pid + 1) more i (subst (λ (n : ℕ). 0 < times i (n ∷ earlier)) (sym (eqb-true a.image i e)) (let k = times_head i earlier in omega arith)))
         ∙ append-nil (text_pieces blocks) ∙ while_more (sharers_in i (spaces_from (pid + 1) more)) blocks
     go false e ih = text_rest p earlier pid a more i mine rest [] (text_pieces_while (sharers_in i (spaces_from (pid + 1) more)) blocks) (text_other earlier a.image i (2 * length (slots_of p (Text a.image 0))) (inl (apart a.image i e)))
         (ih (ap (λ (b : Bool). cond b 1 0 + times i earlier) e ∙ (let k : 0 + times i earlier ≡ 0 = omega arith in k)))

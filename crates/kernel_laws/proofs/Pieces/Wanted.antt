@@ -1,6 +1,6 @@
 -- The pieces that a change wants are the further ones that its owners need behind it.
 use Rattle.std.proofs.Common.{◌≡◌, ◌≢◌, inl, inr, ℕ, zero, suc, ◌+◌, ◌*◌, ◌<◌, ◌≤◌, ◌==◌, Bool, true, false, not, ◌&&◌, cond, List, [], ◌∷◌, ◌++◌, length, drop, map, filter, Option, Some, None, refl, sym, ap, ap₂, ◌∙◌, subst, arith}
-use Rattle.std.proofs.lemmas.Bool.{cases_eq}
+use Rattle.std.proofs.lemmas.Bool.{cases_eq, eqb-true, eq-eqb, ne_eqb}
 use Rattle.std.proofs.lemmas.List.{append-nil}
 use Rattle.vm_facts.specs.declared.page.Page.{Page}
 use Rattle.vm_facts.specs.declared.page.Page.TheVariants.{Data, Stack, Text}
@@ -38,8 +38,8 @@ use Rattle.page_laws.proofs.Bytes.Spaces.{map_length, unfilled_length}
 use Rattle.kernel_laws.proofs.Pieces.GivenBack.{pieces_mono, drop_past, Resizes}
 use Rattle.kernel_laws.proofs.Pieces.Sizes.{resize_sizes, change_texts, give_up_rest, gone_data, gone_stack}
 use Rattle.page_laws.proofs.Due.Changes.{give_up_length}
-use Rattle.kernel_laws.proofs.Sound.Steps.{eq_is, proc_number}
-use Rattle.kernel_laws.proofs.Sound.Changes.{find, differs, same_is, map_lives, with_number, without_dead, woken_lives, left_dead}
+use Rattle.kernel_laws.proofs.Sound.Steps.{proc_number}
+use Rattle.kernel_laws.proofs.Sound.Changes.{find, map_lives, with_number, without_dead, woken_lives, left_dead}
 use Rattle.aout_image.specs.declared.Image.{Image}
 
 -- Lengths among what is wanted.
@@ -99,7 +99,7 @@ map_back f [] n k h e = e
 map_back f (q ∷ qs) n k h e = go (q.pid == n) refl (sym (ap (λ (m : ℕ). lives_in (cond (m == n) (Some (f q)) (find n (map f qs)))) (k q)) ∙ e) (map_back f qs n k h)
   where
     go : (b : Bool) → (q.pid == n) ≡ b → lives_in (cond b (Some (f q)) (find n (map f qs))) ≡ true → (lives (map f qs) n ≡ true → lives qs n ≡ true) → lives_in (cond b (Some q) (find n qs)) ≡ true
-    go true x l ih = h q (eq_is q.pid n x) l
+    go true x l ih = h q (eqb-true q.pid n x) l
     go false x l ih = ih l
 
 filter_back : (test : Proc → Bool) (ps : List Proc) (n : ℕ) → ((q : Proc) → q.pid ≡ n → test q ≡ true) → lives (filter test ps) n ≡ true → lives ps n ≡ true
@@ -109,7 +109,7 @@ filter_back test (q ∷ qs) n h e = go (test q) (q.pid == n) refl refl e (filter
     go : (b c : Bool) → test q ≡ b → (q.pid == n) ≡ c → lives (cond b (q ∷ filter test qs) (filter test qs)) n ≡ true → (lives (filter test qs) n ≡ true → lives qs n ≡ true) → lives_in (cond c (Some q) (find n qs)) ≡ true
     go true true x y l ih = sym (ap (λ (b : Bool). lives_in (cond b (Some q) (find n (filter test qs)))) y) ∙ l
     go true false x y l ih = ih (sym (ap (λ (b : Bool). lives_in (cond b (Some q) (find n (filter test qs)))) y) ∙ l)
-    go false true x y l ih = absurd (let z : true ≡ false = sym (h q (eq_is q.pid n y)) ∙ x in cc)
+    go false true x y l ih = absurd (let z : true ≡ false = sym (h q (eqb-true q.pid n y)) ∙ x in cc)
     go false false x y l ih = ih l
 
 -- where no two have one number, those that are left are as they were
@@ -130,7 +130,7 @@ kept_back test (q ∷ qs) n o e = go (test q) (q.pid == n) refl e (kept_back tes
     go true true y l ih = sym (ap (λ (b : Bool). lives_in (cond b (Some q) (find n (filter test qs)))) y) ∙ l
     go true false y l ih = ih (sym (ap (λ (b : Bool). lives_in (cond b (Some q) (find n (filter test qs)))) y) ∙ l)
     go false true y l ih = absurd (
-        let u : IsUnused (filter test qs) n = unused_filter test qs n (subst (λ (m : ℕ). IsUnused qs m) (eq_is q.pid n y) o.0) in
+        let u : IsUnused (filter test qs) n = unused_filter test qs n (subst (λ (m : ℕ). IsUnused qs m) (eqb-true q.pid n y) o.0) in
         let z : true ≡ false = sym l ∙ ap lives_in u in cc)
     go false false y l ih = ih l
 
@@ -138,7 +138,7 @@ with_back_other : (p : Proc) (ps : List Proc) (n : ℕ) → n ≢ p.pid → live
 with_back_other p ps n d e = map_back (λ (q : Proc). cond (q.pid == p.pid) p q) ps n (with_number p) (λ q i l. go q i (q.pid == p.pid) refl l) e
   where
     go : (q : Proc) → q.pid ≡ n → (b : Bool) → (q.pid == p.pid) ≡ b → has_life (cond b p q).life ≡ true → has_life q.life ≡ true
-    go q i true x l = absurd (d (sym i ∙ eq_is q.pid p.pid x))
+    go q i true x l = absurd (d (sym i ∙ eqb-true q.pid p.pid x))
     go q i false x l = l
 
 with_back : (p : Proc) (ps : List Proc) (n : ℕ) → lives ps p.pid ≡ true → lives (with_proc ps p) n ≡ true → lives ps n ≡ true
@@ -148,7 +148,7 @@ with_back p ps n a e = elim (cases_eq n p.pid) [
 ]
 
 pub append_back : (ps : List Proc) (c : Proc) (n : ℕ) → n ≢ c.pid → lives (ps ++ c ∷ []) n ≡ true → lives ps n ≡ true
-append_back [] c n d e = absurd (let z : true ≡ false = sym e ∙ ap (λ (b : Bool). lives_in (cond b (Some c) None)) (differs c.pid n (λ k. d (sym k))) in cc)
+append_back [] c n d e = absurd (let z : true ≡ false = sym e ∙ ap (λ (b : Bool). lives_in (cond b (Some c) None)) (ne_eqb c.pid n (λ k. d (sym k))) in cc)
 append_back (q ∷ qs) c n d e = go (q.pid == n) e (append_back qs c n d)
   where
     go : (b : Bool) → lives_in (cond b (Some q) (find n (qs ++ c ∷ []))) ≡ true → (lives (qs ++ c ∷ []) n ≡ true → lives qs n ≡ true) → lives_in (cond b (Some q) (find n qs)) ≡ true
@@ -158,7 +158,7 @@ append_back (q ∷ qs) c n d e = go (q.pid == n) e (append_back qs c n d)
 without_back : (ps : List Proc) (c n : ℕ) → lives (without_proc ps c) n ≡ true → lives ps n ≡ true
 without_back ps c n e = elim (cases_eq n c) [
   | inl h ↦ absurd (let z : true ≡ false = sym e ∙ ap (lives (without_proc ps c)) h ∙ without_dead ps c in cc)
-  | inr d ↦ filter_back (λ (q : Proc). not (q.pid == c)) ps n (λ q i. ap not (differs q.pid c (λ k. d (sym i ∙ k)))) e
+  | inr d ↦ filter_back (λ (q : Proc). not (q.pid == c)) ps n (λ q i. ap not (ne_eqb q.pid c (λ k. d (sym i ∙ k)))) e
 ]
 
 orphan_back : (ps : List Proc) (pid n : ℕ) → OneEach ps → lives (orphaned_procs ps pid) n ≡ true → lives ps n ≡ true
@@ -202,7 +202,7 @@ unused_with (q ∷ qs) p n e = ap (λ (m : ℕ). cond (m == n) (Some (cond (q.pi
     go false k ih = ih k
 
 pub last_lives : (ps : List Proc) (c : Proc) → IsUnused ps c.pid → has_life c.life ≡ true → lives (ps ++ c ∷ []) c.pid ≡ true
-last_lives [] c u h = ap (λ (b : Bool). lives_in (cond b (Some c) None)) (same_is c.pid c.pid refl) ∙ h
+last_lives [] c u h = ap (λ (b : Bool). lives_in (cond b (Some c) None)) (eq-eqb c.pid c.pid refl) ∙ h
 last_lives (q ∷ qs) c u h = go (q.pid == c.pid) u (λ k. last_lives qs c k h)
   where
     go : (b : Bool) → cond b (Some q) (find c.pid qs) ≡ None → (IsUnused qs c.pid → lives (qs ++ c ∷ []) c.pid ≡ true) → lives_in (cond b (Some q) (find c.pid (qs ++ c ∷ []))) ≡ true
@@ -272,7 +272,7 @@ has_sharer sid (s ∷ ss) n = go (s.sid == sid) n (has_sharer sid ss)
 
     go : (b : Bool) → (cond b (Some s) (numbered space_number sid ss) ≢ None) → ((numbered space_number sid ss ≢ None) → 0 < sharers_in (image_in (numbered space_number sid ss)) ss)
         → 0 < cond (s.image == image_in (cond b (Some s) (numbered space_number sid ss))) 1 0 + sharers_in (image_in (cond b (Some s) (numbered space_number sid ss))) ss
-    go true k ih = counted (s.image == s.image) (sharers_in s.image ss) (same_is s.image s.image refl)
+    go true k ih = counted (s.image == s.image) (sharers_in s.image ss) (eq-eqb s.image s.image refl)
     go false k ih = more (s.image == image_in (numbered space_number sid ss)) (sharers_in (image_in (numbered space_number sid ss)) ss) (ih k)
 
 -- By owners: what isn't asked isn't needed.
@@ -319,13 +319,13 @@ resize_asks k next sid d s h e l = by
         ∙ append-nil (wanted_lengths (owners.Data t) (further (owners.Data sid) (data_count p sid) d)) ∙ elim (cases_eq t sid) [
           | inl i ↦ subst (λ (x : ℕ). wanted_lengths (owners.Data x) (further (owners.Data sid) (data_count p sid) d) ≡ more (data_count p x) (data_count q x)) (sym i)
               (lengths_own (owners.Data sid) (more (data_count p sid) d) ∙ ap (λ (n : ℕ). more (data_count p sid) n) (sym now.0))
-          | inr n ↦ lengths_other (owners.Data sid) (owners.Data t) (more (data_count p sid) d) (differs sid t (λ i. n (sym i))) ∙ none_further (data_count p t) (data_count q t) (let m = g.of_data t n in omega arith)
+          | inr n ↦ lengths_other (owners.Data sid) (owners.Data t) (more (data_count p sid) d) (ne_eqb sid t (λ i. n (sym i))) ∙ none_further (data_count p t) (data_count q t) (let m = g.of_data t n in omega arith)
         ]
     by (owners.Stack t) = parts (owners.Stack t) ∙ ap (λ (xs : List ℕ). xs ++ wanted_lengths (owners.Stack t) (further (owners.Stack sid) (stack_count p sid) s)) (lengths_other (owners.Data sid) (owners.Stack t) (more (data_count p sid) d) refl)
         ∙ elim (cases_eq t sid) [
           | inl i ↦ subst (λ (x : ℕ). wanted_lengths (owners.Stack x) (further (owners.Stack sid) (stack_count p sid) s) ≡ more (stack_count p x) (stack_count q x)) (sym i)
               (lengths_own (owners.Stack sid) (more (stack_count p sid) s) ∙ ap (λ (n : ℕ). more (stack_count p sid) n) (sym now.1))
-          | inr n ↦ lengths_other (owners.Stack sid) (owners.Stack t) (more (stack_count p sid) s) (differs sid t (λ i. n (sym i))) ∙ none_further (stack_count p t) (stack_count q t) (let m = g.of_stack t n in omega arith)
+          | inr n ↦ lengths_other (owners.Stack sid) (owners.Stack t) (more (stack_count p sid) s) (ne_eqb sid t (λ i. n (sym i))) ∙ none_further (stack_count p t) (stack_count q t) (let m = g.of_stack t n in omega arith)
         ]
     by (owners.U n) = parts (owners.U n) ∙ nothing_with (wanted_lengths (owners.U n) (further (owners.Data sid) (data_count p sid) d)) (wanted_lengths (owners.U n) (further (owners.Stack sid) (stack_count p sid) s))
         (lengths_other (owners.Data sid) (owners.U n) (more (data_count p sid) d) refl) (lengths_other (owners.Stack sid) (owners.U n) (more (stack_count p sid) s) refl) ∙ none_u (lives k.processes n) (lives next.processes n) (l n)
@@ -339,7 +339,7 @@ sharers_added : (p : Placement) (x : SpacePages) (due : List Due) (i : ℕ) → 
 sharers_added p x due i h l = go (x.image == i) refl (let e = sharers-append i p.spaces (x ∷ []) in omega arith)
   where
     go : (b : Bool) → (x.image == i) ≡ b → 0 < sharers p i + (cond b 1 0 + 0) → 0 < sharers p i
-    go true e m = h (eq_is x.image i e)
+    go true e m = h (eqb-true x.image i e)
     go false e m = omega arith
 
 none_count : (size : Option SpacePages → ℕ) (sid : ℕ) (ss : List SpacePages) → size None ≡ 0 → numbered space_number sid ss ≡ None → size (numbered space_number sid ss) ≡ 0
@@ -417,17 +417,17 @@ fork_asks k next sid child_sid child new h e t dead live l = by
     by (owners.Data n) = elim (cases_eq n child_sid) [
       | inl i ↦ subst (λ (y : ℕ). wanted_lengths (owners.Data y) (change_asks [] p sid child_sid (Fork child)) ≡ drop (length (pieces (2 * data_count p y))) (pieces (2 * data_count next.place y))) (sym i)
           (data_in_list ∙ ap (λ (m : ℕ). pieces (2 * m)) (sym child_data) ∙ all_further (data_count p child_sid) (data_count next.place child_sid) (ap (λ (o : Option SpacePages). length (data_in o)) new))
-      | inr m ↦ none_in (owners.Data n) (differs child_sid n (λ i. m (sym i))) refl refl ∙ none_further (data_count p n) (data_count next.place n) (let a = other_data n m in omega arith)
+      | inr m ↦ none_in (owners.Data n) (ne_eqb child_sid n (λ i. m (sym i))) refl refl ∙ none_further (data_count p n) (data_count next.place n) (let a = other_data n m in omega arith)
     ]
     by (owners.Stack n) = elim (cases_eq n child_sid) [
       | inl i ↦ subst (λ (y : ℕ). wanted_lengths (owners.Stack y) (change_asks [] p sid child_sid (Fork child)) ≡ drop (length (pieces (2 * stack_count p y))) (pieces (2 * stack_count next.place y))) (sym i)
           (stack_in_list ∙ ap (λ (m : ℕ). pieces (2 * m)) (sym child_stack) ∙ all_further (stack_count p child_sid) (stack_count next.place child_sid) (ap (λ (o : Option SpacePages). length (stack_in o)) new))
-      | inr m ↦ none_in (owners.Stack n) refl (differs child_sid n (λ i. m (sym i))) refl ∙ none_further (stack_count p n) (stack_count next.place n) (let a = other_stack n m in omega arith)
+      | inr m ↦ none_in (owners.Stack n) refl (ne_eqb child_sid n (λ i. m (sym i))) refl ∙ none_further (stack_count p n) (stack_count next.place n) (let a = other_stack n m in omega arith)
     ]
     by (owners.U n) = elim (cases_eq n child) [
       | inl i ↦ subst (λ (y : ℕ). wanted_lengths (owners.U y) (change_asks [] p sid child_sid (Fork child)) ≡ drop (length (u_pieces (u_blocks (lives k.processes y)))) (u_pieces (u_blocks (lives next.processes y)))) (sym i)
           (u_in_list ∙ new_u (lives k.processes child) (lives next.processes child) dead live)
-      | inr m ↦ none_in (owners.U n) refl refl (differs child n (λ i. m (sym i))) ∙ none_u (lives k.processes n) (lives next.processes n) (l n m)
+      | inr m ↦ none_in (owners.U n) refl refl (ne_eqb child n (λ i. m (sym i))) ∙ none_u (lives k.processes n) (lives next.processes n) (l n m)
     ]
     by (owners.Text i) = none_in (owners.Text i) refl refl refl ∙ none_text (sharers p i) (sharers next.place i) (2 * length (slots_of p (Text i 0))) (2 * length (slots_of next.place (Text i 0))) (shared i) (ap (λ (n : ℕ). 2 * n) (texts i))
 
@@ -439,7 +439,7 @@ lend_asks k next sid next_sid child a dead live l (owners.Stack t) = lengths_oth
 lend_asks k next sid next_sid child a dead live l (owners.U n) = elim (cases_eq n child) [
   | inl i ↦ subst (λ (y : ℕ). wanted_lengths (owners.U y) (wanted (owners.U child) (u_pieces 2)) ≡ drop (length (u_pieces (u_blocks (lives k.processes y)))) (u_pieces (u_blocks (lives next.processes y)))) (sym i)
       (lengths_own (owners.U child) (u_pieces 2) ∙ new_u (lives k.processes child) (lives next.processes child) dead live)
-  | inr m ↦ lengths_other (owners.U child) (owners.U n) (u_pieces 2) (differs child n (λ i. m (sym i))) ∙ none_u (lives k.processes n) (lives next.processes n) (l n m)
+  | inr m ↦ lengths_other (owners.U child) (owners.U n) (u_pieces 2) (ne_eqb child n (λ i. m (sym i))) ∙ none_u (lives k.processes n) (lives next.processes n) (l n m)
 ]
 lend_asks k next sid next_sid child a dead live l (owners.Text i) = lengths_other (owners.U child) (owners.Text i) (u_pieces 2) refl
     ∙ none_text (sharers k.place i) (sharers next.place i) (2 * length (slots_of k.place (Text i 0))) (2 * length (slots_of next.place (Text i 0))) (a.sharing i) (ap (λ (n : ℕ). 2 * n) (a.texts i))
@@ -482,11 +482,11 @@ unless_sharers false r sid j = let e = give_up_rest r sid j in let l = rest_le s
 
 -- a new space of another number stays
 last_stays : (sid : ℕ) (ss : List SpacePages) (x : SpacePages) → x.sid ≢ sid → 0 < sharers_in x.image (rest_of sid (ss ++ x ∷ []))
-last_stays sid [] x n = go (x.sid == sid) (x.image == x.image) (differs x.sid sid n) (same_is x.image x.image refl)
+last_stays sid [] x n = go (x.sid == sid) (x.image == x.image) (ne_eqb x.sid sid n) (eq-eqb x.image x.image refl)
   where
     go : (b c : Bool) → b ≡ false → c ≡ true → 0 < sharers_in x.image (cond (not b) (x ∷ []) [])
     go true c e h = absurd cc
-    go false c e h = counted (x.image == x.image) (same_is x.image x.image refl)
+    go false c e h = counted (x.image == x.image) (eq-eqb x.image x.image refl)
       where
         counted : (b : Bool) → b ≡ true → 0 < cond b 1 0 + 0
         counted true e = omega arith
@@ -498,14 +498,14 @@ last_stays sid (s ∷ ss) x n = go (s.sid == sid) (last_stays sid ss x n)
     go false l = omega arith
 
 entered_shared : (borrowed : Bool) (p : Placement) (x : SpacePages) (due : List Due) (sid : ℕ) → (borrowed ≡ false → x.sid ≢ sid) → 0 < sharers (give_up_unless borrowed (record p { spaces = p.spaces ++ x ∷ []; due = due }) sid) x.image
-entered_shared true p x due sid n = let e = sharers-append x.image p.spaces (x ∷ []) in counted (x.image == x.image) (sharers p x.image) (same_is x.image x.image refl) e
+entered_shared true p x due sid n = let e = sharers-append x.image p.spaces (x ∷ []) in counted (x.image == x.image) (sharers p x.image) (eq-eqb x.image x.image refl) e
   where
     counted : (b : Bool) (m : ℕ) → b ≡ true → sharers_in x.image (p.spaces ++ x ∷ []) ≡ m + (cond b 1 0 + 0) → 0 < sharers_in x.image (p.spaces ++ x ∷ [])
     counted true m e h = omega arith
     counted false m e h = absurd cc
 entered_shared false p x due sid n = let e = give_up_rest (record p { spaces = p.spaces ++ x ∷ []; due = due }) sid x.image in let l = last_stays sid p.spaces x (n refl) in omega arith
 
-text_none : (n image blocks : ℕ) (owner : Owner) → same_owner (owners.Text image) owner ≡ false → wanted_lengths owner (text_asked n image blocks) ≡ []
+pub text_none : (n image blocks : ℕ) (owner : Owner) → same_owner (owners.Text image) owner ≡ false → wanted_lengths owner (text_asked n image blocks) ≡ []
 text_none zero image blocks owner d = lengths_other (owners.Text image) owner (text_pieces blocks) d
 text_none (suc n) image blocks owner d = refl
 
@@ -592,19 +592,19 @@ exec_asks k next image ns sid borrowed facts new apart e texts l = by
     by (owners.Data n) = elim (cases_eq n ns) [
       | inl i ↦ subst (λ (y : ℕ). wanted_lengths (owners.Data y) all ≡ drop (length (pieces (2 * data_count p y))) (pieces (2 * data_count next.place y))) (sym i)
           (data_list ∙ ap (λ (m : ℕ). pieces (2 * m)) (sym new_data) ∙ all_further (data_count p ns) (data_count next.place ns) (ap (λ (o : Option SpacePages). length (data_in o)) new))
-      | inr m ↦ none_in (owners.Data n) refl (differs ns n (λ i. m (sym i))) refl ∙ none_further (data_count p n) (data_count next.place n) (other_data n m)
+      | inr m ↦ none_in (owners.Data n) refl (ne_eqb ns n (λ i. m (sym i))) refl ∙ none_further (data_count p n) (data_count next.place n) (other_data n m)
     ]
     by (owners.Stack n) = elim (cases_eq n ns) [
       | inl i ↦ subst (λ (y : ℕ). wanted_lengths (owners.Stack y) all ≡ drop (length (pieces (2 * stack_count p y))) (pieces (2 * stack_count next.place y))) (sym i)
           (stack_list ∙ ap (λ (m : ℕ). pieces (2 * m)) (sym new_stack) ∙ all_further (stack_count p ns) (stack_count next.place ns) (ap (λ (o : Option SpacePages). length (stack_in o)) new))
-      | inr m ↦ none_in (owners.Stack n) refl refl (differs ns n (λ i. m (sym i))) ∙ none_further (stack_count p n) (stack_count next.place n) (other_stack n m)
+      | inr m ↦ none_in (owners.Stack n) refl refl (ne_eqb ns n (λ i. m (sym i))) ∙ none_further (stack_count p n) (stack_count next.place n) (other_stack n m)
     ]
     by (owners.U n) = none_in (owners.U n) refl refl refl ∙ none_u (lives k.processes n) (lives next.processes n) (l n)
     by (owners.Text i) = elim (cases_eq i image) [
       | inl j ↦ subst (λ (y : ℕ). wanted_lengths (owners.Text y) all ≡ drop (length (text_pieces_while (sharers p y) (2 * length (slots_of p (Text y 0))))) (text_pieces_while (sharers next.place y) (2 * length (slots_of next.place (Text y 0))))) (sym j)
           (text_list ∙ text_own (sharers p image) (sharers next.place image) image blocks (2 * length (slots_of next.place (Text image 0)))
           (subst (λ (q : Placement). 0 < sharers q image) (sym e) (entered_shared borrowed p x r.due sid apart)) (ap (λ (n : ℕ). 2 * n) (texts image)))
-      | inr m ↦ none_in (owners.Text i) (differs image i (λ j. m (sym j))) refl refl
+      | inr m ↦ none_in (owners.Text i) (ne_eqb image i (λ j. m (sym j))) refl refl
           ∙ none_text (sharers p i) (sharers next.place i) (2 * length (slots_of p (Text i 0))) (2 * length (slots_of next.place (Text i 0))) (other_shared i m) (ap (λ (n : ℕ). 2 * n) (texts i))
     ]
 

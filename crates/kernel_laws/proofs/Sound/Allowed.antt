@@ -1,6 +1,6 @@
 -- What a change asks is so where numbers differ, and the space is there and settled.
 use Rattle.std.proofs.Common.{◌≡◌, ◌≢◌, ℕ, suc, ◌+◌, ◌<◌, ◌≤◌, ◌==◌, Bool, true, false, not, ◌&&◌, cond, List, [], ◌∷◌, ◌++◌, length, map, Option, Some, None, Ok, refl, sym, ap, ◌∙◌, subst, arith}
-use Rattle.std.proofs.lemmas.Bool.Decides.{nat_tests}
+use Rattle.std.proofs.lemmas.Bool.{eqb-true, eq-eqb, ne_eqb, and_parts}
 use Rattle.vm_facts.specs.declared.page.Page.TheVariants.{Text}
 use Rattle.vm_facts.specs.declared.regs.Regs.{Regs}
 use Rattle.vm_facts.specs.declared.entry.Entry.{Entry}
@@ -14,7 +14,8 @@ use Rattle.page_model.specs.Placement.{Placement, Starting, space_number, spaces
 use Rattle.page_model.specs.Place.{enter_space, enter_image, facts_numbered}
 use Rattle.page_model.specs.Conditions.{AtRest, IsNew, CanChange, HasImage, CanForget, MayForget}
 use Rattle.page_model.specs.Ownership.{OwnsFrames, OneOwner}
-use Rattle.page_model.specs.Swapper.{is_of_space, is_of_text, names_page, is_settled}
+use Rattle.page_model.specs.Swapper.{names_page, is_settled}
+use Rattle.vm_facts.specs.Pages.{is_of_space, is_of_text}
 use Rattle.kernel_model.specs.Kernel.{Kernel, Proc}
 use Rattle.kernel_model.specs.Sound.{Sound, lives}
 use Rattle.kernel_model.specs.ChangeStep.{space_of_life, life_of_proc, gave_back, change_step}
@@ -23,7 +24,6 @@ use Rattle.kernel_model.specs.Asks.{HasSpace, IsUnused, MayAsk, asked, WantsThes
 use Rattle.flat_state.specs.Numbers.{IsAbsent, AllDistinct, AllBelow}
 use Rattle.kernel_laws.proofs.Flat.Numbered.{absent_none, below_absent}
 use Rattle.kernel_model.specs.Numbers.{Numbered, TakesNext, ReadySpace, ReadyFor}
-use Rattle.page_laws.proofs.Lists.Runs.{and_both}
 use Rattle.page_laws.proofs.Ownership.Changes.{added_other}
 use Rattle.page_laws.proofs.Blocks.Changes.{rest_of}
 use Rattle.page_laws.proofs.Bytes.Others.{unnamed_rests, settled_rests}
@@ -31,15 +31,6 @@ use Rattle.kernel_laws.proofs.Sound.Residing.{one_each}
 use Rattle.kernel_laws.proofs.Sound.NumbersApart.{Fine, enter_fine, fine_spaces}
 use Rattle.kernel_laws.proofs.Pieces.Found.{found_sound}
 use Rattle.kernel_laws.proofs.Pieces.Wanted.{asked_for}
-
-equal : (a b : ℕ) → (a == b) ≡ true → a ≡ b
-equal a b e = grind (arith, nat_tests)
-
-differs : (a b : ℕ) → a ≢ b → (a == b) ≡ false
-differs a b n = grind (arith, nat_tests)
-
-same_is : (a b : ℕ) → a ≡ b → (a == b) ≡ true
-same_is a b e = grind (arith, nat_tests)
 
 -- Numbers that nobody has.
 
@@ -54,15 +45,15 @@ has_image sid [] d = tt
 has_image sid (s ∷ ss) d = go (s.sid == sid) refl (has_image sid ss d.1)
   where
     go : (b : Bool) → (s.sid == sid) ≡ b → HasImage sid (image_in (numbered space_number sid ss)) ss → HasImage sid (image_in (cond b (Some s) (numbered space_number sid ss))) (s ∷ ss)
-    go true e ih = ((λ k. refl), absent_image sid s.image ss (subst (λ (n : ℕ). IsAbsent n (map space_number ss)) (equal s.sid sid e) d.0))
-    go false e ih = ((λ k. absurd (let z : true ≡ false = sym (same_is s.sid sid k) ∙ e in cc)), ih)
+    go true e ih = ((λ k. refl), absent_image sid s.image ss (subst (λ (n : ℕ). IsAbsent n (map space_number ss)) (eqb-true s.sid sid e) d.0))
+    go false e ih = ((λ k. absurd (let z : true ≡ false = sym (eq-eqb s.sid sid k) ∙ e in cc)), ih)
 
 -- The sharers that are left.
 
 absent_rest : (sid j : ℕ) (ss : List SpacePages) → IsAbsent sid (map space_number ss) → sharers_in j (rest_of sid ss) ≡ sharers_in j ss
 absent_rest sid j [] e = refl
 absent_rest sid j (s ∷ ss) e =
-    ap (λ (b : Bool). sharers_in j (cond (not b) (s ∷ rest_of sid ss) (rest_of sid ss))) (differs s.sid sid e.0) ∙ ap (λ (n : ℕ). cond (s.image == j) 1 0 + n) (absent_rest sid j ss e.1)
+    ap (λ (b : Bool). sharers_in j (cond (not b) (s ∷ rest_of sid ss) (rest_of sid ss))) (ne_eqb s.sid sid e.0) ∙ ap (λ (n : ℕ). cond (s.image == j) 1 0 + n) (absent_rest sid j ss e.1)
 
 -- a space that is there is one sharer of its image
 one_more : (sid : ℕ) (ss : List SpacePages) → AllDistinct (map space_number ss) → numbered space_number sid ss ≢ None
@@ -81,13 +72,13 @@ one_more sid (s ∷ ss) d n = go (s.sid == sid) refl n (one_more sid ss d.1)
     go : (b : Bool) → (s.sid == sid) ≡ b → (cond b (Some s) (numbered space_number sid ss) ≢ None)
         → ((numbered space_number sid ss ≢ None) → sharers_in (image_in (numbered space_number sid ss)) ss ≡ 1 + sharers_in (image_in (numbered space_number sid ss)) (rest_of sid ss))
         → sharers_in (image_in (cond b (Some s) (numbered space_number sid ss))) (s ∷ ss) ≡ 1 + sharers_in (image_in (cond b (Some s) (numbered space_number sid ss))) (cond (not b) (s ∷ rest_of sid ss) (rest_of sid ss))
-    go true e k ih = first (s.image == s.image) (sharers_in s.image ss) (sharers_in s.image (rest_of sid ss)) (same_is s.image s.image refl)
-        (absent_rest sid s.image ss (subst (λ (n : ℕ). IsAbsent n (map space_number ss)) (equal s.sid sid e) d.0))
+    go true e k ih = first (s.image == s.image) (sharers_in s.image ss) (sharers_in s.image (rest_of sid ss)) (eq-eqb s.image s.image refl)
+        (absent_rest sid s.image ss (subst (λ (n : ℕ). IsAbsent n (map space_number ss)) (eqb-true s.sid sid e) d.0))
     go false e k ih = later (s.image == image_in (numbered space_number sid ss)) (sharers_in (image_in (numbered space_number sid ss)) ss) (sharers_in (image_in (numbered space_number sid ss)) (rest_of sid ss)) (ih k)
 
 -- a settled space has its text at rest where it is the last sharer
 settled_text : (p : Placement) (sid : ℕ) → OwnsFrames p → AllDistinct (map space_number p.spaces) → HasSpace p sid → is_settled p sid ≡ true → sharers_in (image_of p sid) (rest_of sid p.spaces) ≡ 0 → (v : ℕ) → AtRest (state_of p (Text (image_of p sid) v))
-settled_text p sid o d h e z v = unnamed_rests p (is_of_text (image_of p sid)) (Text (image_of p sid) v) o (same_is (image_of p sid) (image_of p sid) refl) unnamed
+settled_text p sid o d h e z v = unnamed_rests p (is_of_text (image_of p sid)) (Text (image_of p sid) v) o (eq-eqb (image_of p sid) (image_of p sid) refl) unnamed
   where
     last : sharers p (image_of p sid) ≡ 1
     last = one_more sid p.spaces d h ∙ (let k : 1 + sharers_in (image_of p sid) (rest_of sid p.spaces) ≡ 1 = omega arith in k)
@@ -98,8 +89,8 @@ settled_text p sid o d h e z v = unnamed_rests p (is_of_text (image_of p sid)) (
     second false c x y = absurd cc
 
     unnamed : names_page (is_of_text (image_of p sid)) (parts_of p.transfers) ≡ false
-    unnamed = second (sharers p (image_of p sid) == 1) (names_page (is_of_text (image_of p sid)) (parts_of p.transfers)) (same_is (sharers p (image_of p sid)) 1 last)
-        (and_both (not (names_page (is_of_space sid) (parts_of p.transfers))) (not ((sharers p (image_of p sid) == 1) && names_page (is_of_text (image_of p sid)) (parts_of p.transfers))) e).1
+    unnamed = second (sharers p (image_of p sid) == 1) (names_page (is_of_text (image_of p sid)) (parts_of p.transfers)) (eq-eqb (sharers p (image_of p sid)) 1 last)
+        (and_parts (not (names_page (is_of_space sid) (parts_of p.transfers))) (not ((sharers p (image_of p sid) == 1) && names_page (is_of_text (image_of p sid)) (parts_of p.transfers))) e).1
 
 forgets : (p : Placement) (sid : ℕ) → OwnsFrames p → AllDistinct (map space_number p.spaces) → HasSpace p sid → is_settled p sid ≡ true → CanForget p sid
 forgets p sid o d h e = record { image = has_image sid p.spaces d; text_rests = settled_text p sid o d h e }

@@ -1,7 +1,6 @@
 -- A change of a process keeps the whole machine sound, where the pieces that it takes were found before.
-use Rattle.std.proofs.Common.{◌≡◌, ◌≢◌, inl, inr, ℕ, zero, suc, ◌*◌, ◌≤◌, ◌==◌, Bool, true, false, not, ◌&&◌, ◌||◌, cond, List, [], ◌∷◌, ◌++◌, length, map, filter, drop, Option, Some, None, refl, sym, ap, ◌∙◌, subst, arith}
-use Rattle.std.proofs.lemmas.Bool.{cases_eq}
-use Rattle.std.proofs.lemmas.Bool.Decides.{nat_tests}
+use Rattle.std.proofs.Common.{◌≡◌, ◌≢◌, inl, inr, ℕ, zero, suc, ◌*◌, ◌≤◌, ◌==◌, Bool, true, false, not, ◌&&◌, ◌||◌, cond, List, [], ◌∷◌, ◌++◌, length, map, filter, drop, Option, Some, None, refl, sym, ap, ◌∙◌, subst}
+use Rattle.std.proofs.lemmas.Bool.{cases_eq, eqb-true, eq-eqb, ne_eqb}
 use Rattle.vm_facts.specs.declared.page.Page.{Page}
 use Rattle.vm_facts.specs.declared.page.Page.TheVariants.{Text}
 use Rattle.vm_facts.specs.declared.page.PageState.{PageState}
@@ -32,18 +31,12 @@ use Rattle.page_laws.proofs.Ownership.Entries.{place_change_owner}
 use Rattle.page_laws.proofs.Ownership.Changes.{dropped_pages}
 use Rattle.page_laws.proofs.Blocks.Changes.{place_change_aside}
 use Rattle.page_laws.proofs.Ends.Hands.{SameHands, hands_self, hands_both, hands_stand}
-use Rattle.kernel_laws.proofs.Sound.Steps.{eq_is, proc_number}
+use Rattle.kernel_laws.proofs.Sound.Steps.{proc_number}
 use Rattle.kernel_laws.proofs.Pieces.GivenBack.{after_apart, FitsBoth, grows_fits, owns_from, own_left, other_left, unless_u, u_some, both_pieces, both_while, both_u}
 use Rattle.kernel_laws.proofs.Pieces.Sizes.{change_fits, change_texts, grows_self}
 use Rattle.aout_image.specs.declared.Image.{Image}
 
 -- Who lives.
-
-pub differs : (a b : ℕ) → a ≢ b → (a == b) ≡ false
-differs a b n = grind (arith, nat_tests)
-
-pub same_is : (a b : ℕ) → a ≡ b → (a == b) ≡ true
-same_is a b e = grind (arith, nat_tests)
 
 abbrev pub find : ℕ → List Proc → Option Proc
 find n ps = numbered (λ (x : Proc). x.pid) n ps
@@ -54,7 +47,7 @@ map_alive f [] n k h e = e
 map_alive f (q ∷ qs) n k h e = go (q.pid == n) refl e (map_alive f qs n k h)
   where
     go : (b : Bool) → (q.pid == n) ≡ b → lives_in (cond b (Some q) (find n qs)) ≡ true → (lives qs n ≡ true → lives (map f qs) n ≡ true) → lives (f q ∷ map f qs) n ≡ true
-    go true x l ih = ap (λ (b : Bool). lives_in (cond b (Some (f q)) (find n (map f qs)))) (ap (λ (m : ℕ). m == n) (k q) ∙ x) ∙ h q (eq_is q.pid n x) l
+    go true x l ih = ap (λ (b : Bool). lives_in (cond b (Some (f q)) (find n (map f qs)))) (ap (λ (m : ℕ). m == n) (k q) ∙ x) ∙ h q (eqb-true q.pid n x) l
     go false x l ih = ap (λ (b : Bool). lives_in (cond b (Some (f q)) (find n (map f qs)))) (ap (λ (m : ℕ). m == n) (k q) ∙ x) ∙ ih l
 
 map_dead : (f : Proc → Proc) (ps : List Proc) (n : ℕ) → ((q : Proc) → (f q).pid ≡ q.pid) → ((q : Proc) → q.pid ≡ n → has_life (f q).life ≡ false) → lives (map f ps) n ≡ false
@@ -62,7 +55,7 @@ map_dead f [] n k h = refl
 map_dead f (q ∷ qs) n k h = go (q.pid == n) refl (map_dead f qs n k h)
   where
     go : (b : Bool) → (q.pid == n) ≡ b → lives (map f qs) n ≡ false → lives (f q ∷ map f qs) n ≡ false
-    go true x ih = ap (λ (b : Bool). lives_in (cond b (Some (f q)) (find n (map f qs)))) (ap (λ (m : ℕ). m == n) (k q) ∙ x) ∙ h q (eq_is q.pid n x)
+    go true x ih = ap (λ (b : Bool). lives_in (cond b (Some (f q)) (find n (map f qs)))) (ap (λ (m : ℕ). m == n) (k q) ∙ x) ∙ h q (eqb-true q.pid n x)
     go false x ih = ap (λ (b : Bool). lives_in (cond b (Some (f q)) (find n (map f qs)))) (ap (λ (m : ℕ). m == n) (k q) ∙ x) ∙ ih
 
 pub map_lives : (f : Proc → Proc) (ps : List Proc) (n : ℕ) → ((q : Proc) → (f q).pid ≡ q.pid) → ((q : Proc) → has_life (f q).life ≡ has_life q.life) → lives (map f ps) n ≡ lives ps n
@@ -80,7 +73,7 @@ filter_alive test (q ∷ qs) n h e = go (test q) (q.pid == n) refl refl e (filte
     go : (b c : Bool) → test q ≡ b → (q.pid == n) ≡ c → lives_in (cond c (Some q) (find n qs)) ≡ true → (lives qs n ≡ true → lives (filter test qs) n ≡ true) → lives (cond b (q ∷ filter test qs) (filter test qs)) n ≡ true
     go true true x y l ih = ap (λ (b : Bool). lives_in (cond b (Some q) (find n (filter test qs)))) y ∙ l
     go true false x y l ih = ap (λ (b : Bool). lives_in (cond b (Some q) (find n (filter test qs)))) y ∙ ih l
-    go false true x y l ih = absurd (let z : true ≡ false = sym (h q (eq_is q.pid n y) l) ∙ x in cc)
+    go false true x y l ih = absurd (let z : true ≡ false = sym (h q (eqb-true q.pid n y) l) ∙ x in cc)
     go false false x y l ih = ih l
 
 pub append_alive : (ps rs : List Proc) (n : ℕ) → lives ps n ≡ true → lives (ps ++ rs) n ≡ true
@@ -95,18 +88,18 @@ pub with_number : (p q : Proc) → (cond (q.pid == p.pid) p q).pid ≡ q.pid
 with_number p q = go (q.pid == p.pid) refl
   where
     go : (b : Bool) → (q.pid == p.pid) ≡ b → (cond b p q).pid ≡ q.pid
-    go true e = sym (eq_is q.pid p.pid e)
+    go true e = sym (eqb-true q.pid p.pid e)
     go false e = refl
 
 with_alive : (p : Proc) (ps : List Proc) (n : ℕ) → (p.pid ≡ n → has_life p.life ≡ true) → lives ps n ≡ true → lives (with_proc ps p) n ≡ true
 with_alive p ps n h e = map_alive (λ (q : Proc). cond (q.pid == p.pid) p q) ps n (with_number p) (λ q i l. go q i l (q.pid == p.pid) refl) e
   where
     go : (q : Proc) → q.pid ≡ n → has_life q.life ≡ true → (b : Bool) → (q.pid == p.pid) ≡ b → has_life (cond b p q).life ≡ true
-    go q i l true x = h (sym (eq_is q.pid p.pid x) ∙ i)
+    go q i l true x = h (sym (eqb-true q.pid p.pid x) ∙ i)
     go q i l false x = l
 
 without_alive : (ps : List Proc) (pid n : ℕ) → n ≢ pid → lives ps n ≡ true → lives (without_proc ps pid) n ≡ true
-without_alive ps pid n d e = filter_alive (λ (q : Proc). not (q.pid == pid)) ps n (λ q i l. ap not (differs q.pid pid (λ k. d (sym i ∙ k)))) e
+without_alive ps pid n d e = filter_alive (λ (q : Proc). not (q.pid == pid)) ps n (λ q i l. ap not (ne_eqb q.pid pid (λ k. d (sym i ∙ k)))) e
 
 pub without_dead : (ps : List Proc) (pid : ℕ) → lives (without_proc ps pid) pid ≡ false
 without_dead [] pid = refl
@@ -138,7 +131,7 @@ left_alive false ps p status n d e = woken_lives (with_proc ps record p { life =
 
 pub left_dead : (gone : Bool) (ps : List Proc) (p : Proc) (status : ℕ) → lives (left_procs gone ps p status) p.pid ≡ false
 left_dead true ps p status = without_dead ps p.pid
-left_dead false ps p status = woken_lives (with_proc ps record p { life = Ended status }) p.parent p.pid ∙ map_dead (λ (q : Proc). cond (q.pid == p.pid) (record p { life = Ended status }) q) ps p.pid (with_number (record p { life = Ended status })) (λ q i. go q (q.pid == p.pid) (same_is q.pid p.pid i))
+left_dead false ps p status = woken_lives (with_proc ps record p { life = Ended status }) p.parent p.pid ∙ map_dead (λ (q : Proc). cond (q.pid == p.pid) (record p { life = Ended status }) q) ps p.pid (with_number (record p { life = Ended status })) (λ q i. go q (q.pid == p.pid) (eq-eqb q.pid p.pid i))
   where
     go : (q : Proc) (b : Bool) → b ≡ true → has_life (cond b (record p { life = Ended status }) q).life ≡ false
     go q true e = refl
@@ -182,7 +175,7 @@ u_after ps x next hs p q sid borrowed Sleep h r u n = u_kept ps x next hs Sleep 
 u_after ps x next hs p q sid borrowed (End status) h r u n = elim (cases_eq n x.pid) [
   | inl e ↦ subst (λ (m : ℕ). lengths (owners.U m) (kept (owners.U x.pid) 0 rest) ≡ u_pieces (u_blocks (lives (procs_after ps x next (End status)) m))) (sym e)
       (own_left (owners.U x.pid) rest ∙ ap (λ (b : Bool). u_pieces (u_blocks b)) (sym (left_dead (x.parent == 0) (orphaned_procs ps x.pid) x status)))
-  | inr d ↦ other_left (owners.U x.pid) (owners.U n) 0 rest (differs x.pid n (λ k. d (sym k))) ∙ unless_u hs borrowed sid (image_of p sid) (sharers q (image_of p sid)) n ∙ u_kept ps x next hs (End status) n (h n) r d (u n)
+  | inr d ↦ other_left (owners.U x.pid) (owners.U n) 0 rest (ne_eqb x.pid n (λ k. d (sym k))) ∙ unless_u hs borrowed sid (image_of p sid) (sharers q (image_of p sid)) n ∙ u_kept ps x next hs (End status) n (h n) r d (u n)
 ]
   where
     rest : Holdings

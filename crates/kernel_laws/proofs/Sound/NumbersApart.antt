@@ -1,29 +1,23 @@
 -- The numbers of spaces and processes stay apart, and below those to come.
 use Rattle.std.proofs.Common.{◌≡◌, ◌≢◌, ℕ, zero, suc, ◌+◌, ◌==◌, Bool, true, false, not, ◌&&◌, cond, List, [], ◌∷◌, ◌++◌, length, map, filter, Option, Some, None, refl, sym, ap, ◌∙◌, subst, arith, inl, inr}
 use Rattle.std.proofs.lemmas.Bool.{cases_eq}
-use Rattle.std.proofs.lemmas.Bool.Decides.{nat_tests}
 use Rattle.std.proofs.lemmas.List.{map-append}
+use Rattle.kernel_laws.proofs.Machine.Processes.{distinct_filter}
+use Rattle.kernel_laws.proofs.Flat.Numbers.{below_more}
 use Rattle.vm_facts.specs.declared.page.Page.{Page}
 use Rattle.vm_facts.specs.declared.page.Page.TheVariants.{Data, Stack, Text}
 use Rattle.vm_facts.specs.declared.page.PageState.{PageState}
-use Rattle.vm_facts.specs.declared.page.PageState.TheVariants.{Unfilled, Valid, Invalid, Coming, Going, OnSwap}
 use Rattle.vm_facts.specs.declared.regs.Regs.{Regs}
 use Rattle.vm_facts.specs.declared.entry.Entry.{Entry}
-use Rattle.vm_facts.specs.declared.entry.Entry.TheVariants as entries
 use Rattle.aout_image.specs.declared.Image.{Image}
 use Rattle.swap_book.specs.Holdings.{Holdings}
 use Rattle.flat_state.specs.declared.change.Change.{Change}
 use Rattle.flat_state.specs.declared.change.Change.TheVariants.{Keep, Resize, Fork, Lend, Exec, Reap, Sleep, End}
 use Rattle.flat_state.specs.Flat.{cleared, start_regs}
-use Rattle.page_model.specs.Pages.{SpacePages, changed, with_data, with_stack, frame_of}
-use Rattle.flat_state.specs.PageNames.{is_among, same_page, pages_from, number_of}
-use Rattle.page_model.specs.Frames.{times}
+use Rattle.page_model.specs.Pages.{SpacePages, changed, with_data, with_stack}
 use Rattle.page_model.specs.Placement.{Placement, Transfer, Part, Errand, Writes, Reads, Source, Due, space_number, state_of, mark_of, is_dirty, page_of, put, spaces_with, sharers, image_of, new_pages}
-use Rattle.page_model.specs.Moves.{evict, evict_at, fill, fill_at, begin, get_one, get_at, get_all, get_run, launch, launch_to, launch_all, launch_run, land, land_read, land_all, done, done_of, reclaim, reclaim_to, retire, retire_to, touch, touch_to, drop_at, drop_page, drop_all, leave_by, leave_page, leave_all, listed}
-use Rattle.page_model.specs.Runs.{run_out, pages_of_run}
-use Rattle.page_model.specs.Hands.{expire, expire_of, expire_if, expire_to, sweep, sweep_of, sweep_to, sweep_by, hand_move, hand_moves}
+use Rattle.page_model.specs.Moves.{done, touch, drop_all}
 use Rattle.page_model.specs.Place.{filled, put_by, put_step, place_entry, sized, data_count, stack_count, data_from, stack_from, cut_space, resize, fork_space, enter_space, enter_image, remove_space, pages_of_space, pages_of_text, leave_text, leave_text_by, give_up, give_up_unless, place_change, facts_numbered}
-use Rattle.page_model.specs.Serve.{read_errand}
 use Rattle.flat_state.specs.Journal.{append}
 use Rattle.kernel_model.specs.Kernel.{New, HoldsSpace, Ended, Kernel, Proc, with_regs, plain_step, zero_step, copy_step, done_step, write_step, note_step, out_step, in_step}
 use Rattle.kernel_model.specs.ChangeStep.{with_proc, without_proc, child_proc, is_ended, orphaned_procs, woken_procs, left_procs, procs_after, space_of_life, gave_back, change_by, change_if, change_step, ran_by, pass_step, passed_life, life_of_proc}
@@ -32,6 +26,7 @@ use Rattle.kernel_model.specs.Start.{begin_step}
 use Rattle.kernel_model.specs.Sound.{lives}
 use Rattle.kernel_model.specs.Numbers.{EachResides, Numbered, TakesNext}
 use Rattle.page_model.specs.PuttingOut.{IsResident}
+use Rattle.page_laws.proofs.Moves.Puts.{KeptByPuts, entry_kept, filled_kept, done_kept, touch_kept, drop_all_kept, leave_all_kept}
 use Rattle.page_laws.proofs.Ownership.Changes.{dropped_pages}
 use Rattle.kernel_laws.proofs.Machine.Shapes.{Shaped, touch_shaped}
 use Rattle.kernel_laws.proofs.Sound.Steps.{pass_lives, proc_number}
@@ -57,211 +52,13 @@ put_numbers p (Data t v) s m = changed_numbers t (with_data v s m) (λ x. refl) 
 put_numbers p (Stack t v) s m = changed_numbers t (with_stack v s m) (λ x. refl) p.spaces
 put_numbers p (Text i v) s m = refl
 
-evict_numbers : (p : Placement) (f : ℕ) → SameSpaces p (evict p f)
-evict_numbers p f = go (page_of p f)
-  where
-    go : (h : Option Page) → SameSpaces p (evict_at p f h)
-    go None = refl
-    go (Some v) = put_numbers p v (Rattle.page_model.specs.Pages.left_state v (mark_of p v)) (mark_of p v)
-
-filled_numbers : (p : Placement) (v : Page) → SameSpaces p (filled p v)
-filled_numbers p v = go p.free
-  where
-    go : (fr : List ℕ) → SameSpaces p (fill_at p v fr)
-    go [] = refl
-    go (f ∷ rest) = put_numbers (evict p f) v (Valid f) true ∙ evict_numbers p f
-
-get_numbers : (p : Placement) (e : Errand) (v : Page) → SameSpaces p (get_one p e v)
-get_numbers p e v = go p.free
-  where
-    go : (fr : List ℕ) → SameSpaces p (get_at p e v fr)
-    go [] = refl
-    go (f ∷ rest) = put_numbers (evict p f) v (Coming f) (mark_of p v) ∙ evict_numbers p f
-
-get_all_numbers : (qs : List Page) (p : Placement) (e : Errand) → SameSpaces p (get_all p e qs)
-get_all_numbers [] p e = refl
-get_all_numbers (v ∷ qs) p e = get_all_numbers qs (get_one p e v) e ∙ get_numbers p e v
-
-launch_numbers : (p : Placement) (v : Page) → SameSpaces p (launch p v)
-launch_numbers p v = go (state_of p v)
-  where
-    go : (s : PageState) → SameSpaces p (launch_to p v s)
-    go (Valid f) = put_numbers p v (Going f) (mark_of p v)
-    go (Invalid f) = put_numbers p v (Going f) (mark_of p v)
-    go Unfilled = refl
-    go (Coming f) = refl
-    go (Going f) = refl
-    go OnSwap = refl
-
-launch_all_numbers : (qs : List Page) (p : Placement) → SameSpaces p (launch_all p qs)
-launch_all_numbers [] p = refl
-launch_all_numbers (v ∷ qs) p = launch_all_numbers qs (launch p v) ∙ launch_numbers p v
-
-retire_numbers : (p : Placement) (v : Page) → SameSpaces p (retire p v)
-retire_numbers p v = go (state_of p v)
-  where
-    go : (s : PageState) → SameSpaces p (retire_to p v s)
-    go (Valid f) = put_numbers p v (Invalid f) (mark_of p v)
-    go (Invalid f) = put_numbers p v (Invalid f) (mark_of p v)
-    go Unfilled = refl
-    go (Coming f) = refl
-    go (Going f) = refl
-    go OnSwap = refl
-
-put_step_numbers : (p : Placement) (v : Page) (qs : List Page) → SameSpaces p (put_step p v qs)
-put_step_numbers p v qs = go (is_dirty p v)
-  where
-    go : (b : Bool) → SameSpaces p (put_by p v qs b)
-    go true = launch_all_numbers qs (begin p Writes)
-    go false = retire_numbers p v
-
-land_numbers : (p : Placement) (e : Errand) (x : Part) (rest : List Transfer) → SameSpaces p (land p e x rest)
-land_numbers p Writes x rest = put_numbers p x.page (Invalid x.frame) (Rattle.page_model.specs.Pages.written_mark x.page)
-land_numbers p (Reads source demanded) x rest = go (same_page x.page demanded)
-  where
-    go : (b : Bool) → SameSpaces p (land_read p source x rest b)
-    go true = put_numbers p x.page (Valid x.frame) (Rattle.page_model.specs.Moves.arrived_mark source x.page (mark_of p x.page))
-    go false = put_numbers p x.page (Invalid x.frame) (mark_of p x.page)
-
-land_all_numbers : (xs : List Part) (p : Placement) (e : Errand) (ts : List Transfer) → SameSpaces p (land_all p e xs ts)
-land_all_numbers [] p e ts = refl
-land_all_numbers (x ∷ xs) p e ts = land_all_numbers xs (land p e x (record { errand = e; parts = xs } ∷ ts)) e ts ∙ land_numbers p e x (record { errand = e; parts = xs } ∷ ts)
-
-done_numbers : (p : Placement) → SameSpaces p (done p)
-done_numbers p = go p.transfers
-  where
-    go : (ts : List Transfer) → SameSpaces p (done_of p ts)
-    go [] = refl
-    go (t ∷ ts) = land_all_numbers t.parts p t.errand ts
-
-reclaim_numbers : (p : Placement) (v : Page) → SameSpaces p (reclaim p v)
-reclaim_numbers p v = go (state_of p v)
-  where
-    go : (s : PageState) → SameSpaces p (reclaim_to p v s)
-    go (Invalid f) = put_numbers p v (Valid f) (mark_of p v)
-    go Unfilled = refl
-    go (Valid f) = refl
-    go (Coming f) = refl
-    go (Going f) = refl
-    go OnSwap = refl
-
-touch_numbers : (p : Placement) (v : Page) → SameSpaces p (touch p v)
-touch_numbers p v = go v (state_of p v)
-  where
-    go : (v : Page) (s : PageState) → SameSpaces p (touch_to p v s)
-    go (Data t n) (Valid f) = put_numbers p (Data t n) (Valid f) true
-    go (Data t n) Unfilled = refl
-    go (Data t n) (Invalid f) = refl
-    go (Data t n) (Coming f) = refl
-    go (Data t n) (Going f) = refl
-    go (Data t n) OnSwap = refl
-    go (Stack t n) (Valid f) = put_numbers p (Stack t n) (Valid f) true
-    go (Stack t n) Unfilled = refl
-    go (Stack t n) (Invalid f) = refl
-    go (Stack t n) (Coming f) = refl
-    go (Stack t n) (Going f) = refl
-    go (Stack t n) OnSwap = refl
-    go (Text i n) s = refl
-
-expire_numbers : (p : Placement) (locked : List Page) → SameSpaces p (expire p locked)
-expire_numbers p locked = go (page_of p p.front)
-  where
-    to : (v : Page) (s : PageState) → SameSpaces p (expire_to p v s)
-    to v (Valid f) = put_numbers p v (Invalid f) (mark_of p v)
-    to v Unfilled = refl
-    to v (Invalid f) = refl
-    to v (Coming f) = refl
-    to v (Going f) = refl
-    to v OnSwap = refl
-
-    at : (v : Page) (b : Bool) → SameSpaces p (expire_if p v b)
-    at v true = refl
-    at v false = to v (state_of p v)
-
-    go : (h : Option Page) → SameSpaces p (expire_of p locked h)
-    go None = refl
-    go (Some v) = at v (is_among v locked)
-
-sweep_numbers : (p : Placement) (locked : List Page) → SameSpaces p (sweep p locked)
-sweep_numbers p locked = go (page_of p p.back)
-  where
-    by : (q : Page) (d : Bool) → SameSpaces p (sweep_by p locked q d)
-    by q true = launch_all_numbers (pages_of_run q (run_out p locked q)) (begin p Writes)
-    by q false = retire_numbers p q
-
-    to : (q : Page) (s : PageState) (n : ℕ) (b : Bool) → SameSpaces p (sweep_to p locked q s n b)
-    to q (Invalid f) zero false = by q (is_dirty p q)
-    to q (Invalid f) zero true = refl
-    to q (Invalid f) (suc n) b = refl
-    to q Unfilled n b = refl
-    to q (Valid f) n b = refl
-    to q (Coming f) n b = refl
-    to q (Going f) n b = refl
-    to q OnSwap n b = refl
-
-    go : (h : Option Page) → SameSpaces p (sweep_of p locked p.back h)
-    go None = refl
-    go (Some q) = to q (state_of p q) (times p.back p.free) (is_among q locked)
-
-moves_numbers : (n : ℕ) (p : Placement) (locked : List Page) → SameSpaces p (hand_moves p locked n)
-moves_numbers zero p locked = refl
-moves_numbers (suc n) p locked = moves_numbers n (hand_move p locked) locked ∙ sweep_numbers (expire p locked) locked ∙ expire_numbers p locked
+numbers_by_puts : KeptByPuts SameSpaces
+numbers_by_puts = record { still = λ p q a b c. ap (map space_number) a; both = λ p q r a b. b ∙ a; puts = put_numbers }
 
 pub entry_numbers : (locked : List Page) (at : ℕ) (p : Placement) (e : Entry) → SameSpaces p (place_entry locked at p e)
-entry_numbers locked at p (entries.Zero q) = filled_numbers p q
-entry_numbers locked at p (entries.Get q lo n) = get_all_numbers (pages_from q lo n) (begin p (read_errand p q)) (read_errand p q)
-entry_numbers locked at p (entries.Copy q) = filled_numbers p q
-entry_numbers locked at p (entries.Reclaim q) = reclaim_numbers p q
-entry_numbers locked at p (entries.Hands n) = moves_numbers n p locked
-entry_numbers locked at p (entries.Put q n) = put_step_numbers p q (pages_from q (number_of q) n)
-entry_numbers locked at p entries.Done = done_numbers p
-entry_numbers locked at p (entries.SwapOut pid) = refl
-entry_numbers locked at p (entries.SwapIn pid) = refl
-entry_numbers locked at p (entries.Event line) = refl
-entry_numbers locked at p (entries.Turn pid) = refl
-entry_numbers locked at p (entries.Ran pid n) = refl
-entry_numbers locked at p (entries.Out pid bytes) = refl
-entry_numbers locked at p (entries.Grew pid pages) = refl
-entry_numbers locked at p (entries.Call pid number carry r0 r1) = refl
-entry_numbers locked at p (entries.Refused pid) = refl
-entry_numbers locked at p (entries.Sleeps pid) = refl
-entry_numbers locked at p (entries.Ended pid status) = refl
-entry_numbers locked at p (entries.Owners x y m h) = refl
-
-drop_numbers : (p : Placement) (v : Page) → SameSpaces p (drop_page p v)
-drop_numbers p v = go (frame_of (state_of p v))
-  where
-    go : (h : Option ℕ) → SameSpaces p (drop_at p v h)
-    go None = put_numbers p v Unfilled false
-    go (Some f) = put_numbers p v Unfilled false
-
-drop_all_numbers : (qs : List Page) (p : Placement) → SameSpaces p (drop_all p qs)
-drop_all_numbers [] p = refl
-drop_all_numbers (v ∷ qs) p = drop_all_numbers qs (drop_page p v) ∙ drop_numbers p v
-
-leave_numbers : (p : Placement) (v : Page) → SameSpaces p (leave_page p v)
-leave_numbers p v = go (state_of p v) (listed p v)
-  where
-    go : (s : PageState) (n : ℕ) → SameSpaces p (leave_by p v s n)
-    go (Valid f) n = put_numbers p v (Invalid f) false
-    go (Invalid f) zero = put_numbers p v (Invalid f) false
-    go (Invalid f) (suc n) = put_numbers p v (Invalid f) false
-    go OnSwap n = put_numbers p v Unfilled false
-    go Unfilled n = put_numbers p v Unfilled false
-    go (Coming f) n = refl
-    go (Going f) n = refl
-
-leave_all_numbers : (qs : List Page) (p : Placement) → SameSpaces p (leave_all p qs)
-leave_all_numbers [] p = refl
-leave_all_numbers (v ∷ qs) p = leave_all_numbers qs (leave_page p v) ∙ leave_numbers p v
+entry_numbers = entry_kept numbers_by_puts (λ p pid out at. refl)
 
 -- Numbers that come and go.
-
-differs : (a b : ℕ) → a ≢ b → (a == b) ≡ false
-differs a b n = grind (arith, nat_tests)
-
-equal : (a b : ℕ) → (a == b) ≡ true → a ≡ b
-equal a b e = grind (arith, nat_tests)
 
 absent_last : (m n : ℕ) (ms : List ℕ) → n ≢ m → IsAbsent m ms → IsAbsent m (ms ++ n ∷ [])
 absent_last m n [] d a = (d, tt)
@@ -270,10 +67,6 @@ absent_last m n (x ∷ ms) d a = (a.0, absent_last m n ms d a.1)
 distinct_last : (n : ℕ) (ms : List ℕ) → AllBelow n ms → AllDistinct ms → AllDistinct (ms ++ n ∷ [])
 distinct_last n [] b d = (tt, tt)
 distinct_last n (m ∷ ms) b d = (absent_last m n ms (λ e. absurd (let l = b.0 in omega arith)) d.0, distinct_last n ms b.1 d.1)
-
-below_more : (n : ℕ) (ms : List ℕ) → AllBelow n ms → AllBelow (n + 1) ms
-below_more n [] b = tt
-below_more n (m ∷ ms) b = ((let l = b.0 in omega arith), below_more n ms b.1)
 
 below_last : (n : ℕ) (ms : List ℕ) → AllBelow n ms → AllBelow (n + 1) (ms ++ n ∷ [])
 below_last n [] b = (omega arith, tt)
@@ -285,14 +78,6 @@ absent_filter {A} number test n (x ∷ xs) a = go (test x) (absent_filter number
   where
     go : (b : Bool) → IsAbsent n (map number (filter test xs)) → IsAbsent n (map number (cond b (x ∷ filter test xs) (filter test xs)))
     go true r = (a.0, r)
-    go false r = r
-
-distinct_filter : {A : Type 0} (number : A → ℕ) (test : A → Bool) (xs : List A) → AllDistinct (map number xs) → AllDistinct (map number (filter test xs))
-distinct_filter number test [] d = d
-distinct_filter {A} number test (x ∷ xs) d = go (test x) (distinct_filter number test xs d.1)
-  where
-    go : (b : Bool) → AllDistinct (map number (filter test xs)) → AllDistinct (map number (cond b (x ∷ filter test xs) (filter test xs)))
-    go true r = (absent_filter number test (number x) xs d.0, r)
     go false r = r
 
 below_filter : {A : Type 0} (number : A → ℕ) (test : A → Bool) (n : ℕ) (xs : List A) → AllBelow n (map number xs) → AllBelow n (map number (filter test xs))
@@ -331,20 +116,20 @@ abbrev cut : ℕ → ℕ → SpacePages → SpacePages
 cut d s x = record x { data_pages = sized d x.data_pages; stack_pages = sized s x.stack_pages }
 
 resize_numbers : (p : Placement) (sid d s : ℕ) → SameSpaces p (resize p sid d s)
-resize_numbers p sid d s = changed_numbers sid (cut d s) (λ x. refl) (drop_all p (dropped_pages p sid d s)).spaces ∙ drop_all_numbers (dropped_pages p sid d s) p
+resize_numbers p sid d s = changed_numbers sid (cut d s) (λ x. refl) (drop_all p (dropped_pages p sid d s)).spaces ∙ drop_all_kept numbers_by_puts (dropped_pages p sid d s) p
 
 text_numbers : (p : Placement) (image : ℕ) → SameSpaces p (leave_text p image)
 text_numbers p image = go (sharers p image)
   where
     go : (n : ℕ) → SameSpaces p (leave_text_by p image n)
-    go zero = leave_all_numbers (pages_of_text p image) p
+    go zero = leave_all_kept numbers_by_puts (pages_of_text p image) p
     go (suc n) = refl
 
 give_up_fine : (n : ℕ) (p : Placement) (sid : ℕ) → FineSpaces n p → FineSpaces n (give_up p sid)
 give_up_fine n p sid f =
     let d : Placement = drop_all p (pages_of_space p sid) in
     same_fine n (remove_space d sid) (give_up p sid) (text_numbers (remove_space d sid) (image_of p sid))
-    (fine_filter space_number (λ (s : SpacePages). not (s.sid == sid)) n d.spaces (same_fine n p d (drop_all_numbers (pages_of_space p sid) p) f))
+    (fine_filter space_number (λ (s : SpacePages). not (s.sid == sid)) n d.spaces (same_fine n p d (drop_all_kept numbers_by_puts (pages_of_space p sid) p) f))
 
 unless_fine : (borrowed : Bool) (n : ℕ) (p : Placement) (sid : ℕ) → FineSpaces n p → FineSpaces n (give_up_unless borrowed p sid)
 unless_fine true n p sid f = f
@@ -446,7 +231,7 @@ pub done_numbered : (k : Kernel) (read : List (List ℕ)) → Numbered k → Num
 done_numbered k read n = paged_numbered k (done_step k read) entries.Done refl refl refl refl n
 
 pub write_numbered : (k : Kernel) (q : Page) (f at byte : ℕ) → Numbered k → Numbered (write_step k q f at byte)
-write_numbered k q f at byte n = numbered_from (write_step k q f at byte) (same_fine k.next_sid k.place (touch k.place q) (touch_numbers k.place q) (fine_spaces k n)) (fine_pids k n)
+write_numbered k q f at byte n = numbered_from (write_step k q f at byte) (same_fine k.next_sid k.place (touch k.place q) (touch_kept numbers_by_puts k.place q) (fine_spaces k n)) (fine_pids k n)
     (each_resides k (write_step k q f at byte) (λ m a. a) (λ m h. let x : Shaped k.place (touch k.place q) = touch_shaped k.place q in resides k.place.residents (touch k.place q).residents m x.residents h) n.residents)
 
 pub note_numbered : (k : Kernel) (e : Entry) → Numbered k → Numbered (note_step k e)

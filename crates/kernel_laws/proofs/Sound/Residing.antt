@@ -1,6 +1,6 @@
 -- Who lives is in or out: each step of the whole machine, and each change of a process, keeps it.
 use Rattle.std.proofs.Common.{◌≡◌, ◌≢◌, ◌⊎◌, inl, inr, ℕ, ◌+◌, ◌==◌, Bool, true, false, cond, not, List, [], ◌∷◌, ◌++◌, length, map, filter, Option, Some, None, refl, sym, ap, ◌∙◌}
-use Rattle.std.proofs.lemmas.Bool.{cases_eq}
+use Rattle.std.proofs.lemmas.Bool.{cases_eq, eqb-true}
 use Rattle.vm_facts.specs.declared.page.Page.{Page}
 use Rattle.vm_facts.specs.declared.regs.Regs.{Regs}
 use Rattle.vm_facts.specs.declared.entry.Entry.{Entry}
@@ -22,7 +22,8 @@ use Rattle.kernel_model.specs.ChangeStep.{change_by, procs_after, orphaned_procs
 use Rattle.kernel_model.specs.Asks.{OneEach, is_started}
 use Rattle.kernel_model.specs.Numbers.{EachResides}
 use Rattle.page_laws.proofs.Ownership.Changes.{dropped_pages}
-use Rattle.kernel_laws.proofs.Flat.Numbered.{absent_none, eq_is, eq_self}
+use Rattle.kernel_laws.proofs.Flat.Numbered.{absent_none}
+use Rattle.vm_facts.proofs.Tests.{eq_self}
 use Rattle.kernel_laws.proofs.Sound.Changes.{left_dead, map_lives}
 use Rattle.kernel_laws.proofs.Pieces.Wanted.{IsChild, after_back}
 use Rattle.kernel_laws.proofs.Machine.Shapes.{Shaped, filled_shaped, get_run_shaped, reclaim_shaped, moves_shaped, put_step_shaped, done_shaped, drop_all_shaped}
@@ -110,7 +111,7 @@ ended_none (r ∷ rs) pid n d e = go (r.pid == pid) (r.pid == n) refl refl e (en
   where
     go : (b c : Bool) → (r.pid == pid) ≡ b → (r.pid == n) ≡ c → numbered here n (cond (not b) (r ∷ filter (λ (r : Residence). not (r.pid == pid)) rs) (filter (λ (r : Residence). not (r.pid == pid)) rs)) ≡ None
         → (numbered here n (filter (λ (r : Residence). not (r.pid == pid)) rs) ≡ None → numbered here n rs ≡ None) → cond c (Some r) (numbered here n rs) ≡ None
-    go true true i k z ih = absurd (d (sym (eq_is r.pid n k) ∙ eq_is r.pid pid i))
+    go true true i k z ih = absurd (d (sym (eqb-true r.pid n k) ∙ eqb-true r.pid pid i))
     go true false i k z ih = ih z
     go false true i k z ih = absurd (let y : Some r ≡ None = sym (ap (λ (c : Bool). cond c (Some r) (numbered here n (filter (λ (r : Residence). not (r.pid == pid)) rs))) k) ∙ z in cc)
     go false false i k z ih = ih (sym (ap (λ (c : Bool). cond c (Some r) (numbered here n (filter (λ (r : Residence). not (r.pid == pid)) rs))) k) ∙ z)

@@ -1,6 +1,6 @@
 -- Each step of the whole machine that moves pages or bytes keeps what is so of a machine that goes on.
 use Rattle.std.proofs.Common.{◌≡◌, ℕ, ◌+◌, ◌≤◌, ◌==◌, Bool, true, false, cond, List, [], ◌∷◌, length, map, set, Option, Some, refl, sym, ap, ◌∙◌, subst, arith}
-use Rattle.std.proofs.lemmas.Bool.Decides.{nat_tests}
+use Rattle.std.proofs.lemmas.Bool.{eqb-true}
 use Rattle.vm_facts.specs.declared.page.Page.{Page}
 use Rattle.vm_facts.specs.declared.page.Page.TheVariants.{Data, Stack, Text}
 use Rattle.vm_facts.specs.declared.page.PageState.{PageState}
@@ -22,7 +22,8 @@ use Rattle.flat_state.specs.Journal.{append}
 use Rattle.kernel_model.specs.Kernel.{Kernel, Proc, with_regs, start_bytes, copied_bytes, frame_bytes, put_first, read_into, landed_by, landed, plain_step, zero_step, copy_step, done_step, write_step, note_step, out_step, in_step, Life, New, HoldsSpace, LendsSpace, Ended}
 use Rattle.kernel_model.specs.Sound.{Sound, has_life, lives, lives_in}
 use Rattle.kernel_model.specs.ChangeStep.{ran_by, pass_step, pass_from, passed_life, space_of_life, life_of_proc}
-use Rattle.page_laws.proofs.Lists.Local.{none_some, some_is}
+use Rattle.page_laws.proofs.Lists.Local.{none_some}
+use Rattle.std.proofs.lemmas.Option.{same_Some}
 use Rattle.page_laws.proofs.Lists.Frames.{length_set_frame}
 use Rattle.page_laws.proofs.Ownership.Pages.{touch_owner, touch_turns}
 use Rattle.page_laws.proofs.Moves.Stays.{Steady}
@@ -158,9 +159,6 @@ alive_owner size a b p hs e o =
       aside = o.aside;
     }
 
-pub eq_is : (a b : ℕ) → (a == b) ≡ true → a ≡ b
-eq_is a b e = grind (arith, nat_tests)
-
 lives_head : (c : Bool) (x y : Proc) (xs ys : Option Proc) → has_life x.life ≡ has_life y.life → lives_in xs ≡ lives_in ys → lives_in (cond c (Some x) xs) ≡ lives_in (cond c (Some y) ys)
 lives_head true x y xs ys e h = e
 lives_head false x y xs ys e h = h
@@ -205,7 +203,7 @@ proc_number [] n q e = none_some q e
 proc_number (p ∷ ps) n q e = go (p.pid == n) refl e (proc_number ps n q)
   where
     go : (b : Bool) → (p.pid == n) ≡ b → cond b (Some p) (numbered (λ (x : Proc). x.pid) n ps) ≡ Some q → (numbered (λ (x : Proc). x.pid) n ps ≡ Some q → q.pid ≡ n) → q.pid ≡ n
-    go true h k ih = ap (λ (x : Proc). x.pid) (sym (some_is p q k)) ∙ eq_is p.pid n h
+    go true h k ih = ap (λ (x : Proc). x.pid) (sym (same_Some p q k)) ∙ eqb-true p.pid n h
     go false h k ih = ih k
 
 -- who has another life has one still
@@ -229,8 +227,8 @@ passed_alive sid from to receiver q a b = go (q.pid == from) (q.pid == to) refl 
     alive (Ended status) = refl
 
     go : (c d : Bool) → (q.pid == from) ≡ c → (q.pid == to) ≡ d → has_life (cond c (pass_from sid to receiver) (cond d (HoldsSpace sid) q.life)) ≡ has_life q.life
-    go true d h k = alive receiver ∙ sym (a (eq_is q.pid from h))
-    go false true h k = sym (b (eq_is q.pid to k))
+    go true d h k = alive receiver ∙ sym (a (eqb-true q.pid from h))
+    go false true h k = sym (b (eqb-true q.pid to k))
     go false false h k = refl
 
 -- Where the giver and the receiver live, a space passes and nobody else comes to life.

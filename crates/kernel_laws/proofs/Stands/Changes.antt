@@ -1,5 +1,6 @@
 -- What the coupling asks beside it stands behind each change of a process.
 use Rattle.std.proofs.Common.{◌≡◌, ◌≢◌, inl, inr, ℕ, ◌*◌, ◌==◌, ◌||◌, ◌&&◌, Bool, true, false, cond, not, List, [], ◌∷◌, ◌++◌, length, map, filter, Option, Some, None, refl, sym, ap, ◌∙◌, subst}
+use Rattle.std.proofs.Math.Bool.{and-false}
 use Rattle.std.proofs.lemmas.Bool.{cases_eq}
 use Rattle.vm_facts.specs.Answers.{ByteWrite}
 use Rattle.flat_state.specs.Space.{Space, put}
@@ -24,19 +25,21 @@ use Rattle.kernel_model.specs.Kernel.{Kernel, Proc, StartBytes, New, HoldsSpace,
 use Rattle.kernel_model.specs.Sound.{is_start, has_start}
 use Rattle.kernel_model.specs.Coupled.{SameTables}
 use Rattle.kernel_model.specs.ChangeStep.{ran_by, with_proc, orphaned_procs, left_procs, pass_step, change_step}
-use Rattle.page_laws.proofs.Lists.Pages.{mapped, same_page_self}
+use Rattle.page_laws.proofs.Lists.Pages.{mapped, numbered_hit, numbered_miss}
+use Rattle.flat_state.proofs.PageNames.{same_page_self}
 use Rattle.page_laws.proofs.Moves.Stays.{Steady}
 use Rattle.page_laws.proofs.Bytes.Others.{touch_steady}
 use Rattle.page_laws.proofs.Ownership.Changes.{dropped_pages}
 use Rattle.page_laws.proofs.Bytes.Changes.{drop_all_rest}
 use Rattle.page_laws.proofs.Bytes.Spaces.{apart_page}
-use Rattle.kernel_laws.proofs.Flat.Numbered.{hit, miss, numbered_map, removed_not, pushed_found}
+use Rattle.kernel_laws.proofs.Flat.Numbered.{numbered_map, removed_not, pushed_found}
 use Rattle.kernel_laws.proofs.Flat.Lists.{pid_of, found_is, replaced_at, replaced_not}
 use Rattle.kernel_laws.proofs.Machine.Shapes.{Shaped, sizes_kept, drop_all_shaped, touch_shaped}
 use Rattle.kernel_laws.proofs.Machine.Swaps.{applied, found_at, found_self}
 use Rattle.kernel_laws.proofs.Machine.Writes.{written}
 use Rattle.kernel_laws.proofs.Machine.Forks.{out_begun}
-use Rattle.kernel_laws.proofs.Machine.Gone.{Gone, gone_unless, gone_texts}
+use Rattle.kernel_laws.proofs.Machine.Gone.{Gone, gone_unless}
+use Rattle.kernel_laws.proofs.Pieces.Sizes.{unless_texts}
 use Rattle.kernel_laws.proofs.Machine.Execs.{exec_kernel}
 use Rattle.kernel_laws.proofs.Machine.Ends.{end_kernel, left_flat, left_is, orphans, out_ended, out_gone}
 use Rattle.kernel_laws.proofs.Machine.Returns.{passes, Borrowing, borrowing, back_kernel, back_proc}
@@ -179,16 +182,16 @@ unfolding returned
 held_returned [] pid s n h = h
 held_returned (q ∷ ps) pid s n h = elim (cases_eq q.pid n) [
   | inl i ↦ first (lends_to pid q.holding) i
-  | inr d ↦ later (lends_to pid q.holding) d (held_returned ps pid s n (ap holds_some (sym (miss pid_of n q ps d)) ∙ h))
+  | inr d ↦ later (lends_to pid q.holding) d (held_returned ps pid s n (ap holds_some (sym (numbered_miss pid_of n q ps d)) ∙ h))
 ]
   where
     first : (b : Bool) → q.pid ≡ n → holds_some (numbered pid_of n (returned_by b s q ps (returned pid s ps))) ≡ true
-    first true i = ap holds_some (hit pid_of n (record q { holding = Holds s }) ps i)
-    first false i = ap holds_some (hit pid_of n q (returned pid s ps) i) ∙ sym (ap holds_some (hit pid_of n q ps i)) ∙ h
+    first true i = ap holds_some (numbered_hit pid_of n (record q { holding = Holds s }) ps i)
+    first false i = ap holds_some (numbered_hit pid_of n q (returned pid s ps) i) ∙ sym (ap holds_some (numbered_hit pid_of n q ps i)) ∙ h
 
     later : (b : Bool) → q.pid ≢ n → Held (returned pid s ps) n → holds_some (numbered pid_of n (returned_by b s q ps (returned pid s ps))) ≡ true
-    later true d ih = ap holds_some (miss pid_of n (record q { holding = Holds s }) ps d) ∙ ap holds_some (sym (miss pid_of n q ps d)) ∙ h
-    later false d ih = ap holds_some (miss pid_of n q (returned pid s ps) d) ∙ ih
+    later true d ih = ap holds_some (numbered_miss pid_of n (record q { holding = Holds s }) ps d) ∙ ap holds_some (sym (numbered_miss pid_of n q ps d)) ∙ h
+    later false d ih = ap holds_some (numbered_miss pid_of n q (returned pid s ps) d) ∙ ih
 
 no_zombie : (h : Holding) → holds_space h ≡ true → is_zombie h ≡ false
 no_zombie (Holds s) e = refl
@@ -198,19 +201,15 @@ no_zombie (Zombie status) e = absurd cc
 held_orphans : (ps : List Process) (pid n : ℕ) → Held ps n → Held (orphans pid ps) n
 held_orphans [] pid n h = h
 held_orphans (q ∷ ps) pid n h = elim (cases_eq q.pid n) [
-  | inl i ↦ (let t : holds_space q.holding ≡ true = sym (ap holds_some (hit pid_of n q ps i)) ∙ h in
+  | inl i ↦ (let t : holds_space q.holding ≡ true = sym (ap holds_some (numbered_hit pid_of n q ps i)) ∙ h in
       ap (λ (b : Bool). holds_some (numbered pid_of n (map (without_parent pid) (cond (not ((q.parent == pid) && b)) (q ∷ filter (λ (x : Process). not (is_zombie_child pid x)) ps) (filter (λ (x : Process). not (is_zombie_child pid x)) ps))))) (no_zombie q.holding t)
-      ∙ ap (λ (b : Bool). holds_some (numbered pid_of n (map (without_parent pid) (cond (not b) (q ∷ filter (λ (x : Process). not (is_zombie_child pid x)) ps) (filter (λ (x : Process). not (is_zombie_child pid x)) ps))))) (and_false (q.parent == pid))
-      ∙ ap holds_some (hit pid_of n (without_parent pid q) (orphans pid ps) i) ∙ t)
-  | inr d ↦ go (not (is_zombie_child pid q)) d (held_orphans ps pid n (ap holds_some (sym (miss pid_of n q ps d)) ∙ h))
+      ∙ ap (λ (b : Bool). holds_some (numbered pid_of n (map (without_parent pid) (cond (not b) (q ∷ filter (λ (x : Process). not (is_zombie_child pid x)) ps) (filter (λ (x : Process). not (is_zombie_child pid x)) ps))))) (and-false (q.parent == pid))
+      ∙ ap holds_some (numbered_hit pid_of n (without_parent pid q) (orphans pid ps) i) ∙ t)
+  | inr d ↦ go (not (is_zombie_child pid q)) d (held_orphans ps pid n (ap holds_some (sym (numbered_miss pid_of n q ps d)) ∙ h))
 ]
   where
-    and_false : (b : Bool) → (b && false) ≡ false
-    and_false true = refl
-    and_false false = refl
-
     go : (b : Bool) → q.pid ≢ n → Held (orphans pid ps) n → holds_some (numbered pid_of n (map (without_parent pid) (cond b (q ∷ filter (λ (x : Process). not (is_zombie_child pid x)) ps) (filter (λ (x : Process). not (is_zombie_child pid x)) ps)))) ≡ true
-    go true d ih = ap holds_some (miss pid_of n (without_parent pid q) (orphans pid ps) d) ∙ ih
+    go true d ih = ap holds_some (numbered_miss pid_of n (without_parent pid q) (orphans pid ps) d) ∙ ih
     go false d ih = ih
 
 held_left : (b : Bool) (ps : List Process) (pid parent n : ℕ) → n ≢ pid → Held ps n → Held (left_flat b ps pid parent) n
@@ -235,7 +234,7 @@ exec_stands_core : (images : List NamedImage) (k : Kernel) (flat after : FlatSta
     → ((n : ℕ) → is_out k.place n ≡ true → Held flat.processes n → Held after.processes n) → Stands images (exec_kernel k next sid borrowed number (Some named.image.facts) top ps journal) after
 exec_stands_core images k flat after next sid number borrowed named top ps journal due st h = record {
   starts = λ w e. has_pushed k.starts (record { page = Stack next 0; bytes = top }) w (none_kept images k flat due st w) (λ i. due_there w i e);
-  texts = λ i. st.texts i ∙ ap (λ (n : ℕ). 1024 * n) (sym (gone_texts borrowed p1 sid i));
+  texts = λ i. st.texts i ∙ ap (λ (n : ℕ). 1024 * n) (sym (unless_texts borrowed p1 sid i));
   out = out_held k.place l.place flat after st.out (λ n e. let o : is_out k.place n ≡ true = ap (λ (rs : List Residence). (residence_of rs n).out) (sym g.residents) ∙ e in (o, h n o));
 }
   where
@@ -283,7 +282,7 @@ end_stands_core : (images : List NamedImage) (k : Kernel) (flat : FlatState) (q 
     → Stands images (end_kernel k pid sid borrowed ps journal) (ended flat (record q { regs = regs }) s status)
 end_stands_core images k flat q regs s status pid sid borrowed ps journal i st =
     subst (Stands images l) (sym (left_is (q.parent == 0) (orphaned (given_back (with_process flat fp) q.pid s) q.pid) q.pid q.parent))
-    (still_out images k l flat (record flat { processes = left_flat (q.parent == 0) (orphans q.pid (returned q.pid s (replaced flat.processes fp))) q.pid q.parent }) refl g.due (gone_texts borrowed k.place sid)
+    (still_out images k l flat (record flat { processes = left_flat (q.parent == 0) (orphans q.pid (returned q.pid s (replaced flat.processes fp))) q.pid q.parent }) refl g.due (unless_texts borrowed k.place sid)
     (λ n e. elim (cases_eq n pid) [
       | inl j ↦ absurd (let z : false ≡ true = sym (out_gone p1.residents pid) ∙ ap (is_out l.place) (sym j) ∙ e in cc)
       | inr d ↦ (

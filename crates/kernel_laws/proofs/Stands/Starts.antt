@@ -19,8 +19,9 @@ use Rattle.kernel_model.specs.Stands.{Stands}
 use Rattle.kernel_model.specs.Sound.{is_start, has_start}
 use Rattle.kernel_model.specs.Coupled.{text_of}
 use Rattle.kernel_model.specs.Start.{start_of, start_kernel, AreStarting, ImageFits, ImagesFit}
-use Rattle.page_laws.proofs.Lists.Local.{none_some, some_is}
-use Rattle.kernel_laws.proofs.Flat.Numbered.{hit, miss}
+use Rattle.page_laws.proofs.Lists.Local.{none_some}
+use Rattle.std.proofs.lemmas.Option.{same_Some}
+use Rattle.page_laws.proofs.Lists.Pages.{numbered_hit, numbered_miss}
 use Rattle.kernel_laws.proofs.Flat.Lists.{pid_of, sid_of, held, found_is}
 use Rattle.kernel_laws.proofs.Machine.Starts.{all_in}
 
@@ -60,7 +61,7 @@ first_below images (x ∷ numbers) n m e = go (image_numbered images x) (first_b
     go None ih = ih
     go (Some named) ih = (omega arith, ih)
 
-first_lower : (images : List NamedImage) (numbers : List ℕ) (n : ℕ) → 0 < n → AllLower (start_processes images n numbers)
+pub first_lower : (images : List NamedImage) (numbers : List ℕ) (n : ℕ) → 0 < n → AllLower (start_processes images n numbers)
 first_lower images [] n l = tt
 first_lower images (x ∷ numbers) n l = go (image_numbered images x) (first_lower images numbers (n + 1) (omega arith))
   where
@@ -87,8 +88,8 @@ first_hold images (x ∷ numbers) n m q e = go (image_numbered images x) e (firs
         → (numbered pid_of m (start_processes images (n + 1) numbers) ≡ Some q → (s : Space) × (q.holding ≡ Holds s)) → (s : Space) × (q.holding ≡ Holds s)
     go None f ih = ih f
     go (Some named) f ih = elim (cases_eq n m) [
-      | inl i ↦ (Rattle.flat_state.specs.Flat.new_space n x named.image (named.name ∷ []), ap (λ (y : Process). y.holding) (some_is q (start_process n x named) (sym f ∙ hit pid_of m (start_process n x named) (start_processes images (n + 1) numbers) i)))
-      | inr d ↦ ih (sym (miss pid_of m (start_process n x named) (start_processes images (n + 1) numbers) d) ∙ f)
+      | inl i ↦ (Rattle.flat_state.specs.Flat.new_space n x named.image (named.name ∷ []), ap (λ (y : Process). y.holding) (same_Some q (start_process n x named) (sym f ∙ numbered_hit pid_of m (start_process n x named) (start_processes images (n + 1) numbers) i)))
+      | inr d ↦ ih (sym (numbered_miss pid_of m (start_process n x named) (start_processes images (n + 1) numbers) d) ∙ f)
     ]
 
 pub start_lent : (A : Inputs) → LendsStand (start_state A)
@@ -127,13 +128,13 @@ text_at (named ∷ images) m zero i e fit =
     let f : ImageFits named = fit named refl in
     let pages : List Slot = replicate (text_pages_of named.image.facts) (unfilled Zeros) in
     f.text ∙ ap (λ (n : ℕ). 1024 * n) (sym (length-replicate {A = Slot} (text_pages_of named.image.facts) (unfilled Zeros)))
-    ∙ sym (ap (λ (o : Option TextPages). 1024 * length (text_in o)) (hit image_number i (Rattle.page_model.specs.Placement.new_text m named.image.facts) (texts_from (m + 1) (map (λ (named : NamedImage). named.image.facts) images)) (omega arith)))
+    ∙ sym (ap (λ (o : Option TextPages). 1024 * length (text_in o)) (numbered_hit image_number i (Rattle.page_model.specs.Placement.new_text m named.image.facts) (texts_from (m + 1) (map (λ (named : NamedImage). named.image.facts) images)) (omega arith)))
 text_at (named ∷ images) m (suc j) i e fit = text_at images (m + 1) j i (omega arith) fit
-    ∙ sym (ap (λ (o : Option TextPages). 1024 * length (text_in o)) (miss image_number i (Rattle.page_model.specs.Placement.new_text m named.image.facts) (texts_from (m + 1) (map (λ (named : NamedImage). named.image.facts) images)) (λ h. absurd (let y : m ≡ i = h in omega arith))))
+    ∙ sym (ap (λ (o : Option TextPages). 1024 * length (text_in o)) (numbered_miss image_number i (Rattle.page_model.specs.Placement.new_text m named.image.facts) (texts_from (m + 1) (map (λ (named : NamedImage). named.image.facts) images)) (λ h. absurd (let y : m ≡ i = h in omega arith))))
 
 no_text : (images : List Image) (m : ℕ) → 0 < m → numbered image_number 0 (texts_from m images) ≡ None
 no_text [] m l = refl
-no_text (x ∷ images) m l = miss image_number 0 (Rattle.page_model.specs.Placement.new_text m x) (texts_from (m + 1) images) (λ h. absurd (let y : m ≡ 0 = h in omega arith)) ∙ no_text images (m + 1) (omega arith)
+no_text (x ∷ images) m l = numbered_miss image_number 0 (Rattle.page_model.specs.Placement.new_text m x) (texts_from (m + 1) images) (λ h. absurd (let y : m ≡ 0 = h in omega arith)) ∙ no_text images (m + 1) (omega arith)
 
 pub start_beside : (A : Inputs) (first : List Starting) (hs : Holdings) (frames : List (List ℕ)) → AreStarting A.images A.first first → ImagesFit A.images → Stands A.images (start_kernel A first hs frames) (start_state A)
 start_beside A first hs frames a fit = record {

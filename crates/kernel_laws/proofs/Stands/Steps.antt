@@ -1,6 +1,7 @@
 -- What the coupling asks beside it stands behind each step of the whole machine.
 use Rattle.std.proofs.Common.{◌≡◌, inl, inr, ℕ, zero, suc, ◌*◌, ◌||◌, Bool, true, false, cond, not, List, [], ◌∷◌, length, Some, refl, sym, ap, ◌∙◌}
 use Rattle.std.proofs.lemmas.Bool.{cases_eq}
+use Rattle.page_laws.proofs.Due.Entries.{get_due_list}
 use Rattle.flat_state.specs.Space.{Space}
 use Rattle.flat_state.specs.Flat.{Holds, Process, FlatState, NamedImage, process_of, holds_space}
 use Rattle.vm_facts.specs.declared.page.Page.{Page}
@@ -12,8 +13,8 @@ use Rattle.vm_facts.specs.declared.entry.Entry.{Entry}
 use Rattle.vm_facts.specs.declared.entry.Entry.TheVariants as entries
 use Rattle.flat_state.specs.Journal.{append}
 use Rattle.flat_state.specs.PageNames.{number_of, pages_from, same_page}
-use Rattle.page_model.specs.Placement.{Placement, Residence, Due, CopyOf, due_at, Errand, state_of}
-use Rattle.page_model.specs.Moves.{begin, get_one, get_all, reclaim, reclaim_to, done}
+use Rattle.page_model.specs.Placement.{Placement, Residence, Due, CopyOf, due_at, state_of}
+use Rattle.page_model.specs.Moves.{begin, reclaim, reclaim_to, done}
 use Rattle.page_model.specs.Hands.{hand_move, hand_moves}
 use Rattle.page_model.specs.Place.{filled, put_step}
 use Rattle.page_model.specs.Serve.{read_errand}
@@ -26,7 +27,6 @@ use Rattle.page_laws.proofs.Lists.Pages.{page_cases}
 use Rattle.page_laws.proofs.Moves.Stays.{Steady, Stays, move_stays, done_steady}
 use Rattle.page_laws.proofs.Bytes.Others.{put_steady}
 use Rattle.page_laws.proofs.Bytes.Pages.{due_other}
-use Rattle.page_laws.proofs.Bytes.Runs.{get_due}
 use Rattle.kernel_laws.proofs.Machine.Shapes.{Shaped, shaped_self, sizes_kept, filled_shaped, get_run_shaped, reclaim_shaped, put_step_shaped, moves_shaped, done_shaped}
 use Rattle.kernel_laws.proofs.Machine.Swaps.{out_other, out_same}
 
@@ -40,10 +40,6 @@ stands_still images k l flat ss ds sh s = record {
   out = λ pid e. s.out pid (ap (λ (rs : List Residence). (residence_of rs pid).out) (sym sh.residents) ∙ e);
 }
 
-get_all_due : (qs : List Page) (p : Placement) (e : Errand) → (get_all p e qs).due ≡ p.due
-get_all_due [] p e = refl
-get_all_due (v ∷ qs) p e = get_all_due qs (get_one p e v) e ∙ get_due p e v
-
 pub reclaim_due : (p : Placement) (v : Page) → (reclaim p v).due ≡ p.due
 reclaim_due p v = go (state_of p v)
   where
@@ -55,7 +51,7 @@ reclaim_due p v = go (state_of p v)
     go (Going f) = refl
     go OnSwap = refl
 
-moves_due : (n : ℕ) (p : Placement) (locked : List Page) → (hand_moves p locked n).due ≡ p.due
+pub moves_due : (n : ℕ) (p : Placement) (locked : List Page) → (hand_moves p locked n).due ≡ p.due
 moves_due zero p locked = refl
 moves_due (suc n) p locked = let s : Stays p (hand_move p locked) = move_stays p locked in moves_due n (hand_move p locked) locked ∙ s.due
 
@@ -63,7 +59,7 @@ pub note_stands : (images : List NamedImage) (k : Kernel) (flat : FlatState) (e 
 note_stands images k flat e s = stands_still images k (note_step k e) flat refl refl (shaped_self k.place) s
 
 pub get_stands : (images : List NamedImage) (k : Kernel) (flat : FlatState) (q : Page) (lo n : ℕ) → Stands images k flat → Stands images (get_step k q lo n) flat
-get_stands images k flat q lo n s = stands_still images k (get_step k q lo n) flat refl (get_all_due (pages_from q lo n) (begin k.place (read_errand k.place q)) (read_errand k.place q)) (get_run_shaped k.place (read_errand k.place q) (pages_from q lo n)) s
+get_stands images k flat q lo n s = stands_still images k (get_step k q lo n) flat refl (get_due_list (pages_from q lo n) (begin k.place (read_errand k.place q)) (read_errand k.place q)) (get_run_shaped k.place (read_errand k.place q) (pages_from q lo n)) s
 
 pub reclaim_stands : (images : List NamedImage) (k : Kernel) (flat : FlatState) (q : Page) → Stands images k flat → Stands images (reclaim_step k q) flat
 reclaim_stands images k flat q s = stands_still images k (reclaim_step k q) flat refl (reclaim_due k.place q) (reclaim_shaped k.place q) s

@@ -11,7 +11,7 @@ use Rattle.swap_book.specs.Book.{ArePlacesApart}
 use Rattle.swap_book.proofs.PlaceLaws.{places_apart_of}
 use Rattle.page_model.specs.Pages.{Slot, frame_of, left_state, written_mark}
 use Rattle.flat_state.specs.PageNames.{number_of}
-use Rattle.page_model.specs.Frames.{times}
+use Rattle.vm_facts.specs.Lists.{times}
 use Rattle.page_model.specs.Placement.{Placement, Transfer, slots_of, slot_of, state_of, mark_of, page_of, sharers, IsThere}
 use Rattle.page_model.specs.Moves.{evict, evict_at, enter, turn}
 use Rattle.page_model.specs.Conditions.{IsShared}

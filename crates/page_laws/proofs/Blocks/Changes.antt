@@ -1,7 +1,6 @@
 -- Spaces that grow, shrink, come and go leave text that nobody shares aside.
-use Rattle.std.proofs.Common.{◌≡◌, ◌≢◌, ◌⊎◌, inl, inr, ℕ, zero, suc, ◌+◌, ◌-◌, ◌<◌, ◌≤◌, ◌==◌, Bool, true, false, not, cond, List, [], ◌∷◌, ◌++◌, length, map, filter, Option, Some, None, refl, sym, ap, ◌∙◌, subst, arith}
-use Rattle.std.proofs.lemmas.Bool.{cases_eq}
-use Rattle.std.proofs.lemmas.Bool.Decides.{nat_tests}
+use Rattle.std.proofs.Common.{◌≡◌, ◌≢◌, inl, inr, ℕ, zero, suc, ◌+◌, ◌-◌, ◌<◌, ◌≤◌, ◌==◌, Bool, true, false, not, cond, List, [], ◌∷◌, ◌++◌, length, map, filter, Option, Some, None, refl, sym, ap, ◌∙◌, subst, arith}
+use Rattle.std.proofs.lemmas.Bool.{cases_eq, eqb-true, ne_eqb, cases_lt}
 use Rattle.std.proofs.lemmas.List.{get_or_past}
 use Rattle.vm_facts.specs.declared.page.Page.{Page}
 use Rattle.vm_facts.specs.declared.page.Page.TheVariants.{Data, Stack, Text}
@@ -11,13 +10,14 @@ use Rattle.flat_state.specs.declared.change.Change.{Change}
 use Rattle.flat_state.specs.declared.change.Change.TheVariants.{Keep, Resize, Fork, Lend, Exec, Reap, Sleep, End}
 use Rattle.page_model.specs.Pages.{Slot, no_slot, SpacePages, changed, with_data, with_stack, frame_of}
 use Rattle.flat_state.specs.PageNames.{number_of, pages_from}
-use Rattle.page_model.specs.Frames.{times, without}
+use Rattle.vm_facts.specs.Lists.{times, without}
 use Rattle.page_model.specs.Placement.{Placement, Due, space_number, slots_of, slot_of, state_of, sharers, sharers_in, image_of, IsThere, new_pages, spaces_with}
 use Rattle.page_model.specs.Moves.{drop_at, drop_page, drop_all, leave_by, leave_page, leave_all, listed, listed_of}
 use Rattle.page_model.specs.Place.{child_slot, fork_space, enter_space, enter_image, give_up_unless, place_change, cut_space, resize, data_count, stack_count, data_from, stack_from, remove_space, pages_of_space, pages_of_text, leave_text, leave_text_by, give_up, facts_numbered}
 use Rattle.page_model.specs.Conditions.{CanForget, MayForget, EachPage, AtRest, HasImage}
 use Rattle.page_model.specs.Ownership.{IsAside, TextAside}
-use Rattle.page_laws.proofs.Lists.Frames.{times-append, times_head, times_tail, times_one, times_without_other}
+use Rattle.page_laws.proofs.Lists.Frames.{times_one}
+use Rattle.vm_facts.proofs.Lists.{times-append, times_head, times-without_other, times_other}
 use Rattle.page_laws.proofs.Lists.Pages.{page_cases, put_state, put_mark, put_other, put_length, put_sharers, sharers_changed}
 use Rattle.page_laws.proofs.Lists.Runs.{each_page_append, pages_from_each}
 use Rattle.page_laws.proofs.Ownership.Spaces.{drop_all_other}
@@ -45,7 +45,7 @@ drop_frees p v f b = go (frame_of (state_of p v))
     go None = b
     go (Some g) = elim (cases_eq f g) [
       | inl e ↦ subst (λ (x : ℕ). 0 < times x (g ∷ without g p.free)) (sym e) (let h = times_head g (without g p.free) in omega arith)
-      | inr n ↦ (let h = times_tail g f (without g p.free) n in let k = times_without_other g f p.free n in omega arith)
+      | inr n ↦ (let h = times_other f g (without g p.free) (λ i. n (sym i)) in let k = times-without_other g f p.free n in omega arith)
     ]
 
 drop_sharers : (p : Placement) (v : Page) (image : ℕ) → sharers (drop_page p v) image ≡ sharers p image
@@ -113,12 +113,6 @@ drop_all_image : (qs : List Page) (p : Placement) (sid image : ℕ) → HasImage
 drop_all_image [] p sid image h = h
 drop_all_image (v ∷ qs) p sid image h = drop_all_image qs (drop_page p v) sid image (drop_image p v sid image h)
 
-equal : (a b : ℕ) → (a == b) ≡ true → a ≡ b
-equal a b e = grind (arith, nat_tests)
-
-differs : (a b : ℕ) → a ≢ b → (a == b) ≡ false
-differs a b n = grind (arith, nat_tests)
-
 -- no other image loses a sharer
 pub removed_sharers : (sid image j : ℕ) (ss : List SpacePages) → HasImage sid image ss → j ≢ image → sharers_in j (filter (λ (s : SpacePages). not (s.sid == sid)) ss) ≡ sharers_in j ss
 removed_sharers sid image j [] h n = refl
@@ -126,7 +120,7 @@ removed_sharers sid image j (s ∷ ss) h n = go (s.sid == sid) refl (removed_sha
   where
     go : (b : Bool) → (s.sid == sid) ≡ b → sharers_in j (filter (λ (s : SpacePages). not (s.sid == sid)) ss) ≡ sharers_in j ss
         → sharers_in j (cond (not b) (s ∷ filter (λ (s : SpacePages). not (s.sid == sid)) ss) (filter (λ (s : SpacePages). not (s.sid == sid)) ss)) ≡ sharers_in j (s ∷ ss)
-    go true e ih = ih ∙ sym (ap (λ (b : Bool). cond b 1 0 + sharers_in j ss) (differs s.image j (λ k. n (sym k ∙ h.0 (equal s.sid sid e)))) ∙ (omega arith))
+    go true e ih = ih ∙ sym (ap (λ (b : Bool). cond b 1 0 + sharers_in j ss) (ne_eqb s.image j (λ k. n (sym k ∙ h.0 (eqb-true s.sid sid e)))) ∙ (omega arith))
     go false e ih = ap (λ (k : ℕ). cond (s.image == j) 1 0 + k) ih
 
 -- a text page that is left is aside, and no other changes
@@ -258,9 +252,6 @@ each_at P image lo (suc n) w h l m = elim (cases_eq w lo) [
 absent_aside : (p : Placement) (q : Page) → length (slots_of p q) ≤ number_of q → IsAside p q
 absent_aside p q l = let e = get_or_past (slots_of p q) (number_of q) no_slot l in record { unsaved = ap (λ (x : Slot). x.mark) e; rests = inl (ap (λ (x : Slot). x.state) e) }
 
-le_or : (a b : ℕ) → (a < b) ⊎ (b ≤ a)
-le_or a b = grind arith
-
 -- Text of this image is aside once it is left, and all else is as it was.
 leave_text_aside : (p : Placement) (image : ℕ) → ((j n : ℕ) → j ≢ image → sharers p j ≡ 0 → IsAside p (Text j n)) → (sharers p image ≡ 0 → (n : ℕ) → AtRest (state_of p (Text image n))) → TextAside (leave_text p image)
 leave_text_aside p image others rest = go (sharers p image) refl
@@ -270,7 +261,7 @@ leave_text_aside p image others rest = go (sharers p image) refl
 
     go : (n : ℕ) → sharers p image ≡ n → TextAside (leave_text_by p image n)
     go zero z = λ j n s. elim (cases_eq j image) [
-      | inl e ↦ subst (λ (x : ℕ). IsAside (leave_all p (pages_of_text p image)) (Text x n)) (sym e) (elim (le_or n (length (slots_of p (Text image 0)))) [
+      | inl e ↦ subst (λ (x : ℕ). IsAside (leave_all p (pages_of_text p image)) (Text x n)) (sym e) (elim (cases_lt n (length (slots_of p (Text image 0)))) [
         | inl l ↦ each_at (IsAside (leave_all p (pages_of_text p image))) image 0 (length (slots_of p (Text image 0))) n (leave_all_aside (pages_of_text p image) p (can z)) (omega arith) (omega arith)
         | inr l ↦ absent_aside (leave_all p (pages_of_text p image)) (Text image n) (let h = leave_all_length (pages_of_text p image) p (Text image n) in omega arith)
       ])

@@ -1,5 +1,5 @@
 -- Each paging entry keeps all of ownership: frames, blocks, and text that nobody shares.
-use Rattle.std.proofs.Common.{◌≡◌, ◌≢◌, inl, inr, ℕ, zero, suc, ◌+◌, ◌<◌, Bool, true, false, List, [], ◌∷◌, ◌++◌, length, Option, Some, None, refl, sym, ap, ◌∙◌, subst, arith}
+use Rattle.std.proofs.Common.{◌≡◌, ◌≢◌, inl, inr, ℕ, zero, suc, ◌<◌, Bool, true, false, List, [], ◌∷◌, ◌++◌, length, Option, Some, None, refl, sym, ap, ◌∙◌, subst}
 use Rattle.vm_facts.specs.declared.page.Page.{Page}
 use Rattle.vm_facts.specs.declared.page.Page.TheVariants.{Data, Stack, Text}
 use Rattle.vm_facts.specs.declared.page.PageState.{PageState}
@@ -7,32 +7,29 @@ use Rattle.vm_facts.specs.declared.page.PageState.TheVariants.{Unfilled, Valid, 
 use Rattle.vm_facts.specs.declared.entry.Entry.{Entry}
 use Rattle.vm_facts.specs.declared.entry.Entry.TheVariants as entries
 use Rattle.swap_book.specs.Holdings.{Holdings}
-use Rattle.page_model.specs.Pages.{frame_of, written_mark}
+use Rattle.page_model.specs.Pages.{frame_of, written_mark, SpacePages, TextPages, numbered, data_in, stack_in, text_in}
 use Rattle.flat_state.specs.PageNames.{is_among, same_page, number_of, beside, pages_from}
-use Rattle.page_model.specs.Frames.{times, without}
-use Rattle.page_model.specs.Placement.{Placement, Transfer, Part, Errand, Writes, Reads, Source, slots_of, state_of, mark_of, is_dirty, page_of, parts_of, sharers, put}
+use Rattle.vm_facts.specs.Lists.{times, without}
+use Rattle.page_model.specs.Placement.{Placement, Transfer, Part, Errand, Writes, Reads, Source, slots_of, state_of, mark_of, is_dirty, page_of, parts_of, sharers, put, space_number, image_number, sharers_in}
 use Rattle.page_model.specs.Moves.{evict, turn, fill_at, begin, join_last, get_one, get_at, get_all, get_run, launch, launch_to, launch_all, launch_run, land, land_read, land_all, done, done_of, arrived_mark, reclaim, reclaim_to, retire, retire_to}
 use Rattle.page_model.specs.Runs.{run_out, pages_of_run}
 use Rattle.page_model.specs.Hands.{expire, expire_of, expire_if, expire_to, sweep, sweep_of, sweep_to, sweep_by, hand_move, hand_moves}
 use Rattle.page_model.specs.Place.{filled, put_step, put_by, place_entry}
-use Rattle.page_model.specs.Serve.{source_for, read_errand}
+use Rattle.page_model.specs.Serve.{source_for}
 use Rattle.page_model.specs.Conditions.{EachPage, AllApart, CanEnter, IsSeated, HasSeat, CanPlace, IsShared, EntryShared}
 use Rattle.page_model.specs.Ownership.{OwnsFrames, OwnsBlocks, OneOwner, TextAside}
-use Rattle.page_laws.proofs.Lists.Frames.{times_head}
+use Rattle.page_laws.proofs.Moves.Puts.{KeptByPuts, entry_kept}
 use Rattle.page_laws.proofs.Lists.Pages.{put_length, put_sharers}
 use Rattle.page_laws.proofs.Lists.Parts.{IsOpen, begin_open}
-use Rattle.page_laws.proofs.Lists.Local.{some_is}
+use Rattle.std.proofs.lemmas.Option.{same_Some}
+use Rattle.page_laws.proofs.Lists.Frames.{some_free}
 use Rattle.page_laws.proofs.Moves.Steps.{evict_owner, EvictRest, evict_rest, frameless_rest}
 use Rattle.page_laws.proofs.Ownership.Pages.{fill_enters, get_enters, get_owner, expire_owner, reclaim_turns, expire_turns, launch_turns, launch_owner, retire_turns}
 use Rattle.page_laws.proofs.Lists.Runs.{each_page_imp, each_page_both, pages_from_each, pages_from_apart, run_apart}
 use Rattle.page_laws.proofs.Ownership.Runs.{begin_owner, get_enters_still, get_open_still, launch_still, launch_open_still, clean_unmarked, written_clean, coming_clean, Landing, landing_state, land_owner, land_transfers, tail_turns, valid_turns}
 use Rattle.page_laws.proofs.Ownership.Hands.{run_out_seats, move_owner}
 use Rattle.page_laws.proofs.Ownership.Entries.{place_entry_owner}
-use Rattle.page_laws.proofs.Moves.Stays.{Steady, Stays, launch_run_steady, retire_steady, move_stays, done_steady}
 use Rattle.page_laws.proofs.Blocks.Aside.{IsBusy, turn_aside, enter_aside, evict_aside, evict_sharers, blocks_still}
-
-some_free : (p : Placement) (f : ℕ) (rest : List ℕ) → p.free ≡ f ∷ rest → 0 < times f p.free
-some_free p f rest e = let h : times f p.free ≡ 1 + times f rest = ap (times f) e ∙ times_head f rest in omega arith
 
 filled_aside : (p : Placement) (v : Page) → OwnsFrames p → CanEnter p v → TextAside p → IsShared p v → TextAside (filled p v)
 filled_aside p v o c a s = λ i n z. let k = go p.free refl i n z in record { unsaved = k.unsaved; rests = k.rests }
@@ -161,7 +158,7 @@ sweep_aside p locked o a = go (page_of p p.back) refl
 
     seat : (q : Page) (f : ℕ) → page_of p p.back ≡ Some q → state_of p q ≡ Invalid f → times p.back p.free ≡ zero → HasSeat p q
     seat q f h e z =
-        let same : f ≡ p.back = some_is f p.back (sym (ap frame_of e) ∙ o.named p.back q h) in
+        let same : f ≡ p.back = same_Some f p.back (sym (ap frame_of e) ∙ o.named p.back q h) in
         record { frame = f; seat = record { state = inr (e, ap (λ (g : ℕ). times g p.free) same ∙ z) } }
 
     to : (q : Page) (s : PageState) (n : ℕ) (d : Bool) → page_of p p.back ≡ Some q → state_of p q ≡ s → times p.back p.free ≡ n → TextAside (sweep_to p locked q s n d)
@@ -244,96 +241,31 @@ pub record SameShape (p q : Placement) : Type 0 where
   pub sizes : (w : Page) → length (slots_of q w) ≡ length (slots_of p w)
   pub sharing : (image : ℕ) → sharers q image ≡ sharers p image
 
-shape_self : (p : Placement) → SameShape p p
-shape_self p = record { sizes = λ w. refl; sharing = λ i. refl }
-
 shape_both : (p q r : Placement) → SameShape p q → SameShape q r → SameShape p r
 shape_both p q r s t = record { sizes = λ w. t.sizes w ∙ s.sizes w; sharing = λ i. t.sharing i ∙ s.sharing i }
 
 put_shape : (p : Placement) (v : Page) (s : PageState) (m : Bool) → SameShape p (put p v s m)
 put_shape p v s m = record { sizes = put_length p v s m; sharing = put_sharers p v s m }
 
-evict_shape : (p : Placement) (f : ℕ) → SameShape p (evict p f)
-evict_shape p f = let r : EvictRest p (evict p f) = evict_rest p f in record { sizes = r.sizes; sharing = evict_sharers p f }
+still_sizes : (p q : Placement) → q.spaces ≡ p.spaces → q.texts ≡ p.texts → (w : Page) → length (slots_of q w) ≡ length (slots_of p w)
+still_sizes p q a b (Data sid v) = ap (λ (ss : List SpacePages). length (data_in (numbered space_number sid ss))) a
+still_sizes p q a b (Stack sid v) = ap (λ (ss : List SpacePages). length (stack_in (numbered space_number sid ss))) a
+still_sizes p q a b (Text image v) = ap (λ (ts : List TextPages). length (text_in (numbered image_number image ts))) b
 
-pub filled_shape : (p : Placement) (v : Page) → SameShape p (filled p v)
-filled_shape p v = let k = go p.free in record { sizes = k.sizes; sharing = k.sharing }
-  where
-    go : (fr : List ℕ) → SameShape p (fill_at p v fr)
-    go [] = shape_self p
-    go (f ∷ rest) =
-        let a : SameShape p (evict p f) = evict_shape p f in
-        let b : SameShape (evict p f) (put (evict p f) v (Valid f) true) = put_shape (evict p f) v (Valid f) true in
-        record { sizes = λ w. b.sizes w ∙ a.sizes w; sharing = λ i. b.sharing i ∙ a.sharing i }
+pub shape_by_puts : KeptByPuts SameShape
+shape_by_puts = record {
+  still = λ p q a b c. record { sizes = still_sizes p q a b; sharing = λ i. ap (λ (ss : List SpacePages). sharers_in i ss) a };
+  both = shape_both;
+  puts = put_shape;
+}
 
-get_shape : (p : Placement) (e : Errand) (v : Page) → SameShape p (get_one p e v)
-get_shape p e v = go p.free
-  where
-    go : (fr : List ℕ) → SameShape p (get_at p e v fr)
-    go [] = shape_self p
-    go (f ∷ rest) =
-        let a : SameShape p (evict p f) = evict_shape p f in
-        let b : SameShape (evict p f) (put (evict p f) v (Coming f) (mark_of p v)) = put_shape (evict p f) v (Coming f) (mark_of p v) in
-        record { sizes = λ w. b.sizes w ∙ a.sizes w; sharing = λ i. b.sharing i ∙ a.sharing i }
-
-get_all_shape : (qs : List Page) (p : Placement) (e : Errand) → SameShape p (get_all p e qs)
-get_all_shape [] p e = shape_self p
-get_all_shape (v ∷ qs) p e = shape_both p (get_one p e v) (get_all (get_one p e v) e qs) (get_shape p e v) (get_all_shape qs (get_one p e v) e)
-
-pub get_run_shape : (p : Placement) (e : Errand) (qs : List Page) → SameShape p (get_run p e qs)
-get_run_shape p e qs = let k = get_all_shape qs (begin p e) e in record { sizes = k.sizes; sharing = k.sharing }
-
-pub reclaim_shape : (p : Placement) (v : Page) → SameShape p (reclaim p v)
-reclaim_shape p v = go (state_of p v)
-  where
-    go : (s : PageState) → SameShape p (reclaim_to p v s)
-    go (Invalid f) = let k = put_shape p v (Valid f) (mark_of p v) in record { sizes = k.sizes; sharing = k.sharing }
-    go Unfilled = shape_self p
-    go (Valid f) = shape_self p
-    go (Coming f) = shape_self p
-    go (Going f) = shape_self p
-    go OnSwap = shape_self p
-
-pub steady_shape : (p q : Placement) → Steady p q → SameShape p q
-steady_shape p q s = record { sizes = s.sizes; sharing = s.sharing }
-
-moves_shape : (n : ℕ) (p : Placement) (locked : List Page) → SameShape p (hand_moves p locked n)
-moves_shape zero p locked = shape_self p
-moves_shape (suc n) p locked = let s : Stays p (hand_move p locked) = move_stays p locked in
-    shape_both p (hand_move p locked) (hand_moves (hand_move p locked) locked n) (record { sizes = s.sizes; sharing = s.sharing }) (moves_shape n (hand_move p locked) locked)
-
-put_step_shape : (p : Placement) (v : Page) (qs : List Page) → SameShape p (put_step p v qs)
-put_step_shape p v qs = go (is_dirty p v)
-  where
-    go : (d : Bool) → SameShape p (put_by p v qs d)
-    go true = steady_shape p (launch_run p qs) (launch_run_steady p qs)
-    go false = steady_shape p (retire p v) (retire_steady p v)
-
-pub entry_shape : (locked : List Page) (at : ℕ) (p : Placement) (e : Entry) → OwnsFrames p → SameShape p (place_entry locked at p e)
-entry_shape locked at p (entries.Zero q) o = filled_shape p q
-entry_shape locked at p (entries.Get q lo n) o = get_run_shape p (read_errand p q) (pages_from q lo n)
-entry_shape locked at p (entries.Copy q) o = filled_shape p q
-entry_shape locked at p (entries.Reclaim q) o = reclaim_shape p q
-entry_shape locked at p (entries.Hands n) o = moves_shape n p locked
-entry_shape locked at p (entries.Put q n) o = put_step_shape p q (pages_from q (number_of q) n)
-entry_shape locked at p entries.Done o = steady_shape p (done p) (done_steady p o)
-entry_shape locked at p (entries.SwapOut pid) o = record { sizes = λ w. refl; sharing = λ i. refl }
-entry_shape locked at p (entries.SwapIn pid) o = record { sizes = λ w. refl; sharing = λ i. refl }
-entry_shape locked at p (entries.Event line) o = shape_self p
-entry_shape locked at p (entries.Turn pid) o = shape_self p
-entry_shape locked at p (entries.Ran pid n) o = shape_self p
-entry_shape locked at p (entries.Out pid bytes) o = shape_self p
-entry_shape locked at p (entries.Grew pid pages) o = shape_self p
-entry_shape locked at p (entries.Call pid number carry r0 r1) o = shape_self p
-entry_shape locked at p (entries.Refused pid) o = shape_self p
-entry_shape locked at p (entries.Sleeps pid) o = shape_self p
-entry_shape locked at p (entries.Ended pid status) o = shape_self p
-entry_shape locked at p (entries.Owners x y m h) o = shape_self p
+entry_shape : (locked : List Page) (at : ℕ) (p : Placement) (e : Entry) → SameShape p (place_entry locked at p e)
+entry_shape = entry_kept shape_by_puts (λ p pid out at. record { sizes = λ w. refl; sharing = λ i. refl })
 
 -- Each paging entry keeps one owner of each frame and each block.
 pub place_entry_one : (size : ℕ) (lives : ℕ → Bool) (hs : Holdings) (locked : List Page) (at : ℕ) (p : Placement) (e : Entry) → OneOwner size lives p hs → CanPlace p e → EntryShared p e → OneOwner size lives (place_entry locked at p e) hs
 place_entry_one size lives hs locked at p e o c s =
-    let k : SameShape p (place_entry locked at p e) = entry_shape locked at p e o.frames in
+    let k : SameShape p (place_entry locked at p e) = entry_shape locked at p e in
     record {
       frames = place_entry_owner locked at p e o.frames c;
       blocks = blocks_still size lives p (place_entry locked at p e) hs k.sizes k.sharing o.blocks;

@@ -1,6 +1,6 @@
 -- Spaces that grow, shrink, come and go keep the flat memory.
 use Rattle.std.proofs.Common.{◌≡◌, ◌≢◌, ◌⊎◌, inl, inr, ℕ, zero, suc, ◌-◌, ◌<◌, ◌≤◌, List, [], ◌∷◌, length, get_or, Option, Some, None, refl, sym, ap, ◌∙◌, subst, arith}
-use Rattle.std.proofs.lemmas.Bool.{cases_eq}
+use Rattle.std.proofs.lemmas.Bool.{cases_eq, cases_lt}
 use Rattle.vm_facts.specs.declared.page.Page.{Page}
 use Rattle.vm_facts.specs.declared.page.Page.TheVariants.{Data, Stack, Text}
 use Rattle.page_model.specs.Pages.{Slot, Filling, Zeros, no_slot, SpacePages, numbered, data_in, stack_in, frame_of}
@@ -93,13 +93,10 @@ zero_keeps q c (Text image v) e n d z = absurd (n image v refl)
 abbrev Resized : Placement → Placement → Page → Type 0
 Resized p q w = (IsThere p w × (slot_of q w ≡ slot_of p w)) ⊎ ((slot_of q w ≡ unfilled Zeros) × ((image v : ℕ) → w ≢ Text image v) × (length (slots_of p w) ≤ number_of w))
 
-le_or : (a b : ℕ) → (a < b) ⊎ (b ≤ a)
-le_or a b = grind arith
-
 resized_slot : (old new : List Slot) (n w : ℕ) → new ≡ sized n old → w < length new → ((w < length old) × (get_or new w no_slot ≡ get_or old w no_slot)) ⊎ ((get_or new w no_slot ≡ unfilled Zeros) × (length old ≤ w))
 resized_slot old new n w e l =
     let m : w < n = (let h = ap length e ∙ length_sized n old in omega arith) in
-    elim (le_or w (length old)) [
+    elim (cases_lt w (length old)) [
       | inl k ↦ inl (k, ap (λ (xs : List Slot). get_or xs w no_slot) e ∙ sized_old n w old m k)
       | inr k ↦ inr (ap (λ (xs : List Slot). get_or xs w no_slot) e ∙ sized_new n w old m k, k)
     ]

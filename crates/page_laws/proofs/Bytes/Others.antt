@@ -1,30 +1,34 @@
 -- What a step leaves alone is the same, and what settling means.
-use Rattle.std.proofs.Common.{◌≡◌, ◌≢◌, ◌⊎◌, inl, inr, ℕ, ◌+◌, ◌<◌, ◌==◌, ◌&&◌, ◌||◌, Bool, true, false, not, List, [], ◌∷◌, ◌++◌, map, Option, Some, None, refl, sym, ap, ◌∙◌, subst, arith}
-use Rattle.std.proofs.lemmas.Bool.{cases_eq}
-use Rattle.std.proofs.lemmas.Bool.Decides.{nat_tests}
+use Rattle.std.proofs.Common.{◌≡◌, ◌≢◌, ◌⊎◌, inl, inr, ℕ, ◌<◌, ◌==◌, ◌&&◌, Bool, true, false, not, List, [], ◌∷◌, ◌++◌, map, Option, Some, None, refl, sym, ap, ◌∙◌, subst, arith}
+use Rattle.std.proofs.lemmas.Bool.{cases_eq, not-true, or_left, or_right, and_parts}
 use Rattle.vm_facts.specs.declared.page.Page.{Page}
 use Rattle.vm_facts.specs.declared.page.Page.TheVariants.{Data, Stack, Text}
 use Rattle.vm_facts.specs.declared.page.PageState.{PageState}
 use Rattle.vm_facts.specs.declared.page.PageState.TheVariants.{Unfilled, Valid, Invalid, Coming, Going, OnSwap}
 use Rattle.page_model.specs.Pages.{frame_of, left_state}
-use Rattle.page_model.specs.Frames.{times, without, at_frame}
+use Rattle.page_model.specs.Frames.{at_frame}
+use Rattle.vm_facts.specs.Lists.{times, without}
 use Rattle.page_model.specs.Placement.{Placement, Transfer, Part, Moving, Errand, Writes, Reads, Source, state_of, mark_of, page_of, parts_of, flying, moving, is_dirty, image_of, sharers}
 use Rattle.page_model.specs.Moves.{evict, evict_at, fill_at, begin, get_one, get_at, get_all, get_run, done, reclaim, reclaim_to, touch, touch_to}
 use Rattle.page_model.specs.Place.{filled, put_step, put_by}
-use Rattle.page_model.specs.Swapper.{is_of_space, is_of_text, names_page, is_settled}
+use Rattle.page_model.specs.Swapper.{names_page, is_settled}
+use Rattle.vm_facts.specs.Pages.{is_of_space, is_of_text}
 use Rattle.page_model.specs.Conditions.{EachPage, AtRest, CanEnter, IsSettled}
 use Rattle.page_model.specs.Ownership.{OwnsFrames, Each, IsMoving, IsListed, seats}
 use Rattle.page_model.specs.PageBytes.{Bytes, bytes_in, SamePage, with_frame, source_bytes, bytes_read, Stores, StoresAll, BytesBy, BytesAfter, NotIn, WritesBoth}
-use Rattle.page_laws.proofs.Lists.Frames.{times_head, times_tail, at_set_other}
+use Rattle.page_laws.proofs.Lists.Frames.{at_set_other, some_free}
+use Rattle.vm_facts.proofs.Lists.{times_other}
 use Rattle.page_laws.proofs.Lists.Pages.{page_cases, put_state}
-use Rattle.page_laws.proofs.Lists.Local.{some_is, none_some}
+use Rattle.page_laws.proofs.Lists.Local.{none_some}
+use Rattle.std.proofs.lemmas.Option.{same_Some}
+use Rattle.vm_facts.proofs.Tests.{eq_self}
 use Rattle.page_laws.proofs.Moves.Steps.{page_in, once_at, put_other_state, frame_of_moving, evict_owner, evict_page, left_frameless}
 use Rattle.page_laws.proofs.Ownership.Runs.{begin_owner}
 use Rattle.page_laws.proofs.Moves.Stays.{Steady, Stays, steady_self, steady_stays, turn_steady, launch_run_steady, retire_steady, done_steady}
 
 -- Steps that change no bytes: each page has the frame that it had, so all pages are the same.
 pub stays_same : (p q : Placement) (b : Bytes) (w : Page) → Stays p q → SamePage p q b b w
-stays_same p q b w s = record { frames = λ f g e h. ap (bytes_in b) (some_is g f (sym h ∙ s.frames w ∙ e)); swap = refl; start = refl }
+stays_same p q b w s = record { frames = λ f g e h. ap (bytes_in b) (same_Some g f (sym h ∙ s.frames w ∙ e)); swap = refl; start = refl }
 
 -- a page has the frame that it had, or none
 abbrev pub Lasts : Placement → Placement → Page → Type 0
@@ -36,7 +40,7 @@ lasts_both p q r w (inl g) (inl h) = inl (h ∙ g)
 lasts_both p q r w (inr g) (inl h) = inr (h ∙ g)
 
 pub lasts_same : (p q : Placement) (b : Bytes) (w : Page) → Lasts p q w → SamePage p q b b w
-lasts_same p q b w (inl h) = record { frames = λ f g e k. ap (bytes_in b) (some_is g f (sym k ∙ h ∙ e)); swap = refl; start = refl }
+lasts_same p q b w (inl h) = record { frames = λ f g e k. ap (bytes_in b) (same_Some g f (sym k ∙ h ∙ e)); swap = refl; start = refl }
 lasts_same p q b w (inr h) = record { frames = λ f g e k. none_some g (sym h ∙ k); swap = refl; start = refl }
 
 evict_lasts : (p : Placement) (f : ℕ) (w : Page) → OwnsFrames p → Lasts p (evict p f) w
@@ -76,16 +80,13 @@ get_run_same p source demanded qs b w o c a n = lasts_same p (get_run p (Reads s
     (Rattle.page_laws.proofs.Lists.Runs.each_page_imp (CanEnter p) (CanEnter (begin p (Reads source demanded))) qs c (λ q h. record { there = h.there; frameless = h.frameless })) a
     (Rattle.page_laws.proofs.Lists.Parts.begin_open p.transfers (Reads source demanded)) n)
 
-some_free : (p : Placement) (f : ℕ) (rest : List ℕ) → p.free ≡ f ∷ rest → 0 < times f p.free
-some_free p f rest e = let h : times f p.free ≡ 1 + times f rest = ap (times f) e ∙ times_head f rest in omega arith
-
 -- A fill leaves each other page the same.
 pub filled_same : (p : Placement) (v : Page) (f : ℕ) (rest : List ℕ) (b : Bytes) (bytes : List ℕ) (w : Page) → OwnsFrames p → p.free ≡ f ∷ rest → w ≢ v → SamePage p (filled p v) b (with_frame b f bytes) w
 filled_same p v f rest b bytes w o e n = record {
   frames = λ g h a k.
       let now : frame_of (state_of (evict p f) w) ≡ Some h = ap frame_of (sym (put_other_state (evict p f) v (Valid f) true w n)) ∙ subst (λ (fr : List ℕ). frame_of (state_of (fill_at p v fr) w) ≡ Some h) e k in
       let same : h ≡ g = elim (evict_lasts p f w o) [
-        | inl l ↦ some_is h g (sym now ∙ l ∙ a)
+        | inl l ↦ same_Some h g (sym now ∙ l ∙ a)
         | inr l ↦ none_some h (sym l ∙ now)
       ] in
       let oe : OwnsFrames (evict p f) = evict_owner p f o (some_free p f rest e) in
@@ -120,7 +121,7 @@ stored_rest (x ∷ xs) b c w s n =
 other_frames : (p : Placement) (e : Errand) (xs : List Part) (w : Page) (f : ℕ) → OwnsFrames p → Each (IsMoving p) (map (moving e) xs) → NotIn w xs → frame_of (state_of p w) ≡ Some f → NotFrames f xs
 other_frames p e [] w f o m n h = tt
 other_frames p e (x ∷ xs) w f o m n h =
-    ((λ z. n.0 (some_is w x.page (sym (o.names w f h) ∙ ap (page_of p) z ∙ o.names x.page x.frame (ap frame_of m.0 ∙ frame_of_moving e x.frame)))), other_frames p e xs w f o m.1 n.1 h)
+    ((λ z. n.0 (same_Some w x.page (sym (o.names w f h) ∙ ap (page_of p) z ∙ o.names x.page x.frame (ap frame_of m.0 ∙ frame_of_moving e x.frame)))), other_frames p e xs w f o m.1 n.1 h)
 
 pub each_front : (P : Moving → Type 0) (ms ns : List Moving) → Each P (ms ++ ns) → Each P ms
 each_front P [] ns h = tt
@@ -138,12 +139,12 @@ done_same p t ts b c w o h s n = by t.errand refl
     by : (e : Errand) → t.errand ≡ e → SamePage p (done p) b c w
     by Writes e =
         let k = stored_rest t.parts b c w (subst (λ (x : Errand). BytesBy b x t.parts c) e s) n in
-        record { frames = λ f g a i. ap (λ (fs : List (List ℕ)). at_frame fs g []) k.0 ∙ ap (bytes_in b) (some_is g f (sym i ∙ st.frames w ∙ a)); swap = k.1; start = k.2 }
+        record { frames = λ f g a i. ap (λ (fs : List (List ℕ)). at_frame fs g []) k.0 ∙ ap (bytes_in b) (same_Some g f (sym i ∙ st.frames w ∙ a)); swap = k.1; start = k.2 }
     by (Reads source demanded) e =
         let is : bytes_read b source t.parts ≡ c = subst (λ (x : Errand). BytesBy b x t.parts c) e s in
         let k = read_swap t.parts b source w in
         record {
-          frames = λ f g a i. ap (λ (x : Bytes). bytes_in x g) (sym is) ∙ ap (bytes_in (bytes_read b source t.parts)) (some_is g f (sym i ∙ st.frames w ∙ a)) ∙ read_frames t.parts b source f (other_frames p t.errand t.parts w f o moves n a);
+          frames = λ f g a i. ap (λ (x : Bytes). bytes_in x g) (sym is) ∙ ap (bytes_in (bytes_read b source t.parts)) (same_Some g f (sym i ∙ st.frames w ∙ a)) ∙ read_frames t.parts b source f (other_frames p t.errand t.parts w f o moves n a);
           swap = ap (λ (x : Bytes). x.swap w) (sym is) ∙ k.0;
           start = ap (λ (x : Bytes). x.start w) (sym is) ∙ k.1;
         }
@@ -197,8 +198,8 @@ pub touch_same : (p : Placement) (v : Page) (f : ℕ) (b c : Bytes) (bytes : Lis
 touch_same p v f b c bytes w o e s n = record {
   frames = λ g h a k.
       let t : Steady p (touch p v) = touch_steady p v in
-      let same : h ≡ g = some_is h g (sym k ∙ t.frames w ∙ a) in
-      let apart : h ≢ f = λ z. n (some_is w v (sym (o.names w g a) ∙ ap (page_of p) (sym same ∙ z) ∙ o.names v f (ap frame_of e))) in
+      let same : h ≡ g = same_Some h g (sym k ∙ t.frames w ∙ a) in
+      let apart : h ≢ f = λ z. n (same_Some w v (sym (o.names w g a) ∙ ap (page_of p) (sym same ∙ z) ∙ o.names v f (ap frame_of e))) in
       ap (λ (fs : List (List ℕ)). at_frame fs h []) s.frames ∙ at_set_other b.frames f h bytes [] apart ∙ ap (bytes_in b) same;
   swap = s.swap w;
   start = s.start w;
@@ -206,18 +207,11 @@ touch_same p v f b c bytes w o e s n = record {
 
 -- Settling.
 
-or_left : (a b : Bool) → a ≡ true → (a || b) ≡ true
-or_left a b e = ap (λ (x : Bool). x || b) e
-
-or_right : (a b : Bool) → b ≡ true → (a || b) ≡ true
-or_right true b e = refl
-or_right false b e = e
-
 named_in : (p : Placement) (test : Page → Bool) (q : Page) (f : ℕ) (ms : List Moving) → OwnsFrames p → test q ≡ true → page_of p f ≡ Some q → Each (IsMoving p) ms → 0 < times f (flying ms) → names_page test ms ≡ true
 named_in p test q f [] o t h m l = absurd (omega arith)
 named_in p test q f (x ∷ ms) o t h m l = elim (cases_eq x.frame f) [
-  | inl e ↦ or_left (test x.page) (names_page test ms) (ap test (some_is x.page q (sym (o.names x.page x.frame (ap frame_of m.0 ∙ frame_of_moving x.errand x.frame)) ∙ ap (page_of p) e ∙ h)) ∙ t)
-  | inr n ↦ or_right (test x.page) (names_page test ms) (named_in p test q f ms o t h m.1 (let k = times_tail x.frame f (flying ms) (λ z. n (sym z)) in omega arith))
+  | inl e ↦ or_left (test x.page) (names_page test ms) (ap test (same_Some x.page q (sym (o.names x.page x.frame (ap frame_of m.0 ∙ frame_of_moving x.errand x.frame)) ∙ ap (page_of p) e ∙ h)) ∙ t)
+  | inr n ↦ or_right (test x.page) (names_page test ms) (named_in p test q f ms o t h m.1 (let k = times_other f x.frame (flying ms) n in omega arith))
 ]
 
 -- a page in flight is named by a transfer
@@ -244,23 +238,11 @@ unnamed_rests p test q o t n = go (state_of p q) refl
     go (Going f) e = never f (Going f) e refl refl (λ x. absurd cc)
     go OnSwap e = tt
 
-pub not_true : (b : Bool) → not b ≡ true → b ≡ false
-not_true true e = absurd cc
-not_true false e = refl
-
-and_both : (a b : Bool) → (a && b) ≡ true → (a ≡ true) × (b ≡ true)
-and_both true true h = (refl, refl)
-and_both true false h = absurd cc
-and_both false b h = absurd cc
-
-same_number : (n : ℕ) → (n == n) ≡ true
-same_number n = grind (arith, nat_tests)
-
 -- What the test of settling tells: no page of the space is in flight.
 pub settled_rests : (p : Placement) (sid : ℕ) → OwnsFrames p → is_settled p sid ≡ true → IsSettled p sid
 settled_rests p sid o e =
-    let k = not_true (names_page (is_of_space sid) (parts_of p.transfers)) (and_both (not (names_page (is_of_space sid) (parts_of p.transfers))) (not ((sharers p (image_of p sid) == 1) && names_page (is_of_text (image_of p sid)) (parts_of p.transfers))) e).0 in
+    let k = not-true (names_page (is_of_space sid) (parts_of p.transfers)) (and_parts (not (names_page (is_of_space sid) (parts_of p.transfers))) (not ((sharers p (image_of p sid) == 1) && names_page (is_of_text (image_of p sid)) (parts_of p.transfers))) e).0 in
     record {
-      data_rests = λ v. unnamed_rests p (is_of_space sid) (Data sid v) o (same_number sid) k;
-      stack_rests = λ v. unnamed_rests p (is_of_space sid) (Stack sid v) o (same_number sid) k;
+      data_rests = λ v. unnamed_rests p (is_of_space sid) (Data sid v) o (eq_self sid) k;
+      stack_rests = λ v. unnamed_rests p (is_of_space sid) (Stack sid v) o (eq_self sid) k;
     }

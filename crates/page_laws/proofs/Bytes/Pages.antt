@@ -1,25 +1,27 @@
 -- Each move of one page keeps the flat memory.
-use Rattle.std.proofs.Common.{◌≡◌, ◌≢◌, ◌⊎◌, inl, inr, ℕ, ◌+◌, ◌<◌, Bool, true, false, cond, not, List, [], ◌∷◌, ◌++◌, length, Option, Some, None, refl, sym, ap, ◌∙◌, subst, arith}
+use Rattle.std.proofs.Common.{◌≡◌, ◌≢◌, ◌⊎◌, inl, inr, ℕ, ◌<◌, Bool, true, false, cond, not, List, [], ◌∷◌, ◌++◌, length, Option, Some, None, refl, sym, ap, ◌∙◌, subst, arith}
 use Rattle.vm_facts.specs.declared.page.Page.{Page}
 use Rattle.vm_facts.specs.declared.page.Page.TheVariants.{Data, Stack, Text}
 use Rattle.vm_facts.specs.declared.page.PageState.{PageState}
 use Rattle.vm_facts.specs.declared.page.PageState.TheVariants.{Unfilled, Valid, Invalid, Coming, Going, OnSwap}
 use Rattle.page_model.specs.Pages.{Filling, OfImage, frame_of, is_dirty_by, left_state, written_mark}
 use Rattle.flat_state.specs.PageNames.{same_page, is_among}
-use Rattle.page_model.specs.Frames.{times, without, at_frame}
-use Rattle.page_model.specs.Placement.{Placement, Transfer, Part, Moving, Errand, Writes, Reads, Source, FromSwap, FromFile, Due, due_page, moving, state_of, mark_of, is_dirty, filling_of, page_of, errand_at, due_at, parts_of, flying, IsFrame, IsThere}
+use Rattle.page_model.specs.Frames.{at_frame}
+use Rattle.vm_facts.specs.Lists.{times, without}
+use Rattle.page_model.specs.Placement.{Placement, Transfer, Part, Moving, Errand, Writes, Reads, Source, FromSwap, FromFile, Due, due_page, moving, state_of, mark_of, is_dirty, filling_of, page_of, errand_at, due_at, parts_of, IsFrame, IsThere}
 use Rattle.page_model.specs.Moves.{evict, evict_at, enter, turn, fill_at, join_last, get_one, get_at, launch, launch_to, land, land_read, arrived_mark, reclaim, reclaim_to, retire, retire_to, touch, touch_to}
 use Rattle.page_model.specs.Place.{filled, due_after}
 use Rattle.page_model.specs.Hands.{expire, expire_of, expire_if, expire_to}
 use Rattle.page_model.specs.Conditions.{CanEnter, IsSeated}
 use Rattle.page_model.specs.Ownership.{OwnsFrames, IsListed, is_marked_dirty}
 use Rattle.page_model.specs.PageBytes.{Bytes, bytes_in, IsInFrame, KeepsUnfilled, IsUnsaved, IsFromFile, KeepsComing, IfSaved, KeepsBy, CouplesPages, with_frame, source_bytes, Stores, WritesBoth, IsWritable, ReadsFrom}
-use Rattle.page_laws.proofs.Lists.Frames.{times_head, at_set_same, at_set_other}
-use Rattle.page_laws.proofs.Lists.Pages.{page_cases, put_same, put_state, put_mark, same_page_is}
+use Rattle.page_laws.proofs.Lists.Frames.{at_set_same, at_set_other, some_free}
+use Rattle.page_laws.proofs.Lists.Pages.{put_state, put_mark}
+use Rattle.flat_state.proofs.PageNames.{same_page_is}
 use Rattle.page_laws.proofs.Lists.Parts.{IsOpen, parts_join, errand_push_same, errand_push_other, errand_head, errand_tail}
 use Rattle.page_laws.proofs.Lists.Local.{Local}
 use Rattle.page_laws.proofs.Moves.Steps.{Turns, turn_local, Enters, enter_local, page_in, frame_in, evict_local, evict_owner, EvictRest, evict_rest}
-use Rattle.page_laws.proofs.Ownership.Pages.{fill_enters, get_enters, reclaim_turns, expire_turns, launch_turns, retire_turns, touch_turns}
+use Rattle.page_laws.proofs.Ownership.Pages.{fill_enters, get_enters, reclaim_turns, expire_turns, launch_turns, retire_turns, touch_turns, none_flying}
 use Rattle.page_laws.proofs.Ownership.Runs.{Landing, landing_state, landing_frame, tail_turns, valid_turns, written_clean, coming_clean}
 use Rattle.page_laws.proofs.Bytes.Couples.{Beside, local_coupled}
 
@@ -124,9 +126,6 @@ writable_dirty (Data sid n) w = refl
 writable_dirty (Stack sid n) w = refl
 writable_dirty (Text image n) w = absurd w
 
-some_free : (p : Placement) (f : ℕ) (rest : List ℕ) → p.free ≡ f ∷ rest → 0 < times f p.free
-some_free p f rest e = let h : times f p.free ≡ 1 + times f rest = ap (times f) e ∙ times_head f rest in omega arith
-
 -- The page takes the first free frame, which now has its bytes, and is no longer due.
 pub filled_coupled : (p : Placement) (v : Page) (f : ℕ) (rest : List ℕ) (b : Bytes) (bytes : List ℕ) → OwnsFrames p → CanEnter p v → p.free ≡ f ∷ rest → length b.frames ≡ length p.holds → IsWritable v
     → bytes ≡ b.memory v → CouplesPages p b → CouplesPages (filled p v) (with_frame b f bytes)
@@ -179,9 +178,6 @@ coming_keeps p b FromFile demanded v k there h =
     let u : KeepsUnfilled b v (due_at p.due v) (filling_of p v) × IsUnsaved v (mark_of p v) = keeps_at p b v Unfilled k there h.0 in
     (subst (λ (x : Filling). KeepsUnfilled b v None x) h.1 (subst (λ (d : Option Due). KeepsUnfilled b v d (filling_of p v)) h.2 u.0), from_file v (mark_of p v) demanded u.1 h.3)
 
-flying_none : (p : Placement) (f : ℕ) → OwnsFrames p → 0 < times f p.free → times f (flying (parts_of p.transfers)) ≡ 0
-flying_none p f o b = let h = o.once f (o.frames f b) in omega arith
-
 pub get_coupled : (p : Placement) (source : Source) (demanded v : Page) (b : Bytes) → OwnsFrames p → CanEnter p v → IsOpen p.transfers (Reads source demanded) → ReadsFrom p source demanded v → CouplesPages p b → CouplesPages (get_one p (Reads source demanded) v) b
 get_coupled p source demanded v b o c latest h k = go p.free refl
   where
@@ -192,7 +188,7 @@ get_coupled p source demanded v b o c latest h k = go p.free refl
         (evict_coupled p f b o some k)
         (λ _. subst (KeepsBy q b v) (sym (put_state (evict p f) v (Coming f) (mark_of p v) t.page_in))
         (subst (λ (m : Bool). KeepsComing b v m (errand_at (parts_of q.transfers) f)) (sym (put_mark (evict p f) v (Coming f) (mark_of p v) t.page_in))
-        (subst (KeepsComing b v (mark_of p v)) (sym (ap (λ (ms : List Moving). errand_at ms f) (parts_join p.transfers (Reads source demanded) x latest) ∙ errand_push_same (parts_of p.transfers) (moving (Reads source demanded) x) (flying_none p f o some)))
+        (subst (KeepsComing b v (mark_of p v)) (sym (ap (λ (ms : List Moving). errand_at ms f) (parts_join p.transfers (Reads source demanded) x latest) ∙ errand_push_same (parts_of p.transfers) (moving (Reads source demanded) x) (none_flying p f o some)))
         (coming_keeps p b source demanded v k c.there h))))
       where
         x : Part
@@ -359,7 +355,7 @@ land_read_coupled p source demanded x rest b o l tokens k = go (same_page x.page
     here = at_set_same b.frames x.frame (source_bytes b source x.page) [] frame.0 (let h = frame.1 in omega arith) ∙ came b source demanded x.page (mark_of p x.page) was
 
     apart : same_page x.page demanded ≡ false → x.page ≢ demanded
-    apart e h = absurd (let i : true ≡ false = sym (Rattle.page_laws.proofs.Lists.Pages.same_page_self demanded) ∙ ap (λ (w : Page). same_page w demanded) (sym h) ∙ e in cc)
+    apart e h = absurd (let i : true ≡ false = sym (Rattle.flat_state.proofs.PageNames.same_page_self demanded) ∙ ap (λ (w : Page). same_page w demanded) (sym h) ∙ e in cc)
 
     go : (d : Bool) → same_page x.page demanded ≡ d → CouplesPages (land_read p source x rest d) c
     go true e = turn_coupled p x.page x.frame (Valid x.frame) (arrived_mark source x.page (mark_of p x.page)) p.free rest b c o (valid_turns p (Reads source demanded) x rest (arrived_mark source x.page (mark_of p x.page)) o l)

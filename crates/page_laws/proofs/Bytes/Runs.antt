@@ -6,7 +6,7 @@ use Rattle.vm_facts.specs.declared.page.PageState.{PageState}
 use Rattle.vm_facts.specs.declared.page.PageState.TheVariants.{Unfilled, Valid, Invalid, Coming, Going, OnSwap}
 use Rattle.page_model.specs.Pages.{Slot, Filling, Zeros, OfImage, frame_of, is_on_swap, is_unfilled}
 use Rattle.flat_state.specs.PageNames.{beside, number_of, is_among}
-use Rattle.page_model.specs.Frames.{times}
+use Rattle.vm_facts.specs.Lists.{times}
 use Rattle.page_model.specs.Placement.{Placement, Transfer, Part, Moving, Errand, Writes, Reads, Source, FromSwap, FromFile, Due, filling_by, slots_of, slot_of, state_of, mark_of, is_dirty, page_of, errand_at, due_at, parts_of}
 use Rattle.page_model.specs.Moves.{evict, get_one, get_at, get_all, get_run, begin, launch, launch_all, launch_run, land, land_read, land_all, done, done_of}
 use Rattle.page_model.specs.Runs.{run_out, run_in, run_in_by, pages_of_run, run_both, run_up, run_alone, comes_from_swap, comes_from_file, is_near, spare_frames}
@@ -19,13 +19,14 @@ use Rattle.page_model.specs.PageBytes.{Bytes, CouplesPages, with_frame, source_b
 use Rattle.page_laws.proofs.Lists.Frames.{length_set_frame}
 use Rattle.page_laws.proofs.Lists.Pages.{put_other}
 use Rattle.page_laws.proofs.Lists.Parts.{IsOpen, begin_open, parts_begin}
-use Rattle.page_laws.proofs.Lists.Local.{some_is}
+use Rattle.std.proofs.lemmas.Option.{same_Some}
 use Rattle.page_laws.proofs.Moves.Steps.{evict_other, EvictRest, evict_rest}
 use Rattle.page_laws.proofs.Ownership.Pages.{get_owner, launch_owner, expire_owner}
-use Rattle.page_laws.proofs.Lists.Runs.{and_both, each_page_imp, each_page_both, run_each, run_both_in, run_up_in, run_alone_in, run_apart}
+use Rattle.page_laws.proofs.Lists.Runs.{each_page_imp, each_page_both, run_each, run_both_in, run_up_in, run_alone_in, run_apart}
+use Rattle.std.proofs.lemmas.Bool.{and_parts}
 use Rattle.page_laws.proofs.Ownership.Runs.{begin_owner, get_enters_still, get_open_still, launch_still, launch_open_still, clean_unmarked, Landing, land_owner, land_transfers}
 use Rattle.page_laws.proofs.Ownership.Hands.{run_out_seats}
-use Rattle.page_laws.proofs.Ownership.Serve.{run_in_enters}
+use Rattle.page_laws.proofs.Ownership.Serve.{run_in_enters, on_swap_is, unfilled_is}
 use Rattle.page_laws.proofs.Bytes.Couples.{unmoved_keeps}
 use Rattle.page_laws.proofs.Bytes.Pages.{get_coupled, launch_coupled, retire_coupled, expire_coupled, land_write_coupled, land_read_coupled}
 
@@ -140,7 +141,7 @@ sweep_coupled p locked b o k = go (page_of p p.back) refl
 
     seat : (q : Page) (f : ℕ) → page_of p p.back ≡ Some q → state_of p q ≡ Invalid f → times p.back p.free ≡ zero → HasSeat p q
     seat q f h e z =
-        let same : f ≡ p.back = some_is f p.back (sym (ap frame_of e) ∙ o.named p.back q h) in
+        let same : f ≡ p.back = same_Some f p.back (sym (ap frame_of e) ∙ o.named p.back q h) in
         record { frame = f; seat = record { state = inr (e, ap (λ (g : ℕ). times g p.free) same ∙ z) } }
 
     to : (q : Page) (s : PageState) (n : ℕ) (d : Bool) → page_of p p.back ≡ Some q → state_of p q ≡ s → times p.back p.free ≡ n → CouplesPages (sweep_to p locked q s n d) b
@@ -201,22 +202,6 @@ done_coupled p b c o tokens s k = go p.transfers refl s
 
 -- The read that serving begins.
 
-on_swap_is : (s : PageState) → is_on_swap s ≡ true → s ≡ OnSwap
-on_swap_is OnSwap e = refl
-on_swap_is Unfilled e = absurd cc
-on_swap_is (Valid f) e = absurd cc
-on_swap_is (Invalid f) e = absurd cc
-on_swap_is (Coming f) e = absurd cc
-on_swap_is (Going f) e = absurd cc
-
-unfilled_is : (s : PageState) → is_unfilled s ≡ true → s ≡ Unfilled
-unfilled_is Unfilled e = refl
-unfilled_is OnSwap e = absurd cc
-unfilled_is (Valid f) e = absurd cc
-unfilled_is (Invalid f) e = absurd cc
-unfilled_is (Coming f) e = absurd cc
-unfilled_is (Going f) e = absurd cc
-
 each_both : (P Q : Page → Type 0) (R : Page → Type 0) (qs : List Page) → EachPage P qs → EachPage Q qs → ((q : Page) → P q → Q q → R q) → EachPage R qs
 each_both P Q R qs h g k = each_page_both P Q R qs h g k
 
@@ -228,10 +213,10 @@ run_in_reads p b q k h = go q (state_of p q) (spare_frames p) h
     alone q source h = run_each (ReadsFrom p source q) (λ w. false) q (run_alone q) (run_alone_in (λ w. false) q) h (λ w e. absurd cc)
 
     swap : (q : Page) (w : ℕ) → comes_from_swap p q w ≡ true → state_of p (beside q w) ≡ OnSwap
-    swap q w e = on_swap_is (state_of p (beside q w)) (and_both (is_on_swap (state_of p (beside q w))) (is_near q w) e).0
+    swap q w e = on_swap_is (state_of p (beside q w)) (and_parts (is_on_swap (state_of p (beside q w))) (is_near q w) e).0
 
     file : (image v w : ℕ) → comes_from_file p (Text image v) w ≡ true → ReadsFrom p FromFile (Text image v) (Text image w)
-    file image v w e = (unfilled_is (state_of p (Text image w)) (and_both (Rattle.std.specs.Prelude.nat_lt w (length (slots_of p (Text image v)))) (is_unfilled (state_of p (Text image w))) e).1, refl, k.text_due image w, λ x. absurd x)
+    file image v w e = (unfilled_is (state_of p (Text image w)) (and_parts (Rattle.std.specs.Prelude.nat_lt w (length (slots_of p (Text image v)))) (is_unfilled (state_of p (Text image w))) e).1, refl, k.text_due image w, λ x. absurd x)
 
     go : (q : Page) (s : PageState) (spare : ℕ) → ReadsFrom p (source_for s) q q → EachPage (ReadsFrom p (source_for s) q) (pages_of_run q (run_in_by p q s spare))
     go (Text image v) OnSwap spare h = run_each (ReadsFrom p FromSwap (Text image v)) (comes_from_swap p (Text image v)) (Text image v) (run_up (comes_from_swap p (Text image v)) v (min 2 spare)) (run_up_in (comes_from_swap p (Text image v)) v (min 2 spare)) h (swap (Text image v))

@@ -14,8 +14,9 @@ use Rattle.page_model.specs.Place.{data_count, stack_count, data_from, stack_fro
 use Rattle.page_model.specs.Conditions.{EachPage, IsNew, CanChange, ApartFrom}
 use Rattle.page_model.specs.PageBytes.{IsWritable}
 use Rattle.page_model.specs.Dues.{HasSource, IsDue, DueStand}
-use Rattle.page_laws.proofs.Lists.Local.{none_some, some_is}
-use Rattle.page_laws.proofs.Lists.Pages.{same_page_is}
+use Rattle.page_laws.proofs.Lists.Local.{none_some}
+use Rattle.std.proofs.lemmas.Option.{same_Some}
+use Rattle.flat_state.proofs.PageNames.{same_page_is}
 use Rattle.page_laws.proofs.Lists.Runs.{each_page_append, pages_from_each}
 use Rattle.page_laws.proofs.Ownership.Spaces.{drop_all_other, drop_all_length}
 use Rattle.page_laws.proofs.Ownership.Changes.{dropped_pages, removed_other}
@@ -79,7 +80,7 @@ give_up_length p sid w i n =
     let d : Placement = drop_all p (pages_of_space p sid) in
     leave_text_length (remove_space d sid) (image_of p sid) w ∙ ap length (remove_slots d sid w i n) ∙ drop_all_length (pages_of_space p sid) p w
 
-leave_due : (p : Placement) (v : Page) → (leave_page p v).due ≡ p.due
+pub leave_due : (p : Placement) (v : Page) → (leave_page p v).due ≡ p.due
 leave_due p v = go (state_of p v) (listed p v)
   where
     go : (s : PageState) (n : ℕ) → (leave_by p v s n).due ≡ p.due
@@ -91,7 +92,7 @@ leave_due p v = go (state_of p v) (listed p v)
     go (Coming f) n = refl
     go (Going f) n = refl
 
-leave_all_due : (qs : List Page) (p : Placement) → (leave_all p qs).due ≡ p.due
+pub leave_all_due : (qs : List Page) (p : Placement) → (leave_all p qs).due ≡ p.due
 leave_all_due [] p = refl
 leave_all_due (v ∷ qs) p = leave_all_due qs (leave_page p v) ∙ leave_due p v
 
@@ -142,7 +143,7 @@ start_others sid next q d n e = go (same_page (Stack next 0) q) refl e
   where
     go : (b : Bool) → same_page (Stack next 0) q ≡ b → cond b (Some (Start (Stack next 0))) None ≡ Some d → OfOthers sid q d
     go false h k = none_some d k
-    go true h k = subst (OfOthers sid q) (some_is (Start (Stack next 0)) d k) (subst (λ (x : Page). space_in x ≢ sid) (same_page_is (Stack next 0) q h) n)
+    go true h k = subst (OfOthers sid q) (same_Some (Start (Stack next 0)) d k) (subst (λ (x : Page). space_in x ≢ sid) (same_page_is (Stack next 0) q h) n)
 
 exec_due : (borrowed : Bool) (p : Placement) (next image sid : ℕ) (facts : Option Image) → p.due ≡ [] → IsNew p next → (borrowed ≡ false → next ≢ sid) → DueStand (give_up_unless borrowed (enter_image p next image facts) sid)
 exec_due true p next image sid None e new a = none_due p e

@@ -21,12 +21,15 @@ use Rattle.page_model.specs.Dues.{HasSource, IsDue, DueStand, NotDue, LeavesDue}
 use Rattle.page_model.specs.Runs.{pages_of_run, run_in, run_in_by, run_both, run_up, run_alone, comes_from_swap, comes_from_file, is_near, spare_frames}
 use Rattle.page_laws.proofs.Ownership.Changes.{numbered_hit, numbered_miss}
 use Rattle.page_laws.proofs.Ownership.Serve.{run_in_enters}
-use Rattle.page_laws.proofs.Lists.Pages.{page_cases, put_state, put_other, put_length, same_page_is}
+use Rattle.page_laws.proofs.Lists.Pages.{page_cases, put_state, put_other, put_length}
+use Rattle.flat_state.proofs.PageNames.{same_page_is}
 use Rattle.page_laws.proofs.Lists.Parts.{IsOpen, begin_open}
-use Rattle.page_laws.proofs.Lists.Local.{none_some, some_is}
+use Rattle.page_laws.proofs.Lists.Local.{none_some}
+use Rattle.std.proofs.lemmas.Option.{same_Some}
 use Rattle.page_laws.proofs.Moves.Steps.{page_in, put_other_state, evict_other, EvictRest, evict_rest}
 use Rattle.page_laws.proofs.Ownership.Pages.{get_owner}
-use Rattle.page_laws.proofs.Lists.Runs.{and_both, each_page_imp, each_page_both, pages_from_apart, run_each, run_both_in, run_up_in, run_alone_in, run_apart}
+use Rattle.page_laws.proofs.Lists.Runs.{each_page_imp, each_page_both, pages_from_apart, run_each, run_both_in, run_up_in, run_alone_in, run_apart}
+use Rattle.std.proofs.lemmas.Bool.{and_parts}
 use Rattle.page_laws.proofs.Ownership.Runs.{begin_owner, get_enters_still, get_open_still}
 use Rattle.page_laws.proofs.Moves.Stays.{Stays, steady_stays, move_stays, done_steady, force_stays}
 use Rattle.page_laws.proofs.Bytes.Pages.{due_other}
@@ -246,7 +249,7 @@ run_in_due p q s n = go q n (state_of p q) (spare_frames p)
     alone q n = run_each (NotDue p.due) (λ w. false) q (run_alone q) (run_alone_in (λ w. false) q) n (λ w e. absurd cc)
 
     swap : (q : Page) (w : ℕ) → comes_from_swap p q w ≡ true → NotDue p.due (beside q w)
-    swap q w e = not_due_by p (beside q w) s (λ i. swap_apart p (beside q w) (and_both (is_on_swap (state_of p (beside q w))) (is_near q w) e).0)
+    swap q w e = not_due_by p (beside q w) s (λ i. swap_apart p (beside q w) (and_parts (is_on_swap (state_of p (beside q w))) (is_near q w) e).0)
 
     text : (image w : ℕ) → NotDue p.due (Text image w)
     text image w = not_due_by p (Text image w) s (λ i e. absurd i)
@@ -271,7 +274,7 @@ run_in_due p q s n = go q n (state_of p q) (spare_frames p)
     go (Stack sid v) n (Coming f) spare = alone (Stack sid v) n
     go (Stack sid v) n (Going f) spare = alone (Stack sid v) n
 
-fill_due_list : (p : Placement) (v : Page) → (fill p v).due ≡ p.due
+pub fill_due_list : (p : Placement) (v : Page) → (fill p v).due ≡ p.due
 fill_due_list p v = go p.free
   where
     go : (fr : List ℕ) → (fill_at p v fr).due ≡ p.due
@@ -333,7 +336,7 @@ starts_at (a ∷ more) n w d e = go (same_page (Stack n 0) w) refl e (starts_at 
     go true h k ih = record {
       sid = n;
       page = sym (same_page_is (Stack n 0) w h);
-      due = some_is d (Start (Stack n 0)) (sym k);
+      due = same_Some d (Start (Stack n 0)) (sym k);
       later = omega arith;
       slots = ap stack_in (numbered_hit n (new_pages n a.image a.facts) (spaces_from (n + 1) more) refl);
     }

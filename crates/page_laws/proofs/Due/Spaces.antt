@@ -11,8 +11,9 @@ use Rattle.page_model.specs.Placement.{Placement, Due, Start, CopyOf, due_at, du
 use Rattle.page_model.specs.Place.{child_slot, child_slot_by, copy_due, copies_from, fork_space, enter_space}
 use Rattle.page_model.specs.Conditions.{IsNew}
 use Rattle.page_model.specs.Dues.{HasSource, IsDue, DueStand}
-use Rattle.page_laws.proofs.Lists.Pages.{same_page_is}
-use Rattle.page_laws.proofs.Lists.Local.{none_some, some_is}
+use Rattle.flat_state.proofs.PageNames.{same_page_is}
+use Rattle.page_laws.proofs.Lists.Local.{none_some}
+use Rattle.std.proofs.lemmas.Option.{same_Some}
 use Rattle.page_laws.proofs.Ownership.Changes.{Alike, child_blank, add_alike, added_same}
 use Rattle.page_laws.proofs.Bytes.Spaces.{map_at, map_length}
 
@@ -40,7 +41,7 @@ copies_found child parent (x ∷ xs) v w d e = go x.state refl e (λ k. copies_a
   where
     one : (b : Bool) → same_page (child v) w ≡ b → x.state ≢ Unfilled → cond b (Some (CopyOf (child v) (parent v))) (due_at (copies_from child parent (v + 1) xs) w) ≡ Some d
         → (due_at (copies_from child parent (v + 1) xs) w ≡ Some d → CopiesAt child parent (x ∷ xs) v w d) → CopiesAt child parent (x ∷ xs) v w d
-    one true h n k later = copies_at_here child parent x xs v w d n (sym (same_page_is (child v) w h)) (some_is d (CopyOf (child v) (parent v)) (sym k))
+    one true h n k later = copies_at_here child parent x xs v w d n (sym (same_page_is (child v) w h)) (same_Some d (CopyOf (child v) (parent v)) (sym k))
     one false h n k later = later k
 
     go : (s : PageState) → x.state ≡ s → due_at (copy_due (child v) (parent v) s ++ copies_from child parent (v + 1) xs) w ≡ Some d
@@ -131,5 +132,5 @@ enter_due p sid image facts new w d e = go (same_page (Stack sid 0) w) refl e
       there = subst (λ (xs : List Slot). 0 < length xs) (sym slots) (omega arith);
       unfilled = ap (λ (xs : List Slot). (get_or xs 0 no_slot).state) slots;
       zeros = ap (λ (xs : List Slot). (get_or xs 0 no_slot).filling) slots;
-      source = subst (HasSource q) (some_is (Start (Stack sid 0)) d k) tt;
+      source = subst (HasSource q) (same_Some (Start (Stack sid 0)) d k) tt;
     })

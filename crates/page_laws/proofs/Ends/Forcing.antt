@@ -1,13 +1,14 @@
 -- Forcing a frame ends: a number falls with each unit, whatever is locked.
 use Rattle.std.proofs.Common.{◌≡◌, ◌≢◌, ◌⊎◌, inl, inr, ℕ, zero, suc, ◌+◌, ◌-◌, ◌/◌, ◌<◌, ◌≤◌, ◌&&◌, Bool, true, false, cond, not, List, [], ◌∷◌, ◌++◌, length, Option, Some, None, refl, sym, ap, ◌∙◌, subst, arith}
-use Rattle.std.proofs.lemmas.Bool.{cases_eq}
+use Rattle.std.proofs.lemmas.Bool.{cases_eq, not-true, and_from, and_parts}
 use Rattle.vm_facts.specs.declared.page.Page.{Page}
 use Rattle.vm_facts.specs.declared.page.Page.TheVariants.{Data}
 use Rattle.vm_facts.specs.declared.page.PageState.{PageState}
 use Rattle.vm_facts.specs.declared.page.PageState.TheVariants.{Unfilled, Valid, Invalid, Coming, Going, OnSwap}
 use Rattle.page_model.specs.Pages.{frame_of}
 use Rattle.flat_state.specs.PageNames.{is_among, pages_from}
-use Rattle.page_model.specs.Frames.{times, next_frame, at_frame}
+use Rattle.page_model.specs.Frames.{next_frame, at_frame}
+use Rattle.vm_facts.specs.Lists.{times}
 use Rattle.page_model.specs.Placement.{Placement, Transfer, Part, Errand, Writes, state_of, mark_of, is_dirty, page_of, IsFrame, parts_of, flying}
 use Rattle.page_model.specs.Moves.{begin, join_last, launch, launch_to, launch_all, launch_run, retire_to}
 use Rattle.page_model.specs.Runs.{run_out, pages_of_run}
@@ -16,7 +17,7 @@ use Rattle.page_model.specs.Conditions.{EachPage, HasSeat, IsSeated}
 use Rattle.page_model.specs.Rank.{is_invalid, is_open, is_open_page, is_usable, is_usable_page, reach, walk, HandsStand, far, far_by, far_transfers, far_parts, HasRoom}
 use Rattle.page_model.specs.Ownership.{OwnsFrames, seats, seated, seated_of}
 use Rattle.page_laws.proofs.Lists.Pages.{page_cases, put_state}
-use Rattle.page_laws.proofs.Lists.Local.{some_is}
+use Rattle.std.proofs.lemmas.Option.{same_Some}
 use Rattle.page_laws.proofs.Moves.Steps.{page_in, put_other_state}
 use Rattle.page_laws.proofs.Ownership.Hands.{run_out_seats}
 use Rattle.page_laws.proofs.Moves.Stays.{Steady, expire_steady, swept_steady}
@@ -30,8 +31,8 @@ pub record Full (p : Placement) (f : ℕ) : Type 0 where
 
 seats_one : (s : PageState) (f : ℕ) → seats 0 s ≡ 1 → frame_of s ≡ Some f → (s ≡ Valid f) ⊎ (s ≡ Invalid f)
 seats_one Unfilled f e h = absurd (omega arith)
-seats_one (Valid g) f e h = inl (ap (λ (x : ℕ). Valid x) (some_is g f h))
-seats_one (Invalid g) f e h = inr (ap (λ (x : ℕ). Invalid x) (some_is g f h))
+seats_one (Valid g) f e h = inl (ap (λ (x : ℕ). Valid x) (same_Some g f h))
+seats_one (Invalid g) f e h = inr (ap (λ (x : ℕ). Invalid x) (same_Some g f h))
 seats_one (Coming g) f e h = absurd (omega arith)
 seats_one (Going g) f e h = absurd (omega arith)
 seats_one OnSwap f e h = absurd (omega arith)
@@ -71,7 +72,7 @@ pages_differ : (p : Placement) (f g : ℕ) → OwnsFrames p → Full p f → Ful
 unfolding page_or
 pages_differ p f g o u w n e =
     let same : u.page ≡ w.page = sym (ap page_or u.held) ∙ e ∙ ap page_or w.held in
-    n (some_is f g (sym (o.named f u.page u.held) ∙ subst (λ (x : Page). frame_of (state_of p x) ≡ Some g) (sym same) (o.named g w.page w.held)))
+    n (same_Some f g (sym (o.named f u.page u.held) ∙ subst (λ (x : Page). frame_of (state_of p x) ≡ Some g) (sym same) (o.named g w.page w.held)))
 
 pub reach_found : (p : Placement) (locked : List Page) (d : ℕ) → OwnsFrames p → p.free ≡ [] → p.transfers ≡ [] → 0 < p.back → p.back ≤ length p.holds → length locked + d < length p.holds
     → reach p locked (length p.holds) d p.back < length p.holds
@@ -126,18 +127,6 @@ front_invalid p locked u n = subst (λ (r : Placement). is_invalid (state_of r u
   | inr e ↦ subst (λ (s : PageState). is_invalid (state_of (expire_to p u.page s) u.page) ≡ true) (sym e) (ap is_invalid e)
 ])
 
-both_true : (a b : Bool) → (a && b) ≡ true → (a ≡ true) × (b ≡ true)
-both_true true true h = (refl, refl)
-both_true true false h = absurd cc
-both_true false b h = absurd cc
-
-true_both : (a b : Bool) → a ≡ true → b ≡ true → (a && b) ≡ true
-true_both a b e h = ap (λ (x : Bool). x && b) e ∙ h
-
-not_true : (b : Bool) → not b ≡ true → b ≡ false
-not_true true e = absurd cc
-not_true false e = refl
-
 same_page_of : (p q : Placement) → q.holds ≡ p.holds → (g : ℕ) → page_of q g ≡ page_of p g
 same_page_of p q h g = ap (λ (l : List (Option Page)). at_frame l g None) h
 
@@ -147,7 +136,7 @@ passed p locked o u = record {
   opens = λ g e. ap (is_open_page locked) (page g) ∙ e;
   usables = λ g e. usable g (page_of p g) refl e;
   here = λ e. ap (is_usable_page (expire p locked) locked) (page p.front ∙ u.held)
-      ∙ true_both (is_invalid (state_of (expire p locked) u.page)) (not (is_among u.page locked)) (front_invalid p locked u (not_true (is_among u.page locked) (ap (is_open_page locked) (sym u.held) ∙ e))) (ap (is_open_page locked) (sym u.held) ∙ e);
+      ∙ and_from (is_invalid (state_of (expire p locked) u.page)) (not (is_among u.page locked)) (front_invalid p locked u (not-true (is_among u.page locked) (ap (is_open_page locked) (sym u.held) ∙ e))) (ap (is_open_page locked) (sym u.held) ∙ e);
 }
   where
     s : Steady p (expire p locked)
@@ -159,8 +148,8 @@ passed p locked o u = record {
     usable : (g : ℕ) (h : Option Page) → page_of p g ≡ h → is_usable p locked g ≡ true → is_usable (expire p locked) locked g ≡ true
     usable g None h e = absurd (let k : true ≡ false = sym e ∙ ap (is_usable_page p locked) h in cc)
     usable g (Some q) h e =
-        let k = both_true (is_invalid (state_of p q)) (not (is_among q locked)) (ap (is_usable_page p locked) (sym h) ∙ e) in
-        ap (is_usable_page (expire p locked) locked) (page g ∙ h) ∙ true_both (is_invalid (state_of (expire p locked) q)) (not (is_among q locked)) (invalid_kept p locked q k.0) k.1
+        let k = and_parts (is_invalid (state_of p q)) (not (is_among q locked)) (ap (is_usable_page p locked) (sym h) ∙ e) in
+        ap (is_usable_page (expire p locked) locked) (page g ∙ h) ∙ and_from (is_invalid (state_of (expire p locked) q)) (not (is_among q locked)) (invalid_kept p locked q k.0) k.1
 
 -- The back hand: at a frame that it can use a frame is free, or a write is in flight; else nothing changes.
 

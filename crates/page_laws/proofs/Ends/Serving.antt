@@ -1,30 +1,34 @@
 -- Serving a page ends: its rank falls with each unit.
-use Rattle.std.proofs.Common.{◌≡◌, ◌≢◌, ◌⊎◌, inl, inr, ℕ, zero, suc, ◌+◌, ◌-◌, ◌*◌, ◌/◌, ◌<◌, ◌≤◌, ◌||◌, nat_le, min, Bool, true, false, cond, List, [], ◌∷◌, length, Option, Some, None, refl, sym, ap, ◌∙◌, subst, arith}
-use Rattle.std.proofs.lemmas.Bool.{cases_eq}
+use Rattle.std.proofs.Common.{◌≡◌, ◌≢◌, ◌⊎◌, inl, inr, ℕ, zero, suc, ◌+◌, ◌-◌, ◌*◌, ◌/◌, ◌<◌, ◌≤◌, nat_le, min, Bool, true, false, List, [], ◌∷◌, length, Option, Some, None, refl, sym, ap, ◌∙◌, subst, arith}
+use Rattle.std.proofs.lemmas.Bool.{cases_eq, or_left, or_right, or_cases}
 use Rattle.std.proofs.lemmas.Bool.Decides.{nat_tests}
 use Rattle.std.proofs.lemmas.List.{length_push}
+use Rattle.page_laws.proofs.Moves.Transfers.{sweep_count, land_all_rest}
+use Rattle.page_laws.proofs.Runs.Widest.{above_le, below_room}
 use Rattle.vm_facts.specs.declared.page.Page.{Page}
 use Rattle.vm_facts.specs.declared.page.Page.TheVariants.{Data, Stack, Text}
 use Rattle.vm_facts.specs.declared.page.PageState.{PageState}
 use Rattle.vm_facts.specs.declared.page.PageState.TheVariants.{Unfilled, Valid, Invalid, Coming, Going, OnSwap}
 use Rattle.page_model.specs.Pages.{Slot, Filling, Zeros, OfImage, frame_of, is_valid, written_mark}
 use Rattle.flat_state.specs.PageNames.{number_of, beside, pages_from, is_among, same_page}
-use Rattle.page_model.specs.Frames.{times, without}
-use Rattle.page_model.specs.Placement.{Placement, Transfer, Part, Errand, Writes, Reads, Source, filling_by, slot_of, state_of, mark_of, is_dirty, filling_of, page_of, IsThere, parts_of, flying, put}
-use Rattle.page_model.specs.Moves.{launch, launch_to, launch_all, retire_to, evict, evict_at, enter, fill, fill_at, begin, get_one, get_at, get_all, land, land_read, land_all, done, done_of, reclaim_to, arrived_mark}
-use Rattle.page_model.specs.Runs.{Run, pages_of_run, passing_above, passing_below, run_both, run_up, run_alone, run_in, run_in_by, comes_from_swap, comes_from_file, run_out, spare_frames}
-use Rattle.page_model.specs.Hands.{expire, sweep, sweep_of, sweep_to, sweep_by}
+use Rattle.vm_facts.specs.Lists.{times, without}
+use Rattle.page_model.specs.Placement.{Placement, Transfer, Part, Errand, Writes, Reads, Source, filling_by, slot_of, state_of, mark_of, filling_of, page_of, IsThere, parts_of, flying, put}
+use Rattle.page_model.specs.Moves.{launch, launch_to, launch_all, evict, evict_at, enter, fill, fill_at, begin, get_one, get_at, get_all, land, land_read, land_all, done, done_of, reclaim_to, arrived_mark}
+use Rattle.page_model.specs.Runs.{Run, pages_of_run, passing_above, run_both, run_up, run_alone, run_in, run_in_by, comes_from_swap, comes_from_file, spare_frames}
+use Rattle.page_model.specs.Hands.{expire}
 use Rattle.page_model.specs.Serve.{force, force_by, read_step, read_errand, source_for, read_if, feed_by, serve_by, serve_step, is_full}
 use Rattle.page_model.specs.Conditions.{EachPage, AllApart, CanEnter}
 use Rattle.page_model.specs.Rank.{HandsStand, far, far_by, far_transfers, far_parts, rank, rank_by, rank_unfilled, HasRoom}
 use Rattle.page_model.specs.Ownership.{OwnsFrames, IsListed, seats}
-use Rattle.page_laws.proofs.Lists.Frames.{times_head, without_first}
-use Rattle.page_laws.proofs.Lists.Pages.{page_cases, put_state, put_other, put_length, same_page_self}
+use Rattle.page_laws.proofs.Lists.Frames.{without_head, some_free}
+use Rattle.vm_facts.proofs.Lists.{times_head}
+use Rattle.page_laws.proofs.Lists.Pages.{page_cases, put_state, put_length, beside_self}
+use Rattle.flat_state.proofs.PageNames.{same_page_self}
 use Rattle.page_laws.proofs.Lists.Parts.{IsOpen, begin_open, join_open, length_join}
 use Rattle.page_laws.proofs.Lists.Local.{none_some}
 use Rattle.page_laws.proofs.Moves.Steps.{once_at, put_other_state, EvictRest, evict_rest}
 use Rattle.page_laws.proofs.Ownership.Pages.{get_owner}
-use Rattle.page_laws.proofs.Lists.Runs.{each_page_imp, each_page_both, below_le, beside_number, run_apart}
+use Rattle.page_laws.proofs.Lists.Runs.{each_page_imp, each_page_both, below_le, run_apart}
 use Rattle.page_laws.proofs.Ownership.Runs.{begin_owner, get_enters_still, get_open_still}
 use Rattle.page_laws.proofs.Ownership.Serve.{run_in_enters}
 use Rattle.page_laws.proofs.Moves.Stays.{Steady, Stays, done_steady, force_stays, expire_transfers}
@@ -32,10 +36,6 @@ use Rattle.page_laws.proofs.Moves.Hands.{reach_le}
 use Rattle.page_laws.proofs.Ends.Forcing.{move_falls}
 
 -- What the end of a transfer leaves.
-
-pub land_all_transfers : (xs : List Part) (p : Placement) (e : Errand) (ts : List Transfer) → (land_all p e xs ts).transfers ≡ ts
-land_all_transfers [] p e ts = refl
-land_all_transfers (x ∷ xs) p e ts = land_all_transfers xs (land p e x (record { errand = e; parts = xs } ∷ ts)) e ts
 
 land_free : (p : Placement) (e : Errand) (x : Part) (rest : List Transfer) → length p.free ≤ length (land p e x rest).free
 land_free p Writes x rest = let h = length_push p.free x.frame in omega arith
@@ -50,7 +50,7 @@ land_all_free [] p e ts = omega arith
 land_all_free (x ∷ xs) p e ts = let a = land_free p e x (record { errand = e; parts = xs } ∷ ts) in let b = land_all_free xs (land p e x (record { errand = e; parts = xs } ∷ ts)) e ts in omega arith
 
 -- a write that ends frees a frame
-write_frees : (xs : List Part) (p : Placement) (ts : List Transfer) → (xs ≡ [] → ⊥) → 0 < length (land_all p Writes xs ts).free
+pub write_frees : (xs : List Part) (p : Placement) (ts : List Transfer) → (xs ≡ [] → ⊥) → 0 < length (land_all p Writes xs ts).free
 write_frees [] p ts n = absurd (n refl)
 write_frees (x ∷ xs) p ts n =
     let a = length_push p.free x.frame in
@@ -93,7 +93,7 @@ done_falls p locked t ts o e h = subst (λ (n : ℕ). far (done p) locked < n) (
     after : far (done p) locked ≤ length p.holds + 3 + length ts
     after =
         let a = far_le (done p) locked in
-        let b : (done p).transfers ≡ ts = ap (λ (q : Placement). q.transfers) is ∙ land_all_transfers t.parts p t.errand ts in
+        let b : (done p).transfers ≡ ts = ap (λ (q : Placement). q.transfers) is ∙ land_all_rest t.parts p t.errand ts in
         let c = ap length s.holds in
         let d = ap length b in
         omega arith
@@ -131,9 +131,6 @@ coming_frame OnSwap e h = absurd cc
 not_coming : (s : PageState) (f : ℕ) → s ≡ Invalid f → is_coming s ≡ true → ⊥
 not_coming s f e h = absurd (let k : true ≡ false = sym h ∙ ap is_coming e in cc)
 
-some_free : (p : Placement) (f : ℕ) (rest : List ℕ) → p.free ≡ f ∷ rest → 0 < times f p.free
-some_free p f rest e = let h : times f p.free ≡ 1 + times f rest = ap (times f) e ∙ times_head f rest in omega arith
-
 evict_coming : (p : Placement) (f : ℕ) (q : Page) → OwnsFrames p → 0 < times f p.free → is_coming (state_of p q) ≡ true → is_coming (state_of (evict p f) q) ≡ true
 evict_coming p f q o b c = go (page_of p f) refl
   where
@@ -168,12 +165,8 @@ get_takes p e v o = go p.free refl
         let was = o.once f (o.frames f some) in
         let one : times f (f ∷ rest) ≡ 1 = (let a : times f p.free ≡ times f (f ∷ rest) = ap (times f) k in let b = times_head f rest in omega arith) in
         let r : EvictRest p (evict p f) = evict_rest p f in
-        let left : without f (evict p f).free ≡ rest = ap (without f) (r.free ∙ k) ∙ without_first f rest one in
+        let left : without f (evict p f).free ≡ rest = ap (without f) (r.free ∙ k) ∙ without_head f rest one in
         let h = ap length left in omega arith
-
-or_either : (a b : Bool) → (a || b) ≡ true → (a ≡ true) ⊎ (b ≡ true)
-or_either true b h = inl refl
-or_either false b h = inr h
 
 get_all_still : (qs : List Page) (p : Placement) (source : Source) (demanded q : Page) → OwnsFrames p → EachPage (CanEnter p) qs → AllApart qs → IsOpen p.transfers (Reads source demanded)
     → is_coming (state_of p q) ≡ true → is_coming (state_of (get_all p (Reads source demanded) qs) q) ≡ true
@@ -190,9 +183,9 @@ get_all_comes (v ∷ qs) p source demanded q o c a latest l h =
     let o2 = get_owner p source demanded v o c.0 latest in
     let c2 = each_page_both (CanEnter p) (λ r. r ≢ v) (CanEnter (get_one p (Reads source demanded) v)) qs c.1 a.0 (λ w k n. get_enters_still p (Reads source demanded) v w o n k) in
     let latest2 = get_open_still p (Reads source demanded) v latest in
-    elim (or_either (same_page q v) (is_among q qs) h) [
+    elim (or_cases (same_page q v) (is_among q qs) h) [
       | inl e ↦ get_all_still qs (get_one p (Reads source demanded) v) source demanded q o2 c2 a.1 latest2
-          (subst (λ (x : Page). is_coming (state_of (get_one p (Reads source demanded) v) x) ≡ true) (sym (Rattle.page_laws.proofs.Lists.Pages.same_page_is q v e)) (get_comes p (Reads source demanded) v c.0 (omega arith)))
+          (subst (λ (x : Page). is_coming (state_of (get_one p (Reads source demanded) v) x) ≡ true) (sym (Rattle.flat_state.proofs.PageNames.same_page_is q v e)) (get_comes p (Reads source demanded) v c.0 (omega arith)))
       | inr e ↦ get_all_comes qs (get_one p (Reads source demanded) v) source demanded q o2 c2 a.1 latest2 (let k = get_takes p (Reads source demanded) v o in omega arith) e
     ]
 
@@ -208,23 +201,6 @@ get_all_length (v ∷ qs) p e latest = get_all_length qs (get_one p e v) e (get_
 
 abbrev Fits : Page → ℕ → Run → Type 0
 Fits q spare r = (r.lo ≤ number_of q) × (number_of q < r.lo + r.n) × (r.n ≤ spare)
-
-above_le : (passes : ℕ → Bool) (v room : ℕ) → passing_above passes v room ≤ room
-above_le passes v zero = omega arith
-above_le passes v (suc room) = less_by (passes (v + 1)) (passing_above passes (v + 1) room) room (above_le passes (v + 1) room)
-  where
-    less_by : (b : Bool) (x m : ℕ) → x ≤ m → cond b (1 + x) 0 ≤ suc m
-    less_by true x m l = omega arith
-    less_by false x m l = omega arith
-
-below_room : (passes : ℕ → Bool) (v room : ℕ) → passing_below passes v room ≤ room
-below_room passes zero room = omega arith
-below_room passes (suc v) zero = omega arith
-below_room passes (suc v) (suc room) = less_by (passes v) (passing_below passes v room) room (below_room passes v room)
-  where
-    less_by : (b : Bool) (x m : ℕ) → x ≤ m → cond b (1 + x) 0 ≤ suc m
-    less_by true x m l = omega arith
-    less_by false x m l = omega arith
 
 both_fits : (passes : ℕ → Bool) (q : Page) (most spare : ℕ) → 0 < most → most ≤ spare → Fits q spare (run_both passes (number_of q) most)
 both_fits passes q most spare a b =
@@ -266,13 +242,6 @@ pages_length : (q : Page) (lo n : ℕ) → length (pages_from q lo n) ≡ n
 pages_length q lo zero = refl
 pages_length q lo (suc n) = ap suc (pages_length q (lo + 1) n)
 
-or_left : (a b : Bool) → a ≡ true → (a || b) ≡ true
-or_left a b e = ap (λ (x : Bool). x || b) e
-
-or_right : (a b : Bool) → b ≡ true → (a || b) ≡ true
-or_right true b e = refl
-or_right false b e = e
-
 pages_among : (q : Page) (lo n w : ℕ) → lo ≤ w → w < lo + n → is_among (beside q w) (pages_from q lo n) ≡ true
 pages_among q lo zero w l m = absurd (omega arith)
 pages_among q lo (suc n) w l m = elim (cases_eq w lo) [
@@ -288,7 +257,7 @@ read_comes p q o c l =
     (each_page_imp (CanEnter p) (CanEnter (begin p (read_errand p q))) (pages_of_run q (run_in p q)) (run_in_enters p q c) (λ r k. record { there = k.there; frameless = k.frameless }))
     (run_apart q (run_in p q)) (begin_open p.transfers (read_errand p q))
     (let h = pages_length q (run_in p q).lo (run_in p q).n in omega (arith, f.2))
-    (subst (λ (x : Page). is_among x (pages_of_run q (run_in p q)) ≡ true) (beside_number q) (pages_among q (run_in p q).lo (run_in p q).n (number_of q) f.0 f.1))
+    (subst (λ (x : Page). is_among x (pages_of_run q (run_in p q)) ≡ true) (beside_self q) (pages_among q (run_in p q).lo (run_in p q).n (number_of q) f.0 f.1))
 
 pub read_length : (p : Placement) (q : Page) → length (read_step p q).transfers ≡ length p.transfers + 1
 read_length p q = get_all_length (pages_of_run q (run_in p q)) (begin p (read_errand p q)) (read_errand p q) (begin_open p.transfers (read_errand p q)) ∙ length_push p.transfers (record { errand = read_errand p q; parts = [] })
@@ -310,47 +279,15 @@ launch_all_length : (qs : List Page) (p : Placement) → IsOpen p.transfers Writ
 launch_all_length [] p latest = refl
 launch_all_length (v ∷ qs) p latest = let k = launch_length p v latest in launch_all_length qs (launch p v) k.0 ∙ k.1
 
-pub sweep_length : (p : Placement) (locked : List Page) → length (sweep p locked).transfers ≤ length p.transfers + 1
-sweep_length p locked = go (page_of p p.back)
-  where
-    retired : (q : Page) (s : PageState) → length (retire_to p q s).transfers ≤ length p.transfers + 1
-    retired q (Valid f) = omega arith
-    retired q (Invalid f) = omega arith
-    retired q Unfilled = omega arith
-    retired q (Coming f) = omega arith
-    retired q (Going f) = omega arith
-    retired q OnSwap = omega arith
-
-    by : (q : Page) (d : Bool) → length (sweep_by p locked q d).transfers ≤ length p.transfers + 1
-    by q true =
-        let a = launch_all_length (pages_of_run q (run_out p locked q)) (begin p Writes) (begin_open p.transfers Writes) in
-        let b = length_push p.transfers (record { errand = Writes; parts = [] }) in
-        omega arith
-    by q false = retired q (state_of p q)
-
-    to : (q : Page) (s : PageState) (n : ℕ) (b : Bool) → length (sweep_to p locked q s n b).transfers ≤ length p.transfers + 1
-    to q (Invalid f) zero false = by q (is_dirty p q)
-    to q (Invalid f) zero true = omega arith
-    to q (Invalid f) (suc n) b = omega arith
-    to q Unfilled n b = omega arith
-    to q (Valid f) n b = omega arith
-    to q (Coming f) n b = omega arith
-    to q (Going f) n b = omega arith
-    to q OnSwap n b = omega arith
-
-    go : (h : Option Page) → length (sweep_of p locked p.back h).transfers ≤ length p.transfers + 1
-    go None = omega arith
-    go (Some q) = to q (state_of p q) (times p.back p.free) (is_among q locked)
-
-done_length : (p : Placement) (t : Transfer) (ts : List Transfer) → p.transfers ≡ t ∷ ts → (done p).transfers ≡ ts
-done_length p t ts e = ap (λ (us : List Transfer). (done_of p us).transfers) e ∙ land_all_transfers t.parts p t.errand ts
+pub done_rest : (p : Placement) (t : Transfer) (ts : List Transfer) → p.transfers ≡ t ∷ ts → (done p).transfers ≡ ts
+done_rest p t ts e = ap (λ (us : List Transfer). (done_of p us).transfers) e ∙ land_all_rest t.parts p t.errand ts
 
 force_length : (p : Placement) (locked : List Page) → length (force p locked).transfers ≤ length p.transfers + 1
 force_length p locked = go p.transfers refl
   where
     go : (ts : List Transfer) → p.transfers ≡ ts → length (force_by p locked ts).transfers ≤ length p.transfers + 1
-    go [] e = let a = sweep_length (expire p locked) locked in let b = ap length (expire_transfers p locked) in omega arith
-    go (t ∷ ts) e = let a = ap length (done_length p t ts e) in let b = ap length e in omega arith
+    go [] e = let a = sweep_count (expire p locked) locked in let b = ap length (expire_transfers p locked) in omega arith
+    go (t ∷ ts) e = let a = ap length (done_rest p t ts e) in let b = ap length e in omega arith
 
 -- a page in flight lands, or stays as it is
 abbrev pub Landed : PageState → Type 0
@@ -421,7 +358,7 @@ done_rank p locked q there n is = go p.transfers refl
     go [] e = absurd (n e)
     go (t ∷ ts) e = elim (land_all_lands t.parts p t.errand ts q (state_of p q) there (inl refl)) [
       | inl h ↦ subst (λ (s : PageState). rank_by (land_all p t.errand t.parts ts) locked (filling_of (land_all p t.errand t.parts ts) q) s < 2 + length (t ∷ ts)) (sym h)
-          (let a = is (land_all p t.errand t.parts ts) (filling_of (land_all p t.errand t.parts ts) q) in let b = ap length (land_all_transfers t.parts p t.errand ts) in omega arith)
+          (let a = is (land_all p t.errand t.parts ts) (filling_of (land_all p t.errand t.parts ts) q) in let b = ap length (land_all_rest t.parts p t.errand ts) in omega arith)
       | inr h ↦ let a = landed_rank (land_all p t.errand t.parts ts) locked (filling_of (land_all p t.errand t.parts ts) q) (state_of (land_all p t.errand t.parts ts) q) h in omega arith
     ]
 
@@ -477,7 +414,7 @@ serve_falls p locked q o h r there nv = go (state_of p q) refl nv
       where
         less : (ts : List Transfer) → p.transfers ≡ ts → 0 < length p.transfers → length (done p).transfers < length p.transfers
         less [] t c = absurd (let z = ap length t in omega arith)
-        less (t ∷ ts) k c = let a = ap length (done_length p t ts k) in let b = ap length k in omega arith
+        less (t ∷ ts) k c = let a = ap length (done_rest p t ts k) in let b = ap length k in omega arith
     read s x f fs false e fl fr full is =
         let c : CanEnter p q = record { there = there; frameless = ap frame_of e ∙ fl } in
         let k = coming_rank (read_step p q) locked (filling_of (read_step p q) q) (state_of (read_step p q) q) (read_comes p q o c (let z = ap length fr in omega arith)) in

@@ -11,18 +11,15 @@ use Rattle.page_model.specs.Runs.{pages_of_run, run_in}
 use Rattle.page_model.specs.Place.{filled}
 use Rattle.page_model.specs.Serve.{force, force_entry, read_errand, read_if, bring_by, feed_by, serve_by, serve_step, serve_entry, is_full}
 use Rattle.page_model.specs.Rank.{far, rank, HandsStand, HasRoom, EndsForcing, EndsServing}
-use Rattle.page_model.specs.Conditions.{Spares}
 use Rattle.page_model.specs.Ownership.{OwnsFrames}
-use Rattle.page_laws.proofs.Moves.Stays.{Stays, force_stays, done_steady}
-use Rattle.page_laws.proofs.Blocks.Steps.{SameShape, filled_shape, get_run_shape, reclaim_shape, steady_shape}
+use Rattle.page_laws.proofs.Moves.Stays.{Stays, force_stays}
+use Rattle.page_laws.proofs.Blocks.Steps.{SameShape, shape_by_puts}
+use Rattle.page_laws.proofs.Moves.Puts.{done_kept, get_run_kept, filled_kept, reclaim_kept}
 use Rattle.page_laws.proofs.Ownership.Serve.{force_owner, serve_owner}
-use Rattle.page_laws.proofs.Moves.Locks.{force_spares, serve_spares}
+use Rattle.page_laws.proofs.Moves.Locks.{force_spares, serve_spares, spares_both}
 use Rattle.page_laws.proofs.Ends.Serving.{force_falls, serve_falls}
 use Rattle.page_laws.proofs.Ends.Hands.{force_stands, force_frames, serve_stands, serve_frames, room_still}
 use Rattle.page_laws.proofs.Moves.Units.{now_unit}
-
-spares_both : (p q r : Placement) (locked : List Page) → Spares p q locked → Spares q r locked → Spares p r locked
-spares_both p q r locked s t = λ w i v. t w i (s w i v)
 
 -- Forcing.
 
@@ -70,14 +67,14 @@ serve_shape : (p : Placement) (locked : List Page) (q : Page) → OwnsFrames p �
 serve_shape p locked q o = go (state_of p q)
   where
     finish : SameShape p (done p)
-    finish = steady_shape p (done p) (done_steady p o)
+    finish = done_kept shape_by_puts p
 
     read : (full : Bool) → SameShape p (read_if p q full)
     read true = finish
-    read false = get_run_shape p (read_errand p q) (pages_of_run q (run_in p q))
+    read false = get_run_kept shape_by_puts p (read_errand p q) (pages_of_run q (run_in p q))
 
     zeros : SameShape p (bring_by p q Unfilled Zeros true)
-    zeros = let s : SameShape p (filled p q) = filled_shape p q in record { sizes = s.sizes; sharing = s.sharing }
+    zeros = let s : SameShape p (filled p q) = filled_kept shape_by_puts p q in record { sizes = s.sizes; sharing = s.sharing }
 
     bring : (s : PageState) (x : Filling) (full : Bool) → SameShape p (bring_by p q s x full)
     bring Unfilled Zeros full = zeros
@@ -94,7 +91,7 @@ serve_shape p locked q o = go (state_of p q)
 
     go : (s : PageState) → SameShape p (serve_by p locked q s)
     go (Valid f) = record { sizes = λ w. refl; sharing = λ i. refl }
-    go (Invalid f) = reclaim_shape p q
+    go (Invalid f) = reclaim_kept shape_by_puts p q
     go (Coming f) = finish
     go (Going f) = finish
     go Unfilled = feed Unfilled (filling_of p q) p.free (is_full p)

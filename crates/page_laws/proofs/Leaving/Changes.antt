@@ -1,7 +1,8 @@
 -- Which pages lose their frames by a change of a process.
 use Rattle.std.proofs.Common.{◌≡◌, ◌≢◌, ◌⊎◌, inl, inr, ℕ, zero, suc, ◌-◌, ◌<◌, ◌≤◌, ◌==◌, Bool, true, false, List, [], ◌∷◌, ◌++◌, get_or, map, Option, Some, None, refl, sym, ap, ◌∙◌, subst, arith}
-use Rattle.std.proofs.lemmas.Bool.{cases_eq}
+use Rattle.std.proofs.lemmas.Bool.{cases_eq, eq-eqb}
 use Rattle.std.proofs.lemmas.Bool.Decides.{nat_tests}
+use Rattle.vm_facts.proofs.Tests.{cases_le}
 use Rattle.vm_facts.specs.declared.page.Page.{Page}
 use Rattle.vm_facts.specs.declared.page.Page.TheVariants.{Data, Stack, Text}
 use Rattle.vm_facts.specs.declared.page.PageState.{PageState}
@@ -14,7 +15,7 @@ use Rattle.page_model.specs.Moves.{drop_all, touch, touch_all, turn, listed, lea
 use Rattle.page_model.specs.Place.{cut_space, resize, data_count, stack_count, data_from, stack_from, child_slot, fork_space, facts_numbered}
 use Rattle.page_model.specs.Place.{remove_space, pages_of_space, pages_of_text, leave_text, leave_text_by, give_up, give_up_unless, enter_image, place_change}
 use Rattle.page_model.specs.Conditions.{EachPage, IsNew}
-use Rattle.page_model.specs.Swapper.{is_of_space}
+use Rattle.vm_facts.specs.Pages.{is_of_space}
 use Rattle.page_laws.specs.Leaving.{IsCutOff, IsGivenUp}
 use Rattle.page_laws.proofs.Lists.Pages.{mapped, changed_same, changed_other, page_cases, put_state}
 use Rattle.page_laws.proofs.Lists.Runs.{each_page_append, pages_from_each}
@@ -40,19 +41,16 @@ touch_all_steady (q ∷ qs) p = steady_both p (touch p q) (touch_all (touch p q)
 
 -- Other sizes.
 
-le_or : (a b : ℕ) → (a ≤ b) ⊎ (b < a)
-le_or a b = grind arith
-
 pub cut_or : (sid d s : ℕ) (w : Page) → IsCutOff sid d s w ⊎ (IsCutOff sid d s w → ⊥)
 cut_or sid d s (Data t v) = elim (cases_eq t sid) [
-  | inl e ↦ elim (le_or d v) [
+  | inl e ↦ elim (cases_le d v) [
     | inl l ↦ inl (e, l)
     | inr l ↦ inr (λ k. absurd (let m = k.1 in omega arith))
   ]
   | inr n ↦ inr (λ k. n k.0)
 ]
 cut_or sid d s (Stack t v) = elim (cases_eq t sid) [
-  | inl e ↦ elim (le_or s v) [
+  | inl e ↦ elim (cases_le s v) [
     | inl l ↦ inl (e, l)
     | inr l ↦ inr (λ k. absurd (let m = k.1 in omega arith))
   ]
@@ -96,7 +94,7 @@ cut_alike p sid d s (Data t v) k = elim (cases_eq t sid) [
 ]
   where
     below : t ≡ sid → v < d
-    below e = elim (le_or d v) [
+    below e = elim (cases_le d v) [
       | inl l ↦ absurd (k (e, l))
       | inr l ↦ l
     ]
@@ -108,7 +106,7 @@ cut_alike p sid d s (Stack t v) k = elim (cases_eq t sid) [
 ]
   where
     below : t ≡ sid → v < s
-    below e = elim (le_or s v) [
+    below e = elim (cases_le s v) [
       | inl l ↦ absurd (k (e, l))
       | inr l ↦ l
     ]
@@ -172,9 +170,6 @@ leave_text_frame p image w = go (sharers p image)
     go zero = leave_all_frame (pages_of_text p image) p w
     go (suc n) = refl
 
-pub equal_is : (a b : ℕ) → a ≡ b → (a == b) ≡ true
-equal_is a b e = grind (arith, nat_tests)
-
 removed_frame : (p : Placement) (sid : ℕ) (w : Page) → is_of_space sid w ≡ true → page_frame (remove_space p sid) w ≡ None
 removed_frame p sid (Data t v) e = ap (λ (x : ℕ). frame_of (get_or (data_in (numbered space_number x (remove_space p sid).spaces)) v no_slot).state) (is_equal t sid e)
     ∙ ap (λ (o : Option SpacePages). frame_of (get_or (data_in o) v no_slot).state) (removed_same sid p.spaces)
@@ -204,11 +199,11 @@ give_up_frame p sid w = go w
 
     go : (x : Page) → StaysOrGoes p (give_up p sid) x (is_of_space sid x ≡ true)
     go (Data t v) = elim (cases_eq t sid) [
-      | inl e ↦ inr (gone (Data t v) (equal_is t sid e), equal_is t sid e)
+      | inl e ↦ inr (gone (Data t v) (eq-eqb t sid e), eq-eqb t sid e)
       | inr n ↦ inl (slot_frame p (give_up p sid) (Data t v) (give_up_slot p sid (Data t v) tt n))
     ]
     go (Stack t v) = elim (cases_eq t sid) [
-      | inl e ↦ inr (gone (Stack t v) (equal_is t sid e), equal_is t sid e)
+      | inl e ↦ inr (gone (Stack t v) (eq-eqb t sid e), eq-eqb t sid e)
       | inr n ↦ inl (slot_frame p (give_up p sid) (Stack t v) (give_up_slot p sid (Stack t v) tt n))
     ]
     go (Text image v) = inl (leave_text_frame (remove_space d sid) (image_of p sid) (Text image v)

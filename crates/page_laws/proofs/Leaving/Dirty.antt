@@ -1,6 +1,6 @@
 -- Dirty pages stay dirty in their frames through a change of a process, unless it gives them up.
 use Rattle.std.proofs.Common.{◌≡◌, ◌⊎◌, inl, inr, ℕ, Bool, true, false, List, [], ◌∷◌, map, Option, Some, None, refl, ap, ◌∙◌}
-use Rattle.std.proofs.lemmas.Bool.{cases_eq}
+use Rattle.std.proofs.lemmas.Bool.{cases_eq, eq-eqb}
 use Rattle.vm_facts.specs.declared.page.Page.{Page}
 use Rattle.vm_facts.specs.declared.page.Page.TheVariants.{Data, Stack, Text}
 use Rattle.vm_facts.specs.declared.page.PageState.{PageState}
@@ -13,7 +13,7 @@ use Rattle.page_model.specs.Moves.{drop_all, touch, touch_to, touch_all}
 use Rattle.page_model.specs.Place.{resize, child_slot, fork_space, give_up, give_up_unless, enter_image, place_change, facts_numbered}
 use Rattle.page_model.specs.Conditions.{IsNew}
 use Rattle.page_model.specs.Ownership.{is_marked_dirty}
-use Rattle.page_model.specs.Swapper.{is_of_space}
+use Rattle.vm_facts.specs.Pages.{is_of_space}
 use Rattle.page_laws.specs.Leaving.{IsGivenUp, IsCutOff, IsDirtyIn}
 use Rattle.page_laws.proofs.Lists.Pages.{page_cases, put_mark, put_other}
 use Rattle.page_laws.proofs.Moves.Steps.{page_in}
@@ -22,7 +22,7 @@ use Rattle.page_laws.proofs.Ownership.Changes.{Alike, dropped_pages, add_alike, 
 use Rattle.page_laws.proofs.Ownership.Spaces.{drop_all_other}
 use Rattle.page_laws.proofs.Bytes.Others.{touch_steady}
 use Rattle.page_laws.proofs.Due.Changes.{give_up_slot}
-use Rattle.page_laws.proofs.Leaving.Changes.{cut_or, cut_alike, not_dropped, equal_is}
+use Rattle.page_laws.proofs.Leaving.Changes.{cut_or, cut_alike, not_dropped}
 use Rattle.aout_image.specs.declared.Image.{Image}
 
 alike_dirty : (p r : Placement) (w : Page) (f : ℕ) → Alike (slot_of r w) (slot_of p w) → IsDirtyIn p w f → IsDirtyIn r w f
@@ -76,11 +76,11 @@ resize_dirty p sid d s w f h = elim (cut_or sid d s w) [
 
 give_up_dirty : (p : Placement) (sid : ℕ) (w : Page) (f : ℕ) → IsDirtyIn p w f → IsDirtyIn (give_up p sid) w f ⊎ (is_of_space sid w ≡ true)
 give_up_dirty p sid (Data t v) f h = elim (cases_eq t sid) [
-  | inl e ↦ inr (equal_is t sid e)
+  | inl e ↦ inr (eq-eqb t sid e)
   | inr n ↦ inl (slot_dirty p (give_up p sid) (Data t v) f (give_up_slot p sid (Data t v) tt n) h)
 ]
 give_up_dirty p sid (Stack t v) f h = elim (cases_eq t sid) [
-  | inl e ↦ inr (equal_is t sid e)
+  | inl e ↦ inr (eq-eqb t sid e)
   | inr n ↦ inl (slot_dirty p (give_up p sid) (Stack t v) f (give_up_slot p sid (Stack t v) tt n) h)
 ]
 give_up_dirty p sid (Text image v) f h = absurd (let k = h.dirty in cc)

@@ -1,5 +1,5 @@
 -- Which pages lose their frames by a paging entry.
-use Rattle.std.proofs.Common.{◌≡◌, ◌≢◌, ◌⊎◌, inl, inr, ℕ, zero, suc, ◌+◌, ◌<◌, Bool, true, List, [], ◌∷◌, Option, Some, None, refl, sym, ap, ◌∙◌, subst, arith}
+use Rattle.std.proofs.Common.{◌≡◌, ◌≢◌, ◌⊎◌, inl, inr, ℕ, zero, suc, ◌<◌, Bool, true, List, [], ◌∷◌, Option, Some, None, refl, sym, ap, ◌∙◌, subst, arith}
 use Rattle.std.proofs.lemmas.Bool.{cases_eq}
 use Rattle.vm_facts.specs.declared.page.Page.{Page}
 use Rattle.vm_facts.specs.declared.page.PageState.{PageState}
@@ -8,7 +8,7 @@ use Rattle.vm_facts.specs.declared.entry.Entry.{Entry}
 use Rattle.vm_facts.specs.declared.entry.Entry.TheVariants as entries
 use Rattle.flat_state.specs.PageNames.{number_of, pages_from}
 use Rattle.page_model.specs.Pages.{Slot, frame_of, left_state}
-use Rattle.page_model.specs.Frames.{times, without}
+use Rattle.vm_facts.specs.Lists.{times, without}
 use Rattle.page_model.specs.Placement.{Placement, Reads, Source, slot_of, state_of, mark_of, page_of}
 use Rattle.page_model.specs.Moves.{evict, evict_at, fill, fill_at, begin, get_one, get_at, get_all, done, reclaim}
 use Rattle.page_model.specs.Hands.{hand_move, hand_moves}
@@ -17,8 +17,10 @@ use Rattle.page_model.specs.Serve.{source_for, read_errand}
 use Rattle.page_model.specs.Conditions.{EachPage, AllApart, CanEnter, CanPlace}
 use Rattle.page_model.specs.Ownership.{OwnsFrames, IsListed, is_marked_dirty}
 use Rattle.page_laws.specs.Leaving.{IsTaken, takes_frames}
-use Rattle.page_laws.proofs.Lists.Frames.{times_head, times_without, times_without_other}
-use Rattle.page_laws.proofs.Lists.Local.{some_is, none_some}
+use Rattle.vm_facts.proofs.Lists.{times-without_same, times-without_other}
+use Rattle.page_laws.proofs.Lists.Local.{none_some}
+use Rattle.std.proofs.lemmas.Option.{same_Some}
+use Rattle.page_laws.proofs.Lists.Frames.{some_free}
 use Rattle.page_laws.proofs.Lists.Pages.{page_cases, put_state, put_other}
 use Rattle.page_laws.proofs.Lists.Parts.{IsOpen, begin_open}
 use Rattle.page_laws.proofs.Lists.Runs.{each_page_imp, each_page_both, pages_from_apart}
@@ -27,9 +29,6 @@ use Rattle.page_laws.proofs.Moves.Stays.{Steady, Stays, move_stays, done_steady}
 use Rattle.page_laws.proofs.Ownership.Pages.{get_owner}
 use Rattle.page_laws.proofs.Ownership.Runs.{begin_owner, get_enters_still, get_open_still}
 use Rattle.page_laws.proofs.Bytes.Others.{put_steady, reclaim_steady}
-
-pub first_free : (p : Placement) (f : ℕ) (rest : List ℕ) → p.free ≡ f ∷ rest → 0 < times f p.free
-first_free p f rest e = let h : times f p.free ≡ 1 + times f rest = ap (times f) e ∙ times_head f rest in omega arith
 
 -- a page that enters isn't one that has a frame
 pub enters_other : (p : Placement) (v w : Page) (f : ℕ) → CanEnter p v → frame_of (state_of p w) ≡ Some f → w ≢ v
@@ -47,7 +46,7 @@ evict_kept p g w f o l e = go (page_of p g) refl
     go (Some v) h = elim (page_cases w v) [
       | inl s ↦ (
           let at : page_of p g ≡ Some w = h ∙ ap (λ (x : Page). Some x) (sym s) in
-          let same : f ≡ g = some_is f g (sym e ∙ o.named g w at) in
+          let same : f ≡ g = same_Some f g (sym e ∙ o.named g w at) in
           let k : IsListed p g w = o.listed g w l at in
           inr (record {
             state = k.state ∙ ap Invalid (sym same);
@@ -69,7 +68,7 @@ fill_kept p v w f o c e = go p.free refl
     go [] h = inl refl
     go (g ∷ rest) h =
         let n : slot_of (fill_at p v (g ∷ rest)) w ≡ slot_of (evict p g) w = put_other (evict p g) v (Valid g) true w (enters_other p v w f c e) in
-        elim (evict_kept p g w f o (first_free p g rest h) e) [
+        elim (evict_kept p g w f o (some_free p g rest h) e) [
           | inl k ↦ inl (n ∙ k)
           | inr k ↦ inr (later p (evict p g) (fill_at p v (g ∷ rest)) w f n k)
         ]
@@ -84,7 +83,7 @@ get_kept p source demanded v w f o c e = go p.free refl
     go [] h = inl refl
     go (g ∷ rest) h =
         let n : slot_of (get_at p (Reads source demanded) v (g ∷ rest)) w ≡ slot_of (evict p g) w = put_other (evict p g) v (Coming g) (mark_of p v) w (enters_other p v w f c e) in
-        elim (evict_kept p g w f o (first_free p g rest h) e) [
+        elim (evict_kept p g w f o (some_free p g rest h) e) [
           | inl k ↦ inl (n ∙ k)
           | inr k ↦ inr (later p (evict p g) (get_at p (Reads source demanded) v (g ∷ rest)) w f n k)
         ]
@@ -100,8 +99,8 @@ get_frameless p source demanded v w o n e = go p.free
 -- what is free behind it was free before
 without_some : (f g : ℕ) (xs : List ℕ) → 0 < times f (without g xs) → 0 < times f xs
 without_some f g xs l = elim (cases_eq f g) [
-  | inl e ↦ absurd (let z = times_without g xs in let k : times f (without g xs) ≡ times g (without g xs) = ap (λ (x : ℕ). times x (without g xs)) e in omega arith)
-  | inr n ↦ (let k = times_without_other g f xs n in omega arith)
+  | inl e ↦ absurd (let z = times-without_same g xs in let k : times f (without g xs) ≡ times g (without g xs) = ap (λ (x : ℕ). times x (without g xs)) e in omega arith)
+  | inr n ↦ (let k = times-without_other g f xs n in omega arith)
 ]
 
 get_some : (p : Placement) (source : Source) (demanded v : Page) (f : ℕ) → 0 < times f (get_one p (Reads source demanded) v).free → 0 < times f p.free

@@ -9,7 +9,7 @@ use Rattle.vm_facts.specs.declared.entry.Entry.{Entry}
 use Rattle.vm_facts.specs.declared.entry.Entry.TheVariants as entries
 use Rattle.flat_state.specs.PageNames.{number_of, pages_from, is_among, same_page}
 use Rattle.page_model.specs.Pages.{Slot, frame_of, is_dirty_by, left_state, written_mark}
-use Rattle.page_model.specs.Frames.{times, without}
+use Rattle.vm_facts.specs.Lists.{times, without}
 use Rattle.page_model.specs.Placement.{Placement, Transfer, Part, Errand, Writes, Reads, Source, moving_state, slot_of, state_of, mark_of, is_dirty, page_of, parts_of}
 use Rattle.page_model.specs.Moves.{evict, evict_at, fill, fill_at, begin, get_one, get_at, get_all, turn, join_last, launch, launch_to}
 use Rattle.page_model.specs.Moves.{launch_all, launch_run, land, land_read, land_all, arrived_mark, done, done_of, reclaim, reclaim_to, retire, retire_to}
@@ -20,14 +20,15 @@ use Rattle.page_model.specs.Serve.{source_for, read_errand}
 use Rattle.page_model.specs.Conditions.{EachPage, CanPlace}
 use Rattle.page_model.specs.Ownership.{OwnsFrames, IsListed, seats}
 use Rattle.page_laws.specs.Leaving.{IsUnwritten, IsWritten}
-use Rattle.page_laws.proofs.Lists.Frames.{times-append, times_one_other, times_without, times_without_other}
-use Rattle.page_laws.proofs.Lists.Local.{some_is}
+use Rattle.page_laws.proofs.Lists.Frames.{times_one_other, some_free}
+use Rattle.vm_facts.proofs.Lists.{times-append, times-without_same, times-without_other}
+use Rattle.std.proofs.lemmas.Option.{same_Some}
 use Rattle.page_laws.proofs.Lists.Pages.{page_cases, put_state, put_mark, put_other}
 use Rattle.page_laws.proofs.Moves.Steps.{page_in, once_at}
 use Rattle.page_laws.proofs.Ownership.Pages.{expire_owner}
 use Rattle.page_laws.proofs.Ownership.Hands.{move_owner}
 use Rattle.page_laws.proofs.Ownership.Runs.{Landing, landing_state, landing_frame, land_owner, land_transfers}
-use Rattle.page_laws.proofs.Leaving.Entries.{CanReadAll, reads_on, reading, first_free, enters_other, entering_others}
+use Rattle.page_laws.proofs.Leaving.Entries.{CanReadAll, reads_on, reading, enters_other, entering_others}
 
 pub held_frame : (p : Placement) (w : Page) (f : ℕ) → IsUnwritten p w f → frame_of (state_of p w) ≡ Some f
 held_frame p w f u = elim u.held [
@@ -83,15 +84,15 @@ evict_held p g w f o l u = go (page_of p g) refl
     go (Some v) h = elim (page_cases w v) [
       | inl s ↦ absurd (
           let at : page_of p g ≡ Some w = h ∙ ap (λ (x : Page). Some x) (sym s) in
-          let same : g ≡ f = some_is g f (sym (o.named g w at) ∙ held_frame p w f u) in
+          let same : g ≡ f = same_Some g f (sym (o.named g w at) ∙ held_frame p w f u) in
           not_listed p w f o u (subst (λ (x : ℕ). 0 < times x p.free) same l))
       | inr n ↦ ap (λ (x : Option Page). slot_of (evict_at p g x) w) h ∙ put_other p v (left_state v (mark_of p v)) (mark_of p v) w n
     ]
 
 without_none : (f g : ℕ) (xs : List ℕ) → times f xs ≡ 0 → times f (without g xs) ≡ 0
 without_none f g xs z = elim (cases_eq f g) [
-  | inl e ↦ ap (λ (x : ℕ). times x (without g xs)) e ∙ times_without g xs
-  | inr n ↦ times_without_other g f xs n ∙ z
+  | inl e ↦ ap (λ (x : ℕ). times x (without g xs)) e ∙ times-without_same g xs
+  | inr n ↦ times-without_other g f xs n ∙ z
 ]
 
 tail_none : (f g : ℕ) (xs : List ℕ) → f ≢ g → times f xs ≡ 0 → times f (xs ++ g ∷ []) ≡ 0
@@ -102,7 +103,7 @@ fill_held p v w f o n u = go p.free refl
   where
     go : (fr : List ℕ) → p.free ≡ fr → IsUnwritten (fill_at p v fr) w f
     go [] h = u
-    go (g ∷ rest) h = still p (fill_at p v (g ∷ rest)) w f (put_other (evict p g) v (Valid g) true w n ∙ evict_held p g w f o (first_free p g rest h) u)
+    go (g ∷ rest) h = still p (fill_at p v (g ∷ rest)) w f (put_other (evict p g) v (Valid g) true w n ∙ evict_held p g w f o (some_free p g rest h) u)
         (λ z. without_none f g (evict p g).free (ap (times f) (evict_free p g) ∙ z)) u
 
 get_held : (p : Placement) (e : Errand) (v w : Page) (f : ℕ) → OwnsFrames p → w ≢ v → IsUnwritten p w f → IsUnwritten (get_one p e v) w f
@@ -110,7 +111,7 @@ get_held p e v w f o n u = go p.free refl
   where
     go : (fr : List ℕ) → p.free ≡ fr → IsUnwritten (get_at p e v fr) w f
     go [] h = u
-    go (g ∷ rest) h = still p (get_at p e v (g ∷ rest)) w f (put_other (evict p g) v (Coming g) (mark_of p v) w n ∙ evict_held p g w f o (first_free p g rest h) u)
+    go (g ∷ rest) h = still p (get_at p e v (g ∷ rest)) w f (put_other (evict p g) v (Coming g) (mark_of p v) w n ∙ evict_held p g w f o (some_free p g rest h) u)
         (λ z. without_none f g (evict p g).free (ap (times f) (evict_free p g) ∙ z)) u
 
 get_all_held : (qs : List Page) (p : Placement) (source : Source) (demanded w : Page) (f : ℕ) → CanReadAll qs p source demanded → EachPage (λ r. w ≢ r) qs → IsUnwritten p w f → IsUnwritten (get_all p (Reads source demanded) qs) w f
@@ -122,7 +123,7 @@ get_all_held (v ∷ qs) p source demanded w f r n u =
 
 -- another page has another frame
 other_frame : (p : Placement) (v w : Page) (g f : ℕ) → OwnsFrames p → w ≢ v → frame_of (state_of p v) ≡ Some g → frame_of (state_of p w) ≡ Some f → f ≢ g
-other_frame p v w g f o n e h s = n (some_is w v (sym (o.names w f h) ∙ ap (page_of p) s ∙ o.names v g e))
+other_frame p v w g f o n e h s = n (same_Some w v (sym (o.names w f h) ∙ ap (page_of p) s ∙ o.names v g e))
 
 reclaim_held : (p : Placement) (v w : Page) (f : ℕ) → IsUnwritten p w f → IsUnwritten (reclaim p v) w f
 reclaim_held p v w f u = go (state_of p v) refl
@@ -130,7 +131,7 @@ reclaim_held p v w f u = go (state_of p v) refl
     own : (g : ℕ) → state_of p v ≡ Invalid g → w ≡ v → IsUnwritten (reclaim_to p v (Invalid g)) w f
     own g e s =
         let there = page_in p v g (ap frame_of e) in
-        let same : g ≡ f = some_is g f (sym (ap frame_of e) ∙ ap (λ (x : Page). frame_of (state_of p x)) (sym s) ∙ held_frame p w f u) in
+        let same : g ≡ f = same_Some g f (sym (ap frame_of e) ∙ ap (λ (x : Page). frame_of (state_of p x)) (sym s) ∙ held_frame p w f u) in
         record {
           dirty = subst (λ (x : Page). is_dirty (reclaim_to p v (Invalid g)) x ≡ true) (sym s) (ap (is_dirty_by v) (put_mark p v (Valid g) (mark_of p v) there) ∙ subst (λ (x : Page). is_dirty p x ≡ true) s u.dirty);
           held = inl (ap (state_of (reclaim_to p v (Invalid g))) s ∙ put_state p v (Valid g) (mark_of p v) there ∙ ap Valid same);
@@ -153,7 +154,7 @@ expire_held p locked w f o u = of (page_of p p.front)
     own : (v : Page) (g : ℕ) → state_of p v ≡ Valid g → w ≡ v → IsUnwritten (expire_to p v (Valid g)) w f
     own v g e s =
         let there = page_in p v g (ap frame_of e) in
-        let same : g ≡ f = some_is g f (sym (ap frame_of e) ∙ ap (λ (x : Page). frame_of (state_of p x)) (sym s) ∙ held_frame p w f u) in
+        let same : g ≡ f = same_Some g f (sym (ap frame_of e) ∙ ap (λ (x : Page). frame_of (state_of p x)) (sym s) ∙ held_frame p w f u) in
         let once = once_at p v g o (ap frame_of e) in
         let one : seats (times g p.free) (state_of p v) ≡ 1 = ap (seats (times g p.free)) e in
         let off : times g p.free ≡ 0 = omega arith in
@@ -206,7 +207,7 @@ launch_held p v w f u = go (state_of p v) refl
     goes : (g : ℕ) (ts : List Transfer) → frame_of (state_of p v) ≡ Some g → w ≡ v → IsUnwritten (turn p v (Going g) (mark_of p v) p.free ts) w f
     goes g ts e s =
         let there = page_in p v g e in
-        let same : g ≡ f = some_is g f (sym e ∙ ap (λ (x : Page). frame_of (state_of p x)) (sym s) ∙ held_frame p w f u) in
+        let same : g ≡ f = same_Some g f (sym e ∙ ap (λ (x : Page). frame_of (state_of p x)) (sym s) ∙ held_frame p w f u) in
         record {
           dirty = subst (λ (x : Page). is_dirty (turn p v (Going g) (mark_of p v) p.free ts) x ≡ true) (sym s) (ap (is_dirty_by v) (put_mark p v (Going g) (mark_of p v) there) ∙ subst (λ (x : Page). is_dirty p x ≡ true) s u.dirty);
           held = inr (inr (ap (state_of (turn p v (Going g) (mark_of p v) p.free ts)) s ∙ put_state p v (Going g) (mark_of p v) there ∙ ap Going same));
@@ -277,7 +278,7 @@ record IsClean (p : Placement) (w : Page) (f : ℕ) : Type 0 where
   state : state_of p w ≡ Invalid f
   clean : is_dirty p w ≡ false
 
-written_clean : (v : Page) → is_dirty_by v (written_mark v) ≡ false
+pub written_clean : (v : Page) → is_dirty_by v (written_mark v) ≡ false
 written_clean (Data sid v) = refl
 written_clean (Stack sid v) = refl
 written_clean (Text image v) = refl
@@ -311,7 +312,7 @@ land_own : (p : Placement) (e : Errand) (x : Part) (rest : List Transfer) (w : P
 land_own p (Reads source demanded) x rest w f o l s u = absurd (not_coming p w f x.frame u (ap (state_of p) s ∙ landing_state p (Reads source demanded) x rest o l))
 land_own p Writes x rest w f o l s u =
     let is : state_of p w ≡ Going x.frame = ap (state_of p) s ∙ landing_state p Writes x rest o l in
-    let same : x.frame ≡ f = some_is x.frame f (sym (ap frame_of is) ∙ held_frame p w f u) in
+    let same : x.frame ≡ f = same_Some x.frame f (sym (ap frame_of is) ∙ held_frame p w f u) in
     let there = page_in p x.page x.frame (landing_frame p Writes x rest o l) in (
       is ∙ ap Going same,
       record {

@@ -15,7 +15,8 @@ use Rattle.page_model.specs.Conditions.{IsNew}
 use Rattle.page_model.specs.Ownership.{owner_of}
 use Rattle.page_model.specs.PageBytes.{Bytes, bytes_in, SamePage, SameBytes}
 use Rattle.page_model.specs.Stored.{stored, store_at}
-use Rattle.page_laws.proofs.Lists.Local.{some_is, none_some}
+use Rattle.page_laws.proofs.Lists.Local.{none_some}
+use Rattle.std.proofs.lemmas.Option.{same_Some}
 use Rattle.page_laws.proofs.Blocks.Places.{stored_other}
 use Rattle.page_laws.proofs.Leaving.Changes.{change_frame}
 use Rattle.aout_image.specs.declared.Image.{Image}
@@ -24,7 +25,7 @@ pub change_same : (images : List Image) (p : Placement) (pid sid : ℕ) (borrowe
     → SamePage p (place_change images p pid sid borrowed next_sid at change) b c w
 change_same images p pid sid borrowed next_sid at change b c w n s = record {
   frames = λ f g e k. elim (change_frame images p pid sid borrowed next_sid at change w n) [
-    | inl h ↦ ap (λ (xs : List (List ℕ)). at_frame xs g []) s.frames ∙ ap (bytes_in b) (some_is g f (sym k ∙ h ∙ e))
+    | inl h ↦ ap (λ (xs : List (List ℕ)). at_frame xs g []) s.frames ∙ ap (bytes_in b) (same_Some g f (sym k ∙ h ∙ e))
     | inr h ↦ none_some g (sym h.0 ∙ k)
   ];
   swap = s.swap;
@@ -32,7 +33,7 @@ change_same images p pid sid borrowed next_sid at change b c w n s = record {
 }
 
 pub residence_same : (p : Placement) (pid : ℕ) (out : Bool) (at : ℕ) (b : Bytes) (w : Page) → SamePage p (moved p pid out at) b b w
-residence_same p pid out at b w = record { frames = λ f g e k. ap (bytes_in b) (some_is g f (sym k ∙ e)); swap = refl; start = refl }
+residence_same p pid out at b w = record { frames = λ f g e k. ap (bytes_in b) (same_Some g f (sym k ∙ e)); swap = refl; start = refl }
 
 -- what is written of a process that goes out isn't a page's
 pub out_same : (size : ℕ) (hs : Holdings) (image bytes : List ℕ) (pid : ℕ) (w : Page) → IsBook size hs → 512 * size ≤ length image → length bytes ≡ 1024 → stored hs (store_at image (block_in hs (owners.U pid) 0) bytes) w ≡ stored hs image w

@@ -1,9 +1,10 @@
 -- A step that changes one page and one frame.
 use Rattle.std.proofs.Common.{◌≡◌, ◌≢◌, ◌⊎◌, inl, inr, ℕ, ◌+◌, ◌<◌, true, length, Option, Some, None, refl, sym, ap, ◌∙◌, subst, arith}
 use Rattle.std.proofs.lemmas.Bool.{cases_eq}
+use Rattle.std.proofs.lemmas.Option.{same_Some}
 use Rattle.vm_facts.specs.declared.page.Page.{Page}
 use Rattle.page_model.specs.Pages.{Slot, frame_of}
-use Rattle.page_model.specs.Frames.{times}
+use Rattle.vm_facts.specs.Lists.{times}
 use Rattle.page_model.specs.Placement.{Placement, slots_of, slot_of, state_of, mark_of, page_of, IsFrame, parts_of, flying}
 use Rattle.page_model.specs.Ownership.{OwnsFrames, Each, IsMoving, IsListed, is_marked_dirty, may_be_dirty, seats, seated, seated_of}
 use Rattle.page_laws.proofs.Lists.Pages.{page_cases}
@@ -42,9 +43,6 @@ seated_same : (p q : Placement) (g : ℕ) (o : Option Page) → page_of p g ≡ 
 seated_same p q g None a b t s = ap (seated_of q g) b ∙ sym (ap (seated_of p g) a)
 seated_same p q g (Some w) a b t s = ap (seated_of q g) b ∙ ap (λ (n : ℕ). seats n (state_of q w)) t ∙ ap (seats (times g p.free)) (s w refl) ∙ sym (ap (seated_of p g) a)
 
-pub some_is : {A : Type 0} (a b : A) → Some a ≡ Some b → a ≡ b
-some_is a b e = cc
-
 pub none_some : {A : Type 0} {C : Type 0} (a : A) → None ≡ Some a → C
 none_some a e = absurd cc
 
@@ -80,7 +78,7 @@ names_of p q v f o l h w g e = elim (page_cases w v) [
       let e2 : frame_of (state_of q v) ≡ Some g = subst (λ (x : Page). frame_of (state_of q x) ≡ Some g) s e in
       elim h.joined [
         | inl j ↦
-            let a : f ≡ g = some_is f g (sym j.0 ∙ e2) in
+            let a : f ≡ g = same_Some f g (sym j.0 ∙ e2) in
             subst (λ (x : ℕ). page_of q x ≡ Some w) a (subst (λ (x : Page). page_of q f ≡ Some x) (sym s) j.1)
         | inr j ↦ none_some g (sym j.0 ∙ e2)
       ]
@@ -99,7 +97,7 @@ named_of p q v f o l h g w e = elim (cases_eq g f) [
       let e2 : page_of q f ≡ Some w = subst (λ (x : ℕ). page_of q x ≡ Some w) s e in
       elim h.joined [
         | inl j ↦
-            let a : v ≡ w = some_is v w (sym j.1 ∙ e2) in
+            let a : v ≡ w = same_Some v w (sym j.1 ∙ e2) in
             subst (λ (x : Page). frame_of (state_of q x) ≡ Some g) a (subst (λ (x : ℕ). frame_of (state_of q v) ≡ Some x) (sym s) j.0)
         | inr j ↦ none_some w (sym j.1 ∙ e2)
       ]
@@ -115,7 +113,7 @@ listed_of p q v f o l h g w b e = elim (cases_eq g f) [
       let e2 : page_of q f ≡ Some w = subst (λ (x : ℕ). page_of q x ≡ Some w) s e in
       elim h.joined [
         | inl j ↦
-            let a : v ≡ w = some_is v w (sym j.1 ∙ e2) in
+            let a : v ≡ w = same_Some v w (sym j.1 ∙ e2) in
             let b2 : 0 < times f q.free = subst (λ (x : ℕ). 0 < times x q.free) s b in
             subst (λ (x : Page). IsListed q g x) a (subst (λ (x : ℕ). IsListed q x v) (sym s) (h.listed b2 j.1))
         | inr j ↦ none_some w (sym j.1 ∙ e2)

@@ -1,12 +1,12 @@
 -- One page is put, and no other changes.
-use Rattle.std.proofs.Common.{◌≡◌, ◌≢◌, ◌⊎◌, inl, inr, ℕ, zero, suc, ◌+◌, ◌<◌, ◌==◌, ◌&&◌, Bool, true, cond, List, [], ◌∷◌, length, get_or, Option, Some, None, refl, sym, ap, ◌∙◌, subst, arith}
+use Rattle.std.proofs.Common.{◌≡◌, ◌≢◌, ◌⊎◌, inl, inr, ℕ, zero, suc, ◌+◌, ◌<◌, ◌==◌, Bool, cond, List, [], ◌∷◌, length, get_or, Option, Some, None, refl, sym, ap, ◌∙◌, subst, arith}
 use Rattle.std.proofs.lemmas.Bool.{cases_eq}
 use Rattle.std.proofs.lemmas.Bool.Decides.{nat_tests}
 use Rattle.vm_facts.specs.declared.page.Page.{Page}
 use Rattle.vm_facts.specs.declared.page.Page.TheVariants.{Data, Stack, Text}
 use Rattle.vm_facts.specs.declared.page.PageState.{PageState}
 use Rattle.page_model.specs.Pages.{Slot, no_slot, change_slot, filling_behind, SpacePages, TextPages, numbered, changed, data_in, stack_in, text_in, with_data, with_stack, with_text}
-use Rattle.flat_state.specs.PageNames.{number_of, beside, same_page}
+use Rattle.flat_state.specs.PageNames.{number_of, beside}
 use Rattle.page_model.specs.Placement.{Placement, slots_of, slot_of, state_of, mark_of, IsThere, put, space_number, image_number, sharers_in, sharers}
 
 -- Two pages are one, or not.
@@ -37,28 +37,6 @@ page_cases (Stack a v) (Text b w) = inr (λ h. absurd cc)
 page_cases (Text a v) (Data b w) = inr (λ h. absurd cc)
 page_cases (Text a v) (Stack b w) = inr (λ h. absurd cc)
 
-both_same : (a b v w : ℕ) → ((a == b) && (v == w)) ≡ true → (a ≡ b) × (v ≡ w)
-both_same a b v w h = (grind (arith, nat_tests), grind (arith, nat_tests))
-
-pub same_page_is : (q r : Page) → same_page q r ≡ true → q ≡ r
-same_page_is (Data a v) (Data b w) h = let e = both_same a b v w h in ap (λ (x : ℕ). Data x v) e.0 ∙ ap (λ (x : ℕ). Data b x) e.1
-same_page_is (Stack a v) (Stack b w) h = let e = both_same a b v w h in ap (λ (x : ℕ). Stack x v) e.0 ∙ ap (λ (x : ℕ). Stack b x) e.1
-same_page_is (Text a v) (Text b w) h = let e = both_same a b v w h in ap (λ (x : ℕ). Text x v) e.0 ∙ ap (λ (x : ℕ). Text b x) e.1
-same_page_is (Data a v) (Stack b w) h = absurd cc
-same_page_is (Data a v) (Text b w) h = absurd cc
-same_page_is (Stack a v) (Data b w) h = absurd cc
-same_page_is (Stack a v) (Text b w) h = absurd cc
-same_page_is (Text a v) (Data b w) h = absurd cc
-same_page_is (Text a v) (Stack b w) h = absurd cc
-
-both_self : (a v : ℕ) → ((a == a) && (v == v)) ≡ true
-both_self a v = grind (arith, nat_tests)
-
-pub same_page_self : (q : Page) → same_page q q ≡ true
-same_page_self (Data a v) = both_self a v
-same_page_self (Stack a v) = both_self a v
-same_page_self (Text a v) = both_self a v
-
 -- Slots of a segment.
 
 pub change_same : (xs : List Slot) (v : ℕ) (s : PageState) (m : Bool) → v < length xs → get_or (change_slot xs v s m) v no_slot ≡ record { state = s; mark = m; filling = filling_behind s (get_or xs v no_slot).filling }
@@ -84,10 +62,10 @@ abbrev pub mapped : {A : Type 0} → (A → A) → Option A → Option A
 mapped change None = None
 mapped change (Some x) = Some (change x)
 
-numbered_hit : {A : Type 0} (number : A → ℕ) (n : ℕ) (x : A) (xs : List A) → number x ≡ n → numbered number n (x ∷ xs) ≡ Some x
+pub numbered_hit : {A : Type 0} (number : A → ℕ) (n : ℕ) (x : A) (xs : List A) → number x ≡ n → numbered number n (x ∷ xs) ≡ Some x
 numbered_hit number n x xs e = grind (arith, nat_tests)
 
-numbered_miss : {A : Type 0} (number : A → ℕ) (n : ℕ) (x : A) (xs : List A) → number x ≢ n → numbered number n (x ∷ xs) ≡ numbered number n xs
+pub numbered_miss : {A : Type 0} (number : A → ℕ) (n : ℕ) (x : A) (xs : List A) → number x ≢ n → numbered number n (x ∷ xs) ≡ numbered number n xs
 numbered_miss number n x xs e = grind (arith, nat_tests)
 
 changed_hit : {A : Type 0} (number : A → ℕ) (n : ℕ) (change : A → A) (x : A) (xs : List A) → number x ≡ n → changed number n change (x ∷ xs) ≡ change x ∷ xs
@@ -190,7 +168,7 @@ put_at p (Data sid v) s m r = put_at_data p sid v s m r
 put_at p (Stack sid v) s m r = put_at_stack p sid v s m r
 put_at p (Text image v) s m r = put_at_text p image v s m r
 
-beside_self : (q : Page) → beside q (number_of q) ≡ q
+pub beside_self : (q : Page) → beside q (number_of q) ≡ q
 beside_self (Data a v) = refl
 beside_self (Stack a v) = refl
 beside_self (Text a v) = refl

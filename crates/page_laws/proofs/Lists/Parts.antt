@@ -3,11 +3,12 @@ use Rattle.std.proofs.Common.{◌≡◌, ◌≢◌, inl, inr, ℕ, suc, ◌+◌,
 use Rattle.std.proofs.lemmas.Bool.{cases_eq}
 use Rattle.std.proofs.lemmas.Bool.Decides.{nat_tests}
 use Rattle.std.proofs.lemmas.List.{append-nil}
-use Rattle.page_model.specs.Frames.{times}
+use Rattle.vm_facts.specs.Lists.{times}
 use Rattle.page_model.specs.Placement.{Transfer, Part, Errand, Moving, moving, parts_of, flying, errand_at}
 use Rattle.page_model.specs.Moves.{join_last}
 use Rattle.page_model.specs.Ownership.{Each}
-use Rattle.page_laws.proofs.Lists.Frames.{times-append, times_head, flying-append}
+use Rattle.page_laws.proofs.Lists.Frames.{flying-append}
+use Rattle.vm_facts.proofs.Lists.{times-append, times_head}
 
 pub map-append : {A B : Type 0} (f : A → B) (xs ys : List A) → map f (xs ++ ys) ≡ map f xs ++ map f ys
 map-append f [] ys = refl

@@ -1,16 +1,12 @@
 -- The pages of a run: each passes, and no two are one.
-use Rattle.std.proofs.Common.{◌≡◌, ◌≢◌, ◌⊎◌, inl, inr, ℕ, zero, suc, ◌+◌, ◌-◌, ◌<◌, ◌≤◌, ◌&&◌, Bool, true, false, cond, List, [], ◌∷◌, ◌++◌, refl, sym, ap, ◌∙◌, subst, arith}
+use Rattle.std.proofs.Common.{◌≡◌, ◌≢◌, ◌⊎◌, inl, inr, ℕ, zero, suc, ◌+◌, ◌-◌, ◌<◌, ◌≤◌, Bool, true, false, cond, List, [], ◌∷◌, ◌++◌, refl, sym, ap, ◌∙◌, subst, arith}
 use Rattle.std.proofs.lemmas.Bool.{cases_eq}
+use Rattle.page_laws.proofs.Lists.Pages.{beside_self}
 use Rattle.vm_facts.specs.declared.page.Page.{Page}
 use Rattle.vm_facts.specs.declared.page.Page.TheVariants.{Data, Stack, Text}
 use Rattle.flat_state.specs.PageNames.{number_of, beside, pages_from}
 use Rattle.page_model.specs.Runs.{Run, pages_of_run, passing_above, passing_below, run_both, run_up, run_alone}
 use Rattle.page_model.specs.Conditions.{EachPage, AllApart}
-
-pub and_both : (a b : Bool) → (a && b) ≡ true → (a ≡ true) × (b ≡ true)
-and_both true true h = (refl, refl)
-and_both true false h = absurd cc
-and_both false b h = absurd cc
 
 pub each_page_imp : (P Q : Page → Type 0) (qs : List Page) → EachPage P qs → ((q : Page) → P q → Q q) → EachPage Q qs
 each_page_imp P Q [] h k = tt
@@ -32,11 +28,6 @@ pub number_beside : (q : Page) (w : ℕ) → number_of (beside q w) ≡ w
 number_beside (Data sid v) w = refl
 number_beside (Stack sid v) w = refl
 number_beside (Text image v) w = refl
-
-pub beside_number : (q : Page) → beside q (number_of q) ≡ q
-beside_number (Data sid v) = refl
-beside_number (Stack sid v) = refl
-beside_number (Text image v) = refl
 
 pub pages_from_apart : (q : Page) (lo n : ℕ) → AllApart (pages_from q lo n)
 pages_from_apart q lo zero = tt
@@ -73,7 +64,7 @@ below_pass passes zero room w l m = absurd (omega arith)
 below_pass passes (suc v) zero w l m = absurd (omega arith)
 below_pass passes (suc v) (suc room) w l m = below_by passes v room (passes v) refl (below_pass passes v room) w l m
 
-less_by : (b : Bool) (n v : ℕ) → n ≤ v → cond b (1 + n) 0 ≤ suc v
+pub less_by : (b : Bool) (n v : ℕ) → n ≤ v → cond b (1 + n) 0 ≤ suc v
 less_by true n v h = omega arith
 less_by false n v h = omega arith
 
@@ -113,7 +104,7 @@ run_alone_in passes q w l m = inl (omega arith)
 -- what is so of the page and of each that passes is so of the run
 pub run_each : (P : Page → Type 0) (passes : ℕ → Bool) (q : Page) (r : Run) → InRun passes (number_of q) r → P q → ((w : ℕ) → passes w ≡ true → P (beside q w)) → EachPage P (pages_of_run q r)
 run_each P passes q r h here others = pages_from_each P q r.lo r.n (λ w l m. elim (h w l m) [
-  | inl e ↦ subst (λ (x : ℕ). P (beside q x)) (sym e) (subst P (sym (beside_number q)) here)
+  | inl e ↦ subst (λ (x : ℕ). P (beside q x)) (sym e) (subst P (sym (beside_self q)) here)
   | inr e ↦ others w e
 ])
 

@@ -4,14 +4,14 @@ use Rattle.vm_facts.specs.declared.page.Page.{Page}
 use Rattle.vm_facts.specs.declared.page.PageState.{PageState}
 use Rattle.vm_facts.specs.declared.page.PageState.TheVariants.{Unfilled, Valid, Invalid, Coming, Going, OnSwap}
 use Rattle.flat_state.specs.PageNames.{is_among}
-use Rattle.page_model.specs.Frames.{times}
+use Rattle.vm_facts.specs.Lists.{times}
 use Rattle.page_model.specs.Placement.{Placement, state_of, is_dirty, page_of}
 use Rattle.page_model.specs.Moves.{launch_run, retire, retire_to}
 use Rattle.page_model.specs.Runs.{Run, pages_of_run, run_out}
 use Rattle.page_model.specs.Hands.{expire, sweep_by, sweep_to, sweep_of, write_by, write_to, write_of, hand_run, advance, hand_move}
 use Rattle.page_laws.proofs.Moves.Stays.{expire_transfers}
 
-retire_flies : (p : Placement) (q : Page) → (retire p q).transfers ≡ p.transfers
+pub retire_flies : (p : Placement) (q : Page) → (retire p q).transfers ≡ p.transfers
 retire_flies p q = go (state_of p q)
   where
     go : (s : PageState) → (retire_to p q s).transfers ≡ p.transfers

@@ -1,13 +1,14 @@
 -- Where the hands stand, and how far they have to go.
-use Rattle.std.proofs.Common.{◌≡◌, ◌≢◌, ◌⊎◌, inl, inr, ℕ, zero, suc, ◌+◌, ◌-◌, ◌<◌, ◌≤◌, ◌||◌, Bool, true, false, cond, List, [], ◌∷◌, length, refl, sym, ap, ◌∙◌, subst, arith}
+use Rattle.std.proofs.Common.{◌≡◌, ◌≢◌, inl, inr, ℕ, zero, suc, ◌+◌, ◌-◌, ◌<◌, ◌≤◌, ◌||◌, Bool, true, false, cond, List, [], ◌∷◌, length, refl, sym, ap, ◌∙◌, subst, arith}
 use Rattle.std.proofs.lemmas.Bool.{cases_eq}
 use Rattle.std.proofs.lemmas.Bool.Decides.{nat_tests}
+use Rattle.vm_facts.proofs.Tests.{cases_le}
 use Rattle.vm_facts.specs.declared.page.Page.{Page}
 use Rattle.flat_state.specs.PageNames.{same_page, is_among}
 use Rattle.page_model.specs.Frames.{next_frame}
 use Rattle.page_model.specs.Placement.{Placement}
 use Rattle.page_model.specs.Rank.{is_open, is_usable, reach, walk}
-use Rattle.page_laws.proofs.Lists.Pages.{same_page_is}
+use Rattle.flat_state.proofs.PageNames.{same_page_is}
 
 next_more : (n f : ℕ) → f < n → next_frame n f ≡ f + 1
 next_more n f l = grind (arith, nat_tests)
@@ -26,19 +27,16 @@ walk_over n (suc k) f a b l g = elim (cases_eq f n) [
   | inr e ↦ ap (walk n k) (next_more n f (omega arith)) ∙ walk_over n k (f + 1) (omega arith) (omega arith) (omega arith) (omega arith) ∙ (omega arith)
 ]
 
-le_or : (a b : ℕ) → (a ≤ b) ⊎ (b < a)
-le_or a b = grind arith
-
 -- a walk stays among the frames, and meets none twice within n steps
 pub walk_in : (n k f : ℕ) → 0 < f → f ≤ n → k < n → (0 < walk n k f) × (walk n k f ≤ n)
-walk_in n k f a b l = elim (le_or (f + k) n) [
+walk_in n k f a b l = elim (cases_le (f + k) n) [
   | inl h ↦ (let e = walk_up n k f h in (omega arith, omega arith))
   | inr h ↦ (let e = walk_over n k f a b l h in (omega arith, omega arith))
 ]
 
 pub walk_apart : (n i j f : ℕ) → 0 < f → f ≤ n → i < j → j < n → walk n i f ≢ walk n j f
-walk_apart n i j f a b l m e = elim (le_or (f + i) n) [
-  | inl h ↦ elim (le_or (f + j) n) [
+walk_apart n i j f a b l m e = elim (cases_le (f + i) n) [
+  | inl h ↦ elim (cases_le (f + j) n) [
     | inl g ↦ absurd (let x = walk_up n i f h in let y = walk_up n j f g in omega arith)
     | inr g ↦ absurd (let x = walk_up n i f h in let y = walk_over n j f a b m g in omega arith)
   ]

@@ -1,11 +1,11 @@
 -- What is locked and valid stays valid, whatever frame is forced and whatever page is served.
-use Rattle.std.proofs.Common.{◌≡◌, ◌≢◌, inl, inr, ℕ, zero, suc, ◌+◌, ◌<◌, ◌&&◌, Bool, true, false, not, List, [], ◌∷◌, Option, Some, None, refl, sym, ap, ◌∙◌, subst, arith}
+use Rattle.std.proofs.Common.{◌≡◌, ◌≢◌, inl, inr, ℕ, zero, suc, ◌<◌, ◌&&◌, Bool, true, false, not, List, [], ◌∷◌, Option, Some, None, refl, sym, ap, ◌∙◌, subst}
 use Rattle.vm_facts.specs.declared.page.Page.{Page}
 use Rattle.vm_facts.specs.declared.page.PageState.{PageState}
 use Rattle.vm_facts.specs.declared.page.PageState.TheVariants.{Unfilled, Valid, Invalid, Coming, Going, OnSwap}
 use Rattle.page_model.specs.Pages.{Slot, Filling, Zeros, OfImage, frame_of, is_valid, left_state, written_mark}
 use Rattle.flat_state.specs.PageNames.{number_of, beside, is_among, same_page}
-use Rattle.page_model.specs.Frames.{times}
+use Rattle.vm_facts.specs.Lists.{times}
 use Rattle.page_model.specs.Placement.{Placement, Transfer, Part, Errand, Writes, Reads, Source, slot_of, state_of, mark_of, is_dirty, filling_of, page_of, IsThere, moving_state, put}
 use Rattle.page_model.specs.Moves.{evict, evict_at, enter, fill, fill_at, begin, join_last, get_one, get_at, get_all, launch, launch_to, launch_all, land, land_read, land_all, done, done_of, reclaim, reclaim_to, retire_to, arrived_mark}
 use Rattle.page_model.specs.Runs.{run_out, pages_of_run, goes_along, is_idle, is_idle_by, is_near, most_written, run_in}
@@ -18,7 +18,9 @@ use Rattle.page_laws.proofs.Lists.Parts.{IsOpen, begin_open}
 use Rattle.page_laws.proofs.Lists.Local.{none_some}
 use Rattle.page_laws.proofs.Moves.Steps.{put_other_state, evict_other}
 use Rattle.page_laws.proofs.Ownership.Pages.{get_owner}
-use Rattle.page_laws.proofs.Lists.Runs.{and_both, each_page_imp, each_page_both, run_each, run_both_in, run_apart}
+use Rattle.page_laws.proofs.Lists.Runs.{each_page_imp, each_page_both, run_each, run_both_in, run_apart}
+use Rattle.std.proofs.lemmas.Bool.{and_parts}
+use Rattle.page_laws.proofs.Lists.Frames.{some_free}
 use Rattle.page_laws.proofs.Ownership.Runs.{begin_owner, get_enters_still, get_open_still, Landing, landing_state, land_owner, land_transfers}
 use Rattle.page_laws.proofs.Ownership.Serve.{run_in_enters}
 
@@ -54,9 +56,6 @@ evict_spares p f locked o b = go (page_of p f) refl
     go : (h : Option Page) → page_of p f ≡ h → Spares p (evict_at p f h) locked
     go None e = λ w i h. h
     go (Some v) e = let k : IsListed p f v = o.listed f v b e in λ w i h. put_invalid p v (left_state v (mark_of p v)) (mark_of p v) locked (ap is_valid k.state) w i h
-
-some_free : (p : Placement) (f : ℕ) (rest : List ℕ) → p.free ≡ f ∷ rest → 0 < times f p.free
-some_free p f rest e = let h : times f p.free ≡ 1 + times f rest = ap (times f) e ∙ Rattle.page_laws.proofs.Lists.Frames.times_head f rest in omega arith
 
 enter_spares : (p : Placement) (v : Page) (f : ℕ) (s : PageState) (m : Bool) (ts : List Transfer) (locked : List Page) → OwnsFrames p → 0 < times f p.free → frame_of (state_of p v) ≡ None → Spares p (enter (evict p f) v f s m ts) locked
 enter_spares p v f s m ts locked o b n = spares_both p (evict p f) (enter (evict p f) v f s m ts) locked (evict_spares p f locked o b)
@@ -164,7 +163,7 @@ sweep_spares p locked = go (page_of p p.back)
     by q f true e = λ w i h. launch_all_spares (pages_of_run q (run_out p locked q)) (begin p Writes) locked
         (run_each (λ r. is_valid (state_of p r) ≡ false) (λ x. goes_along p locked (beside q x) && is_near q x) q (run_out p locked q)
         (run_both_in (λ x. goes_along p locked (beside q x) && is_near q x) (number_of q) most_written) (ap is_valid e)
-        (λ x k. idle_not p (state_of p (beside q x)) (and_both (is_idle p (beside q x)) (is_dirty p (beside q x) && not (is_among (beside q x) locked)) (and_both (goes_along p locked (beside q x)) (is_near q x) k).0).0))
+        (λ x k. idle_not p (state_of p (beside q x)) (and_parts (is_idle p (beside q x)) (is_dirty p (beside q x) && not (is_among (beside q x) locked)) (and_parts (goes_along p locked (beside q x)) (is_near q x) k).0).0))
         (run_apart q (run_out p locked q)) w i h
     by q f false e = subst (λ (s : PageState). Spares p (retire_to p q s) locked) (sym e) (λ w i h. put_invalid p q (Invalid f) (mark_of p q) locked (ap is_valid e) w i h)
 

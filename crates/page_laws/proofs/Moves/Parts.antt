@@ -9,7 +9,7 @@ use Rattle.vm_facts.specs.declared.entry.Entry.{Entry}
 use Rattle.vm_facts.specs.declared.entry.Entry.TheVariants as entries
 use Rattle.page_model.specs.Pages.{Filling, Zeros, OfImage, frame_of}
 use Rattle.flat_state.specs.PageNames.{is_among, beside, pages_from, number_of}
-use Rattle.page_model.specs.Frames.{times}
+use Rattle.vm_facts.specs.Lists.{times}
 use Rattle.page_model.specs.Placement.{Placement, Transfer, Part, Errand, Writes, state_of, filling_of, is_dirty, page_of}
 use Rattle.page_model.specs.Moves.{fill, fill_at, begin, join_last, get_one, get_at, get_all, get_run, launch, launch_to, launch_all, launch_run, done, done_of, reclaim, reclaim_to, retire, retire_to}
 use Rattle.page_model.specs.Runs.{run_in, run_in_by, run_out, spare_frames}
@@ -18,7 +18,7 @@ use Rattle.page_model.specs.Place.{put_step, put_by, place_entry}
 use Rattle.page_model.specs.Serve.{force, force_by, read_errand, read_if, bring_by, feed_by, serve_by, serve_step, is_full}
 use Rattle.page_model.specs.Conditions.{EachPage, IsSeated, HasSeat, CanPlace, HaveParts, CanBegin}
 use Rattle.page_model.specs.Ownership.{OwnsFrames}
-use Rattle.page_laws.proofs.Lists.Local.{some_is}
+use Rattle.std.proofs.lemmas.Option.{same_Some}
 use Rattle.page_laws.proofs.Ownership.Pages.{expire_owner}
 use Rattle.page_laws.proofs.Ownership.Hands.{run_out_seats, move_owner}
 use Rattle.page_laws.proofs.Moves.Stays.{expire_transfers}
@@ -127,7 +127,7 @@ sweep_parts p locked o a = go (page_of p p.back) refl
 
     seat : (q : Page) (f : ℕ) → page_of p p.back ≡ Some q → state_of p q ≡ Invalid f → times p.back p.free ≡ zero → HasSeat p q
     seat q f h e z =
-        let same : f ≡ p.back = some_is f p.back (sym (ap frame_of e) ∙ o.named p.back q h) in
+        let same : f ≡ p.back = same_Some f p.back (sym (ap frame_of e) ∙ o.named p.back q h) in
         record { frame = f; seat = record { state = inr (e, ap (λ (g : ℕ). times g p.free) same ∙ z) } }
 
     to : (q : Page) (s : PageState) (n : ℕ) (b : Bool) → page_of p p.back ≡ Some q → state_of p q ≡ s → times p.back p.free ≡ n → HaveParts (sweep_to p locked q s n b).transfers

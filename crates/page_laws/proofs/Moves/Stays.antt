@@ -5,7 +5,7 @@ use Rattle.vm_facts.specs.declared.page.PageState.{PageState}
 use Rattle.vm_facts.specs.declared.page.PageState.TheVariants.{Unfilled, Valid, Invalid, Coming, Going, OnSwap}
 use Rattle.page_model.specs.Pages.{frame_of, written_mark}
 use Rattle.flat_state.specs.PageNames.{is_among, same_page}
-use Rattle.page_model.specs.Frames.{times}
+use Rattle.vm_facts.specs.Lists.{times}
 use Rattle.page_model.specs.Placement.{Placement, Transfer, Part, Errand, Writes, Reads, parts_of, slots_of, slot_of, state_of, mark_of, is_dirty, page_of, put, sharers}
 use Rattle.page_model.specs.Moves.{turn, begin, join_last, launch, launch_to, launch_all, launch_run, land, land_read, land_all, done, done_of, retire, retire_to, arrived_mark}
 use Rattle.page_model.specs.Runs.{run_out, pages_of_run}

@@ -7,15 +7,18 @@ use Rattle.vm_facts.specs.declared.page.PageState.{PageState}
 use Rattle.vm_facts.specs.declared.page.PageState.TheVariants.{Unfilled, Valid, Invalid, Coming, Going, OnSwap}
 use Rattle.page_model.specs.Pages.{Slot, no_slot, frame_of, left_state}
 use Rattle.flat_state.specs.PageNames.{number_of}
-use Rattle.page_model.specs.Frames.{at_frame, times, without}
+use Rattle.page_model.specs.Frames.{at_frame}
+use Rattle.vm_facts.specs.Lists.{times, without}
 use Rattle.page_model.specs.Placement.{Placement, Transfer, Moving, Errand, Writes, Reads, slots_of, slot_of, state_of, mark_of, page_of, IsFrame, IsThere, parts_of, flying, moving_state, put}
 use Rattle.page_model.specs.Moves.{evict_at, evict, enter, turn, drop_at}
 use Rattle.page_model.specs.Ownership.{OwnsFrames, Each, IsMoving, IsListed, is_marked_dirty, may_be_dirty, seats, seated, seated_of}
 use Rattle.page_model.specs.Conditions.{AtRest}
-use Rattle.page_laws.proofs.Lists.Frames.{times_head, times_tail, times_without, times_without_other, at_set_same, at_set_other, length_set_frame}
+use Rattle.page_laws.proofs.Lists.Frames.{at_set_same, at_set_other, length_set_frame}
+use Rattle.vm_facts.proofs.Lists.{times_head, times-without_same, times-without_other, times_other}
 use Rattle.page_laws.proofs.Lists.Pages.{put_state, put_mark, put_other, put_length}
 use Rattle.page_laws.proofs.Lists.Parts.{all_imp}
-use Rattle.page_laws.proofs.Lists.Local.{Local, Here, local_owner, some_is, none_some}
+use Rattle.page_laws.proofs.Lists.Local.{Local, Here, local_owner, none_some}
+use Rattle.std.proofs.lemmas.Option.{same_Some}
 
 -- a page that has a frame is there, and so is a frame that has a page
 pub page_in : (p : Placement) (v : Page) (f : ℕ) → frame_of (state_of p v) ≡ Some f → IsThere p v
@@ -108,8 +111,8 @@ turn_local p v f s m free transfers o t = record {
   other_pages = λ g n. refl;
   other_free = t.other_free;
   other_flying = t.other_flying;
-  old_frame = λ g e. some_is g f (sym e ∙ t.from);
-  old_page = λ w e. some_is w v (sym e ∙ o.names v f t.from);
+  old_frame = λ g e. same_Some g f (sym e ∙ t.from);
+  old_page = λ w e. same_Some w v (sym e ∙ o.names v f t.from);
 }
 
 pub turn_owner : (p : Placement) (v : Page) (f : ℕ) (s : PageState) (m : Bool) (free : List ℕ) (transfers : List Transfer) → OwnsFrames p → Turns p v f s m free transfers → OwnsFrames (turn p v s m free transfers)
@@ -155,7 +158,7 @@ enter_local p v f s m transfers o t = record {
   frame_in = o.frames f t.free;
   other_slots = put_other p v s m;
   other_pages = λ g n. at_set_other p.holds f g (Some v) None n;
-  other_free = λ g n. times_without_other f g p.free n;
+  other_free = λ g n. times-without_other f g p.free n;
   other_flying = t.other_flying;
   old_frame = λ g e. none_some g (sym t.from ∙ e);
   old_page = λ w e. none_some w (sym t.none ∙ e);
@@ -177,11 +180,11 @@ enter_owner p v f s m transfers o t = local_owner p (enter p v f s m transfers) 
     here = record {
       joined = inl (ap frame_of is ∙ t.to, page);
       once =
-          let z : times f (without f p.free) ≡ 0 = times_without f p.free in
+          let z : times f (without f p.free) ≡ 0 = times-without_same f p.free in
           let a : seated (enter p v f s m transfers) f ≡ seats 0 s = ap (seated_of (enter p v f s m transfers) f) page ∙ ap (seats (times f (without f p.free))) is ∙ ap (λ (n : ℕ). seats n s) z in
           let b = t.once in
           omega arith;
-      listed = λ b e. absurd (let z = times_without f p.free in omega arith);
+      listed = λ b e. absurd (let z = times-without_same f p.free in omega arith);
       moves = t.moves;
       dirty = λ e. ap may_be_dirty is ∙ t.dirty (ap (is_marked_dirty v) (sym mark) ∙ e);
     }
@@ -204,8 +207,8 @@ evict_local p f v o e = record {
   other_pages = λ g n. at_set_other p.holds f g None None n;
   other_free = λ g n. refl;
   other_flying = λ g n. refl;
-  old_frame = λ g h. some_is g f (sym h ∙ o.named f v e);
-  old_page = λ w h. some_is w v (sym h ∙ e);
+  old_frame = λ g h. same_Some g f (sym h ∙ o.named f v e);
+  old_page = λ w h. same_Some w v (sym h ∙ e);
 }
 
 evict_here : (p : Placement) (f : ℕ) (v : Page) → OwnsFrames p → page_of p f ≡ Some v → 0 < times f p.free → Here (evict_at p f (Some v)) v f
@@ -281,10 +284,10 @@ drop_local p v f o e = record {
   frame_in = frame_in p v f (o.names v f e);
   other_slots = put_other p v Unfilled false;
   other_pages = λ g n. at_set_other p.holds f g None None n;
-  other_free = λ g n. times_tail f g (without f p.free) n ∙ times_without_other f g p.free n;
+  other_free = λ g n. times_other g f (without f p.free) (λ i. n (sym i)) ∙ times-without_other f g p.free n;
   other_flying = λ g n. refl;
-  old_frame = λ g h. some_is g f (sym h ∙ e);
-  old_page = λ w h. some_is w v (sym h ∙ o.names v f e);
+  old_frame = λ g h. same_Some g f (sym h ∙ e);
+  old_page = λ w h. same_Some w v (sym h ∙ o.names v f e);
 }
 
 pub not_flying : (n k : ℕ) (s : PageState) (f : ℕ) → AtRest s → frame_of s ≡ Some f → n + k + seats n s ≡ 1 → k ≡ 0
@@ -295,7 +298,7 @@ not_flying n k (Coming g) f r e h = absurd r
 not_flying n k (Going g) f r e h = absurd r
 not_flying n k OnSwap f r e h = none_some f e
 
-marked_false : (v : Page) → is_marked_dirty v false ≡ false
+pub marked_false : (v : Page) → is_marked_dirty v false ≡ false
 marked_false (Data sid n) = refl
 marked_false (Stack sid n) = refl
 marked_false (Text image n) = refl
@@ -306,7 +309,7 @@ drop_here p v f o r e = record {
   once =
       let a = not_flying (times f p.free) (times f (flying (parts_of p.transfers))) (state_of p v) f r e (once_at p v f o e) in
       let b = times_head f (without f p.free) in
-      let c = times_without f p.free in
+      let c = times-without_same f p.free in
       let d : seated (drop_at p v (Some f)) f ≡ 0 = ap (seated_of (drop_at p v (Some f)) f) none in
       omega arith;
   listed = λ b h. none_some v (sym none ∙ h);

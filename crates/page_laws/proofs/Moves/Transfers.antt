@@ -1,7 +1,7 @@
 -- How many transfers are in flight.
-use Rattle.std.proofs.Common.{◌≡◌, ℕ, zero, suc, ◌+◌, ◌<◌, ◌≤◌, nat_le, Bool, true, false, List, [], ◌∷◌, length, Option, Some, None, refl, ap, ◌∙◌, arith}
-use Rattle.std.proofs.lemmas.Bool.Decides.{nat_tests}
+use Rattle.std.proofs.Common.{◌≡◌, ℕ, zero, suc, ◌+◌, ◌<◌, ◌≤◌, Bool, true, false, List, [], ◌∷◌, length, Option, Some, None, refl, ap, ◌∙◌, arith}
 use Rattle.std.proofs.lemmas.List.{length-append}
+use Rattle.std.proofs.lemmas.Bool.{leb-false}
 use Rattle.vm_facts.specs.declared.page.Page.{Page}
 use Rattle.vm_facts.specs.declared.page.PageState.{PageState}
 use Rattle.vm_facts.specs.declared.page.PageState.TheVariants.{Unfilled, Valid, Invalid, Coming, Going, OnSwap}
@@ -9,13 +9,14 @@ use Rattle.vm_facts.specs.declared.entry.Entry.{Entry}
 use Rattle.vm_facts.specs.declared.entry.Entry.TheVariants as entries
 use Rattle.page_model.specs.Pages.{Filling, Zeros, OfImage}
 use Rattle.flat_state.specs.PageNames.{is_among, pages_from, number_of}
-use Rattle.page_model.specs.Frames.{times}
+use Rattle.vm_facts.specs.Lists.{times}
 use Rattle.page_model.specs.Placement.{Placement, Transfer, Part, Errand, Writes, state_of, filling_of, is_dirty, page_of}
 use Rattle.page_model.specs.Moves.{fill, fill_at, begin, join_last, get_one, get_at, get_all, get_run, launch, launch_to, launch_all, launch_run, land_all, land, done, done_of, reclaim, reclaim_to, retire, retire_to}
 use Rattle.page_model.specs.Runs.{pages_of_run, run_in, run_out}
 use Rattle.page_model.specs.Hands.{expire, sweep, sweep_of, sweep_to, sweep_by, hand_move, hand_moves}
 use Rattle.page_model.specs.Place.{put_step, put_by, place_entry}
-use Rattle.page_model.specs.Serve.{force, force_by, read_errand, read_if, bring_by, feed_by, serve_by, serve_step, is_full, most_in_flight}
+use Rattle.page_model.specs.Serve.{force, force_by, read_errand, read_if, bring_by, feed_by, serve_by, serve_step, is_full}
+use Rattle.vm_facts.specs.Swap.{most_in_flight}
 use Rattle.page_model.specs.Conditions.{begins}
 use Rattle.page_laws.proofs.Moves.Stays.{expire_transfers}
 
@@ -100,7 +101,7 @@ done_count p = go p.transfers refl
     go [] e = omega arith
     go (t ∷ ts) e = let k = ap length (land_all_rest t.parts p t.errand ts) in let l = ap length e in omega arith
 
-sweep_count : (p : Placement) (locked : List Page) → length (sweep p locked).transfers ≤ length p.transfers + 1
+pub sweep_count : (p : Placement) (locked : List Page) → length (sweep p locked).transfers ≤ length p.transfers + 1
 sweep_count p locked = go (page_of p p.back)
   where
     by : (q : Page) (d : Bool) → length (sweep_by p locked q d).transfers ≤ length p.transfers + 1
@@ -165,16 +166,13 @@ force_few p locked l = go p.transfers refl
     go [] e = let k = move_count p locked in let z = ap length e in omega arith
     go (t ∷ ts) e = let k = done_count p in omega arith
 
-not_full : (n : ℕ) → nat_le 16 n ≡ false → n < 16
-not_full n e = grind (arith, nat_tests)
-
 -- Serving begins one only where fewer than 16 are.
 pub serve_few : (p : Placement) (locked : List Page) (q : Page) → length p.transfers ≤ most_in_flight → length (serve_step p locked q).transfers ≤ most_in_flight
 serve_few p locked q l = go (state_of p q)
   where
     read : (full : Bool) → is_full p ≡ full → length (read_if p q full).transfers ≤ most_in_flight
     read true e = let k = done_count p in omega arith
-    read false e = let k = get_run_count p (read_errand p q) (pages_of_run q (run_in p q)) in let m = not_full (length p.transfers) e in omega arith
+    read false e = let k = get_run_count p (read_errand p q) (pages_of_run q (run_in p q)) in let m = leb-false 16 (length p.transfers) e in omega arith
 
     bring : (s : PageState) (x : Filling) (full : Bool) → is_full p ≡ full → length (bring_by p q s x full).transfers ≤ most_in_flight
     bring Unfilled Zeros full e = let k = fill_count p q in omega arith

@@ -1,5 +1,5 @@
 -- The unit that serving asks for, its entry and its step say the same.
-use Rattle.std.proofs.Common.{◌≡◌, ℕ, Bool, true, false, List, [], ◌∷◌, Some, refl, sym, ap, ◌∙◌}
+use Rattle.std.proofs.Common.{◌≡◌, ℕ, Bool, true, false, List, [], ◌∷◌, Some, None, refl, sym, ap, ◌∙◌}
 use Rattle.vm_facts.specs.declared.page.Page.{Page}
 use Rattle.vm_facts.specs.declared.page.PageState.{PageState}
 use Rattle.vm_facts.specs.declared.page.PageState.TheVariants.{Unfilled, Valid, Invalid, Coming, Going, OnSwap}
@@ -86,3 +86,11 @@ entry_steps locked at p q n due = go (state_of p q) n
     go (Going f) n = refl
     go Unfilled n = feed Unfilled (filling_of p q) p.free (is_full p)
     go OnSwap n = feed OnSwap (filling_of p q) p.free (is_full p)
+
+-- serving comes to an end at a valid page alone
+pub served_valid : (p : Placement) (q : Page) → serve_unit p q true ≡ None → is_valid (state_of p q) ≡ true
+served_valid p q e = go (is_valid (state_of p q)) refl
+  where
+    go : (b : Bool) → is_valid (state_of p q) ≡ b → is_valid (state_of p q) ≡ true
+    go true h = h
+    go false h = absurd (let k : Some (serve_entry p q) ≡ None = sym (now_unit p q h) ∙ e in cc)

@@ -10,7 +10,8 @@ use Rattle.flat_state.specs.declared.change.Change.TheVariants.{Keep, Resize, Fo
 use Rattle.flat_state.specs.PageNames.{number_of, pages_from}
 use Rattle.page_model.specs.Placement.{Placement, state_of}
 use Rattle.page_model.specs.Moves.{fill, touch_all}
-use Rattle.page_model.specs.Place.{filled, moved, data_from, stack_from, data_count, stack_count, give_up_unless, enter_image, fork_space, place_change, place_entry, place_step, space_of_process, is_borrower, facts_numbered}
+use Rattle.page_model.specs.Place.{filled, moved, data_from, stack_from, data_count, stack_count, give_up_unless, enter_image, fork_space, place_change, place_entry, place_step, space_of_process, facts_numbered}
+use Rattle.flat_state.specs.Change.{is_borrower}
 use Rattle.page_model.specs.Serve.{source_for}
 use Rattle.page_model.specs.Conditions.{AtRest, AllAtRest, CanEnter, IsNew, IsSettled, LosesPages, CanPlace, CanChange}
 use Rattle.page_model.specs.Ownership.{OwnsFrames}

@@ -5,22 +5,23 @@ use Rattle.vm_facts.specs.declared.page.PageState.{PageState}
 use Rattle.vm_facts.specs.declared.page.PageState.TheVariants.{Unfilled, Valid, Invalid, Coming, Going, OnSwap}
 use Rattle.page_model.specs.Pages.{frame_of}
 use Rattle.flat_state.specs.PageNames.{number_of, beside, is_among}
-use Rattle.page_model.specs.Frames.{times}
+use Rattle.vm_facts.specs.Lists.{times}
 use Rattle.page_model.specs.Placement.{Placement, state_of, mark_of, is_dirty, page_of}
 use Rattle.page_model.specs.Runs.{run_out, pages_of_run, goes_along, is_idle, is_near, most_written}
 use Rattle.page_model.specs.Hands.{expire, sweep, sweep_of, sweep_to, sweep_by, advance, hand_move, hand_moves}
 use Rattle.page_model.specs.Ownership.{OwnsFrames, IsListed}
 use Rattle.page_model.specs.Conditions.{EachPage, HasSeat}
-use Rattle.page_laws.proofs.Lists.Local.{some_is}
+use Rattle.std.proofs.lemmas.Option.{same_Some}
 use Rattle.page_laws.proofs.Ownership.Pages.{expire_owner, retire_owner}
-use Rattle.page_laws.proofs.Lists.Runs.{and_both, run_each, run_both_in, run_apart}
+use Rattle.page_laws.proofs.Lists.Runs.{run_each, run_both_in, run_apart}
+use Rattle.std.proofs.lemmas.Bool.{and_parts}
 use Rattle.page_laws.proofs.Ownership.Runs.{idle_seat, launch_run_owner, clean_unmarked}
 
 -- the pages of the run hold frames off the free list
 pub run_out_seats : (p : Placement) (locked : List Page) (q : Page) → HasSeat p q → EachPage (HasSeat p) (pages_of_run q (run_out p locked q))
 run_out_seats p locked q c = run_each (HasSeat p) (λ w. goes_along p locked (beside q w) && is_near q w) q (run_out p locked q)
     (run_both_in (λ w. goes_along p locked (beside q w) && is_near q w) (number_of q) most_written) c
-    (λ w e. idle_seat p (beside q w) (and_both (is_idle p (beside q w)) (is_dirty p (beside q w) && not (is_among (beside q w) locked)) (and_both (goes_along p locked (beside q w)) (is_near q w) e).0).0)
+    (λ w e. idle_seat p (beside q w) (and_parts (is_idle p (beside q w)) (is_dirty p (beside q w) && not (is_among (beside q w) locked)) (and_parts (goes_along p locked (beside q w)) (is_near q w) e).0).0)
 
 pub sweep_owner : (p : Placement) (locked : List Page) → OwnsFrames p → OwnsFrames (sweep p locked)
 sweep_owner p locked o = go (page_of p p.back) refl
@@ -31,7 +32,7 @@ sweep_owner p locked o = go (page_of p p.back) refl
 
     seat : (q : Page) (f : ℕ) → page_of p p.back ≡ Some q → state_of p q ≡ Invalid f → times p.back p.free ≡ zero → HasSeat p q
     seat q f h e z =
-        let same : f ≡ p.back = some_is f p.back (sym (ap frame_of e) ∙ o.named p.back q h) in
+        let same : f ≡ p.back = same_Some f p.back (sym (ap frame_of e) ∙ o.named p.back q h) in
         record { frame = f; seat = record { state = inr (e, ap (λ (g : ℕ). times g p.free) same ∙ z) } }
 
     to : (q : Page) (s : PageState) (n : ℕ) (b : Bool) → page_of p p.back ≡ Some q → state_of p q ≡ s → times p.back p.free ≡ n → OwnsFrames (sweep_to p locked q s n b)

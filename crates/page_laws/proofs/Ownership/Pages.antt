@@ -6,13 +6,14 @@ use Rattle.vm_facts.specs.declared.page.PageState.{PageState}
 use Rattle.vm_facts.specs.declared.page.PageState.TheVariants.{Unfilled, Valid, Invalid, Coming, Going, OnSwap}
 use Rattle.page_model.specs.Pages.{Slot, frame_of}
 use Rattle.flat_state.specs.PageNames.{same_page}
-use Rattle.page_model.specs.Frames.{times, without}
+use Rattle.vm_facts.specs.Lists.{times, without}
 use Rattle.page_model.specs.Placement.{Placement, Transfer, Errand, Writes, Reads, Source, moving, state_of, mark_of, page_of, IsThere, parts_of, flying, moving_state, put}
 use Rattle.page_model.specs.Moves.{evict, fill, fill_at, join_last, get_one, get_at, launch, launch_to, reclaim, reclaim_to, retire, retire_to, touch, touch_to}
 use Rattle.page_model.specs.Hands.{expire, expire_of, expire_if, expire_to}
 use Rattle.page_model.specs.Ownership.{OwnsFrames, Each, IsMoving, is_marked_dirty, seats}
 use Rattle.page_model.specs.Conditions.{AtRest, CanEnter, IsSeated}
-use Rattle.page_laws.proofs.Lists.Frames.{times-append, times_one, times_one_other, times_head, times_without, times_without_other}
+use Rattle.page_laws.proofs.Lists.Frames.{times_one, times_one_other, some_free}
+use Rattle.vm_facts.proofs.Lists.{times-append, times-without_same, times-without_other}
 use Rattle.page_laws.proofs.Lists.Pages.{put_state}
 use Rattle.page_laws.proofs.Lists.Parts.{IsOpen, parts_join, times_joined, all_push}
 use Rattle.page_laws.proofs.Moves.Steps.{Turns, turn_owner, Enters, enter_owner, once_at, page_in, frameless_clean, frameless_rest, moves_kept, put_other_state, evict_owner, evict_page, evict_other, EvictRest, evict_rest}
@@ -26,16 +27,13 @@ clean_is d e h = absurd (let k : true ≡ false = sym h ∙ e in cc)
 
 -- Taking a frame.
 
-some_free : (p : Placement) (f : ℕ) (rest : List ℕ) → p.free ≡ f ∷ rest → 0 < times f p.free
-some_free p f rest e = let h : times f p.free ≡ 1 + times f rest = ap (times f) e ∙ times_head f rest in omega arith
-
 entered_there : (p : Placement) (v : Page) (f : ℕ) → CanEnter p v → IsThere (evict p f) v
 entered_there p v f c = let e : EvictRest p (evict p f) = evict_rest p f in let h = e.sizes v in let k = c.there in omega arith
 
 entered_frameless : (p : Placement) (v : Page) (f : ℕ) → OwnsFrames p → CanEnter p v → frame_of (state_of (evict p f) v) ≡ None
 entered_frameless p v f o c = ap (λ (x : Slot). frame_of x.state) (evict_other p f v o c.frameless) ∙ c.frameless
 
-none_flying : (p : Placement) (f : ℕ) → OwnsFrames p → 0 < times f p.free → times f (flying (parts_of p.transfers)) ≡ 0
+pub none_flying : (p : Placement) (f : ℕ) → OwnsFrames p → 0 < times f p.free → times f (flying (parts_of p.transfers)) ≡ 0
 none_flying p f o b = let h = o.once f (o.frames f b) in omega arith
 
 pub fill_enters : (p : Placement) (v : Page) (f : ℕ) (rest : List ℕ) → OwnsFrames p → CanEnter p v → p.free ≡ f ∷ rest → Enters (evict p f) v f (Valid f) true p.transfers
@@ -111,14 +109,14 @@ pub reclaim_turns : (p : Placement) (v : Page) (f : ℕ) → OwnsFrames p → st
 reclaim_turns p v f o e = record {
   from = ap frame_of e;
   to = refl;
-  other_free = λ g n. times_without_other f g p.free n;
+  other_free = λ g n. times-without_other f g p.free n;
   other_flying = λ g n. refl;
   once =
       let a = once_at p v f o (ap frame_of e) in
       let b : seats (times f p.free) (state_of p v) ≡ 1 - times f p.free = ap (seats (times f p.free)) e in
-      let c = times_without f p.free in
+      let c = times-without_same f p.free in
       omega arith;
-  listed = λ b. absurd (let z = times_without f p.free in omega arith);
+  listed = λ b. absurd (let z = times-without_same f p.free in omega arith);
   dirty = λ h. refl;
   moves = rest_moves p v (Valid f) (mark_of p v) o (subst AtRest (sym e) tt);
 }

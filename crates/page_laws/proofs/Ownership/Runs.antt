@@ -7,17 +7,18 @@ use Rattle.vm_facts.specs.declared.page.PageState.{PageState}
 use Rattle.vm_facts.specs.declared.page.PageState.TheVariants.{Unfilled, Valid, Invalid, Coming, Going, OnSwap}
 use Rattle.page_model.specs.Pages.{Slot, frame_of, written_mark, is_dirty_by}
 use Rattle.flat_state.specs.PageNames.{same_page}
-use Rattle.page_model.specs.Frames.{times}
+use Rattle.vm_facts.specs.Lists.{times}
 use Rattle.page_model.specs.Placement.{Placement, Transfer, Part, Moving, Errand, Writes, Reads, Source, moving, state_of, mark_of, is_dirty, parts_of, flying, moving_state, put}
 use Rattle.page_model.specs.Moves.{evict, turn, begin, join_last, get_one, get_at, get_all, get_run, launch, launch_to, launch_all, launch_run, land, land_read, arrived_mark, land_all, done, done_of}
 use Rattle.page_model.specs.Runs.{is_idle, is_idle_by, is_seated, is_seated_by}
 use Rattle.page_model.specs.Place.{put_step, put_by}
 use Rattle.page_model.specs.Ownership.{OwnsFrames, Each, IsMoving, IsListed, is_marked_dirty, may_be_dirty, seated}
 use Rattle.page_model.specs.Conditions.{EachPage, AllApart, CanEnter, IsSeated, HasSeat}
-use Rattle.page_laws.proofs.Lists.Frames.{times-append, times_one, times_one_other, times_head, times_tail}
+use Rattle.page_laws.proofs.Lists.Frames.{times_one, times_one_other}
+use Rattle.vm_facts.proofs.Lists.{times-append, times_head, times_other}
 use Rattle.page_laws.proofs.Lists.Pages.{put_length}
 use Rattle.page_laws.proofs.Lists.Parts.{IsOpen, begin_open, join_open, parts_begin, all_absent}
-use Rattle.page_laws.proofs.Lists.Local.{some_is}
+use Rattle.std.proofs.lemmas.Option.{same_Some}
 use Rattle.page_laws.proofs.Moves.Steps.{Turns, turn_owner, once_at, put_other_state, frame_of_moving, evict_other, EvictRest, evict_rest}
 use Rattle.page_laws.proofs.Ownership.Pages.{get_owner, launch_owner, retire_owner}
 use Rattle.page_laws.proofs.Lists.Runs.{each_page_imp, each_page_both}
@@ -169,10 +170,10 @@ landing_alone p e x rest o l =
 
 land_moves : (p : Placement) (e : Errand) (x : Part) (rest : List Transfer) (s : PageState) (m : Bool) → OwnsFrames p → Landing p e x rest → Each (IsMoving (put p x.page s m)) (parts_of rest)
 land_moves p e x rest s m o l = all_absent (IsMoving p) (IsMoving (put p x.page s m)) x.frame (parts_of rest) (landing_alone p e x rest o l).1 (landing_moves p e x rest o l).1
-    (λ y n k. put_other_state p x.page s m y.page (λ h. n (some_is y.frame x.frame (sym (frame_of_moving y.errand y.frame) ∙ ap frame_of (sym k) ∙ ap (λ (w : Page). frame_of (state_of p w)) h ∙ landing_frame p e x rest o l))) ∙ k)
+    (λ y n k. put_other_state p x.page s m y.page (λ h. n (same_Some y.frame x.frame (sym (frame_of_moving y.errand y.frame) ∙ ap frame_of (sym k) ∙ ap (λ (w : Page). frame_of (state_of p w)) h ∙ landing_frame p e x rest o l))) ∙ k)
 
 other_landing : (p : Placement) (e : Errand) (x : Part) (rest : List Transfer) → Landing p e x rest → (g : ℕ) → g ≢ x.frame → times g (flying (parts_of rest)) ≡ times g (flying (parts_of p.transfers))
-other_landing p e x rest l g n = sym (ap (λ (ms : List Moving). times g (flying ms)) l.parts ∙ times_tail x.frame g (flying (parts_of rest)) n)
+other_landing p e x rest l g n = sym (ap (λ (ms : List Moving). times g (flying ms)) l.parts ∙ times_other g x.frame (flying (parts_of rest)) (λ i. n (sym i)))
 
 -- a page that lands goes to the tail of the free list
 pub tail_turns : (p : Placement) (e : Errand) (x : Part) (rest : List Transfer) (m : Bool) → OwnsFrames p → Landing p e x rest → is_marked_dirty x.page m ≡ false → Turns p x.page x.frame (Invalid x.frame) m (p.free ++ x.frame ∷ []) rest

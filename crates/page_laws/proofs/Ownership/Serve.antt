@@ -1,7 +1,7 @@
 -- Forcing a frame and serving a page keep the ownership of frames.
 use Rattle.std.proofs.Common.{◌≡◌, ◌⊎◌, inl, inr, ℕ, ◌<◌, ◌≤◌, nat_lt, min, Bool, true, false, List, [], ◌∷◌, length, refl, sym, ap, ◌∙◌, arith}
-use Rattle.std.proofs.lemmas.Bool.Decides.{nat_tests}
 use Rattle.std.proofs.lemmas.List.{get_or_past}
+use Rattle.std.proofs.lemmas.Bool.{ltb-true, and_parts}
 use Rattle.vm_facts.specs.declared.page.Page.{Page}
 use Rattle.vm_facts.specs.declared.page.Page.TheVariants.{Data, Stack, Text}
 use Rattle.vm_facts.specs.declared.page.PageState.{PageState}
@@ -14,7 +14,7 @@ use Rattle.page_model.specs.Serve.{force, force_by, read_step, source_for, read_
 use Rattle.page_model.specs.Ownership.{OwnsFrames}
 use Rattle.page_model.specs.Conditions.{EachPage, CanEnter}
 use Rattle.page_laws.proofs.Ownership.Pages.{fill_owner, reclaim_owner}
-use Rattle.page_laws.proofs.Lists.Runs.{and_both, run_each, run_both_in, run_up_in, run_alone_in, run_apart}
+use Rattle.page_laws.proofs.Lists.Runs.{run_each, run_both_in, run_up_in, run_alone_in, run_apart}
 use Rattle.page_laws.proofs.Ownership.Runs.{get_run_owner, done_owner}
 use Rattle.page_laws.proofs.Ownership.Hands.{move_owner}
 
@@ -38,7 +38,7 @@ state_there p q n = elim (le_or (number_of q) (length (slots_of p q))) [
 on_swap_enters : (p : Placement) (q : Page) → state_of p q ≡ OnSwap → CanEnter p q
 on_swap_enters p q e = record { there = state_there p q (λ h. let k : OnSwap ≡ Unfilled = sym e ∙ h in absurd cc); frameless = ap frame_of e }
 
-on_swap_is : (s : PageState) → is_on_swap s ≡ true → s ≡ OnSwap
+pub on_swap_is : (s : PageState) → is_on_swap s ≡ true → s ≡ OnSwap
 on_swap_is OnSwap e = refl
 on_swap_is Unfilled e = absurd cc
 on_swap_is (Valid f) e = absurd cc
@@ -46,7 +46,7 @@ on_swap_is (Invalid f) e = absurd cc
 on_swap_is (Coming f) e = absurd cc
 on_swap_is (Going f) e = absurd cc
 
-unfilled_is : (s : PageState) → is_unfilled s ≡ true → s ≡ Unfilled
+pub unfilled_is : (s : PageState) → is_unfilled s ≡ true → s ≡ Unfilled
 unfilled_is Unfilled e = refl
 unfilled_is OnSwap e = absurd cc
 unfilled_is (Valid f) e = absurd cc
@@ -54,15 +54,12 @@ unfilled_is (Invalid f) e = absurd cc
 unfilled_is (Coming f) e = absurd cc
 unfilled_is (Going f) e = absurd cc
 
-lt_is : (a b : ℕ) → nat_lt a b ≡ true → a < b
-lt_is a b e = grind (arith, nat_tests)
-
 swap_enters : (p : Placement) (q : Page) (w : ℕ) → comes_from_swap p q w ≡ true → CanEnter p (beside q w)
-swap_enters p q w e = on_swap_enters p (beside q w) (on_swap_is (state_of p (beside q w)) (and_both (is_on_swap (state_of p (beside q w))) (is_near q w) e).0)
+swap_enters p q w e = on_swap_enters p (beside q w) (on_swap_is (state_of p (beside q w)) (and_parts (is_on_swap (state_of p (beside q w))) (is_near q w) e).0)
 
 file_enters : (p : Placement) (image v w : ℕ) → comes_from_file p (Text image v) w ≡ true → CanEnter p (Text image w)
-file_enters p image v w e = let k = and_both (nat_lt w (length (slots_of p (Text image v)))) (is_unfilled (state_of p (Text image w))) e in record {
-  there = lt_is w (length (slots_of p (Text image v))) k.0;
+file_enters p image v w e = let k = and_parts (nat_lt w (length (slots_of p (Text image v)))) (is_unfilled (state_of p (Text image w))) e in record {
+  there = ltb-true w (length (slots_of p (Text image v))) k.0;
   frameless = ap frame_of (unfilled_is (state_of p (Text image w)) k.1);
 }
 

@@ -7,7 +7,7 @@ use Rattle.vm_facts.specs.declared.page.PageState.{PageState}
 use Rattle.vm_facts.specs.declared.page.PageState.TheVariants.{Unfilled, Valid, Invalid, Coming, Going, OnSwap}
 use Rattle.page_model.specs.Pages.{Slot, no_slot, frame_of}
 use Rattle.flat_state.specs.PageNames.{number_of}
-use Rattle.page_model.specs.Frames.{times, without}
+use Rattle.vm_facts.specs.Lists.{times}
 use Rattle.page_model.specs.Placement.{Placement, Transfer, slots_of, slot_of, state_of, mark_of, page_of, IsFrame, IsThere, parts_of, flying, put}
 use Rattle.page_model.specs.Moves.{turn, drop_at, drop_page, drop_all, leave_by, leave_page, leave_all, listed, listed_of}
 use Rattle.page_model.specs.Ownership.{OwnsFrames, Each, IsMoving, IsListed, is_marked_dirty, may_be_dirty, seats, seated, seated_of}
@@ -15,7 +15,7 @@ use Rattle.page_model.specs.Conditions.{EachPage, AtRest}
 use Rattle.page_laws.proofs.Lists.Pages.{page_cases, put_state, put_mark, put_other, put_length}
 use Rattle.page_laws.proofs.Lists.Parts.{all_imp}
 use Rattle.page_laws.proofs.Lists.Local.{none_some}
-use Rattle.page_laws.proofs.Moves.Steps.{Turns, turn_owner, once_at, put_other_state, frameless_rest, drop_owner}
+use Rattle.page_laws.proofs.Moves.Steps.{Turns, turn_owner, once_at, put_other_state, frameless_rest, drop_owner, marked_false}
 use Rattle.page_laws.proofs.Ownership.Pages.{retire_turns, rest_moves}
 use Rattle.page_laws.proofs.Lists.Runs.{each_page_imp}
 
@@ -117,11 +117,6 @@ frameless_owner p v s m o from to clean = record {
     ])
 
 -- Giving up pages.
-
-marked_false : (w : Page) → is_marked_dirty w false ≡ false
-marked_false (Data sid n) = refl
-marked_false (Stack sid n) = refl
-marked_false (Text image n) = refl
 
 -- never filled, and not marked
 pub record IsBlank (p : Placement) (w : Page) : Type 0 where

@@ -1,38 +1,19 @@
 -- The runs of reads and writes are the widest and the longest ones.
-use Rattle.std.proofs.Common.{◌≡◌, ◌⊎◌, inl, inr, ℕ, ◌+◌, ◌-◌, ◌<◌, ◌≤◌, ◌==◌, ◌&&◌, nat_lt, max, min, Bool, true, false, not, List, length, refl, sym, ap, ◌∙◌, subst, arith}
-use Rattle.std.proofs.lemmas.Bool.Decides.{nat_tests}
+use Rattle.std.proofs.Common.{◌≡◌, ◌⊎◌, inl, inr, ℕ, ◌+◌, ◌-◌, ◌<◌, ◌≤◌, ◌&&◌, nat_lt, max, min, Bool, true, false, not, List, length, refl, sym, ap, ◌∙◌, subst, arith}
+use Rattle.std.proofs.lemmas.Bool.{eqb-true, eq-eqb, ltb-true, lt-ltb, not-true, and_from, and_parts}
+use Rattle.page_laws.proofs.Ownership.Serve.{on_swap_is, unfilled_is}
 use Rattle.vm_facts.specs.declared.page.Page.{Page}
 use Rattle.vm_facts.specs.declared.page.Page.TheVariants.{Data, Stack, Text}
 use Rattle.vm_facts.specs.declared.page.PageState.{PageState}
 use Rattle.vm_facts.specs.declared.page.PageState.TheVariants.{Unfilled, Valid, Invalid, Coming, Going, OnSwap}
 use Rattle.flat_state.specs.PageNames.{number_of, beside, is_among}
 use Rattle.page_model.specs.Pages.{is_on_swap, is_unfilled}
-use Rattle.page_model.specs.Frames.{times}
+use Rattle.vm_facts.specs.Lists.{times}
 use Rattle.page_model.specs.Placement.{Placement, slots_of, state_of, is_dirty}
 use Rattle.page_model.specs.PageBytes.{IsWritable}
 use Rattle.page_model.specs.Runs.{run_in, run_in_by, run_out, run_put, run_put_by, run_alone, chunk_of, is_near, desired_free, spare_frames, comes_from_swap, comes_from_file, is_idle, is_idle_by, goes_along, is_seated, is_seated_by}
 use Rattle.page_laws.specs.Neighbours.{IsWidestRun, IsLongestRun, MayRead, IsSwappedBeside, IsUnfilledBeside, IsIdleBeside, IsSeatedBeside}
-use Rattle.page_laws.proofs.Lists.Runs.{and_both}
 use Rattle.page_laws.proofs.Runs.Widest.{widest, longest}
-
-equal_is : (m n : ℕ) → (m == n) ≡ true → m ≡ n
-equal_is m n e = grind (arith, nat_tests)
-
-is_equal : (m n : ℕ) → m ≡ n → (m == n) ≡ true
-is_equal m n e = grind (arith, nat_tests)
-
-less_is : (m n : ℕ) → nat_lt m n ≡ true → m < n
-less_is m n e = grind (arith, nat_tests)
-
-is_less : (m n : ℕ) → m < n → nat_lt m n ≡ true
-is_less m n l = grind (arith, nat_tests)
-
-both : (a b : Bool) → a ≡ true → b ≡ true → (a && b) ≡ true
-both a b e h = ap (λ (x : Bool). x && b) e ∙ h
-
-not_is : (b : Bool) → not b ≡ true → b ≡ false
-not_is true e = absurd cc
-not_is false e = refl
 
 -- Frames to spare.
 
@@ -44,47 +25,31 @@ too_many m d l h = grind arith
 
 -- What passes.
 
-swap_is : (s : PageState) → is_on_swap s ≡ true → s ≡ OnSwap
-swap_is OnSwap e = refl
-swap_is Unfilled e = absurd cc
-swap_is (Valid f) e = absurd cc
-swap_is (Invalid f) e = absurd cc
-swap_is (Coming f) e = absurd cc
-swap_is (Going f) e = absurd cc
-
-unfilled_is : (s : PageState) → is_unfilled s ≡ true → s ≡ Unfilled
-unfilled_is Unfilled e = refl
-unfilled_is OnSwap e = absurd cc
-unfilled_is (Valid f) e = absurd cc
-unfilled_is (Invalid f) e = absurd cc
-unfilled_is (Coming f) e = absurd cc
-unfilled_is (Going f) e = absurd cc
-
 swapped_joins : (p : Placement) (q : Page) (w : ℕ) → comes_from_swap p q w ≡ true → IsSwappedBeside p q w
 swapped_joins p q w e =
-    let k = and_both (is_on_swap (state_of p (beside q w))) (is_near q w) e in
-    record { state = swap_is (state_of p (beside q w)) k.0; near = sym (equal_is (chunk_of q) (chunk_of (beside q w)) k.1) }
+    let k = and_parts (is_on_swap (state_of p (beside q w))) (is_near q w) e in
+    record { state = on_swap_is (state_of p (beside q w)) k.0; near = sym (eqb-true (chunk_of q) (chunk_of (beside q w)) k.1) }
 
 swapped_passes : (p : Placement) (q : Page) (w : ℕ) → IsSwappedBeside p q w → comes_from_swap p q w ≡ true
-swapped_passes p q w h = both (is_on_swap (state_of p (beside q w))) (is_near q w) (ap is_on_swap h.state) (is_equal (chunk_of q) (chunk_of (beside q w)) (sym h.near))
+swapped_passes p q w h = and_from (is_on_swap (state_of p (beside q w))) (is_near q w) (ap is_on_swap h.state) (eq-eqb (chunk_of q) (chunk_of (beside q w)) (sym h.near))
 
 filed_joins : (p : Placement) (q : Page) (w : ℕ) → comes_from_file p q w ≡ true → IsUnfilledBeside p q w
 filed_joins p q w e =
-    let k = and_both (nat_lt w (length (slots_of p q))) (is_unfilled (state_of p (beside q w))) e in
-    record { there = less_is w (length (slots_of p q)) k.0; state = unfilled_is (state_of p (beside q w)) k.1 }
+    let k = and_parts (nat_lt w (length (slots_of p q))) (is_unfilled (state_of p (beside q w))) e in
+    record { there = ltb-true w (length (slots_of p q)) k.0; state = unfilled_is (state_of p (beside q w)) k.1 }
 
 filed_passes : (p : Placement) (q : Page) (w : ℕ) → IsUnfilledBeside p q w → comes_from_file p q w ≡ true
-filed_passes p q w h = both (nat_lt w (length (slots_of p q))) (is_unfilled (state_of p (beside q w))) (is_less w (length (slots_of p q)) h.there) (ap is_unfilled h.state)
+filed_passes p q w h = and_from (nat_lt w (length (slots_of p q))) (is_unfilled (state_of p (beside q w))) (lt-ltb w (length (slots_of p q)) h.there) (ap is_unfilled h.state)
 
 pub idle_joins : (p : Placement) (locked : List Page) (q : Page) (w : ℕ) → (goes_along p locked (beside q w) && is_near q w) ≡ true → IsIdleBeside p locked q w
 idle_joins p locked q w e =
-    let k = and_both (goes_along p locked (beside q w)) (is_near q w) e in
-    let a = and_both (is_idle p (beside q w)) (is_dirty p (beside q w) && not (is_among (beside q w) locked)) k.0 in
-    let b = and_both (is_dirty p (beside q w)) (not (is_among (beside q w) locked)) a.1 in
-    go (state_of p (beside q w)) refl a.0 b.0 (not_is (is_among (beside q w) locked) b.1) (sym (equal_is (chunk_of q) (chunk_of (beside q w)) k.1))
+    let k = and_parts (goes_along p locked (beside q w)) (is_near q w) e in
+    let a = and_parts (is_idle p (beside q w)) (is_dirty p (beside q w) && not (is_among (beside q w) locked)) k.0 in
+    let b = and_parts (is_dirty p (beside q w)) (not (is_among (beside q w) locked)) a.1 in
+    go (state_of p (beside q w)) refl a.0 b.0 (not-true (is_among (beside q w) locked) b.1) (sym (eqb-true (chunk_of q) (chunk_of (beside q w)) k.1))
   where
     go : (s : PageState) → state_of p (beside q w) ≡ s → is_idle_by p s ≡ true → is_dirty p (beside q w) ≡ true → is_among (beside q w) locked ≡ false → chunk_of (beside q w) ≡ chunk_of q → IsIdleBeside p locked q w
-    go (Invalid f) h i d u n = record { frame = f; state = h; off = equal_is (times f p.free) 0 i; dirty = d; unlocked = u; near = n }
+    go (Invalid f) h i d u n = record { frame = f; state = h; off = eqb-true (times f p.free) 0 i; dirty = d; unlocked = u; near = n }
     go Unfilled h i d u n = absurd cc
     go (Valid f) h i d u n = absurd cc
     go (Coming f) h i d u n = absurd cc
@@ -92,34 +57,34 @@ idle_joins p locked q w e =
     go OnSwap h i d u n = absurd cc
 
 idle_passes : (p : Placement) (locked : List Page) (q : Page) (w : ℕ) → IsIdleBeside p locked q w → (goes_along p locked (beside q w) && is_near q w) ≡ true
-idle_passes p locked q w h = both (goes_along p locked (beside q w)) (is_near q w)
-    (both (is_idle p (beside q w)) (is_dirty p (beside q w) && not (is_among (beside q w) locked))
-    (ap (is_idle_by p) h.state ∙ is_equal (times h.frame p.free) 0 h.off)
-    (both (is_dirty p (beside q w)) (not (is_among (beside q w) locked)) h.dirty (ap not h.unlocked)))
-    (is_equal (chunk_of q) (chunk_of (beside q w)) (sym h.near))
+idle_passes p locked q w h = and_from (goes_along p locked (beside q w)) (is_near q w)
+    (and_from (is_idle p (beside q w)) (is_dirty p (beside q w) && not (is_among (beside q w) locked))
+    (ap (is_idle_by p) h.state ∙ eq-eqb (times h.frame p.free) 0 h.off)
+    (and_from (is_dirty p (beside q w)) (not (is_among (beside q w) locked)) h.dirty (ap not h.unlocked)))
+    (eq-eqb (chunk_of q) (chunk_of (beside q w)) (sym h.near))
 
 seated_joins : (p : Placement) (q : Page) (w : ℕ) → (is_seated p (beside q w) && (is_dirty p (beside q w) && is_near q w)) ≡ true → IsSeatedBeside p q w
 seated_joins p q w e =
-    let k = and_both (is_seated p (beside q w)) (is_dirty p (beside q w) && is_near q w) e in
-    let a = and_both (is_dirty p (beside q w)) (is_near q w) k.1 in
-    go (state_of p (beside q w)) refl k.0 a.0 (sym (equal_is (chunk_of q) (chunk_of (beside q w)) a.1))
+    let k = and_parts (is_seated p (beside q w)) (is_dirty p (beside q w) && is_near q w) e in
+    let a = and_parts (is_dirty p (beside q w)) (is_near q w) k.1 in
+    go (state_of p (beside q w)) refl k.0 a.0 (sym (eqb-true (chunk_of q) (chunk_of (beside q w)) a.1))
   where
     go : (s : PageState) → state_of p (beside q w) ≡ s → is_seated_by p s ≡ true → is_dirty p (beside q w) ≡ true → chunk_of (beside q w) ≡ chunk_of q → IsSeatedBeside p q w
     go (Valid f) h i d n = record { frame = f; seat = inl h; dirty = d; near = n }
-    go (Invalid f) h i d n = record { frame = f; seat = inr (h, equal_is (times f p.free) 0 i); dirty = d; near = n }
+    go (Invalid f) h i d n = record { frame = f; seat = inr (h, eqb-true (times f p.free) 0 i); dirty = d; near = n }
     go Unfilled h i d n = absurd cc
     go (Coming f) h i d n = absurd cc
     go (Going f) h i d n = absurd cc
     go OnSwap h i d n = absurd cc
 
 seated_passes : (p : Placement) (q : Page) (w : ℕ) → IsSeatedBeside p q w → (is_seated p (beside q w) && (is_dirty p (beside q w) && is_near q w)) ≡ true
-seated_passes p q w h = both (is_seated p (beside q w)) (is_dirty p (beside q w) && is_near q w) seat
-    (both (is_dirty p (beside q w)) (is_near q w) h.dirty (is_equal (chunk_of q) (chunk_of (beside q w)) (sym h.near)))
+seated_passes p q w h = and_from (is_seated p (beside q w)) (is_dirty p (beside q w) && is_near q w) seat
+    (and_from (is_dirty p (beside q w)) (is_near q w) h.dirty (eq-eqb (chunk_of q) (chunk_of (beside q w)) (sym h.near)))
   where
     seat : is_seated p (beside q w) ≡ true
     seat = elim h.seat [
       | inl e ↦ ap (is_seated_by p) e
-      | inr e ↦ ap (is_seated_by p) e.0 ∙ is_equal (times h.frame p.free) 0 e.1
+      | inr e ↦ ap (is_seated_by p) e.0 ∙ eq-eqb (times h.frame p.free) 0 e.1
     ]
 
 -- Runs.

@@ -6,7 +6,7 @@ use Rattle.vm_facts.specs.declared.page.PageState.{PageState}
 use Rattle.vm_facts.specs.declared.page.PageState.TheVariants.{Unfilled, Valid, Invalid, Coming, Going, OnSwap}
 use Rattle.flat_state.specs.PageNames.{number_of, beside, is_among}
 use Rattle.page_model.specs.Pages.{Slot, frame_of, is_dirty_by}
-use Rattle.page_model.specs.Frames.{times}
+use Rattle.vm_facts.specs.Lists.{times}
 use Rattle.page_model.specs.Placement.{Placement, Writes, slot_of, state_of, mark_of, is_dirty, page_of}
 use Rattle.page_model.specs.Moves.{begin, launch, launch_to, launch_all, launch_run, retire, retire_to}
 use Rattle.page_model.specs.Runs.{pages_of_run, run_out, goes_along, is_near, most_written}
@@ -15,9 +15,10 @@ use Rattle.page_model.specs.Ownership.{OwnsFrames}
 use Rattle.page_model.specs.Conditions.{EachPage}
 use Rattle.page_laws.specs.Neighbours.{IsIdleBeside}
 use Rattle.page_laws.specs.Sweeping.{MayBeSwept}
-use Rattle.page_laws.proofs.Lists.Frames.{times-append, times_one_other}
+use Rattle.page_laws.proofs.Lists.Frames.{times_one_other}
+use Rattle.vm_facts.proofs.Lists.{times-append}
 use Rattle.page_laws.proofs.Lists.Pages.{page_cases, put_state, put_mark, put_other}
-use Rattle.page_laws.proofs.Lists.Local.{some_is}
+use Rattle.std.proofs.lemmas.Option.{same_Some}
 use Rattle.page_laws.proofs.Lists.Runs.{run_each, run_both_in}
 use Rattle.page_laws.proofs.Moves.Steps.{page_in}
 use Rattle.page_laws.proofs.Moves.Stays.{Steady, expire_free, expire_steady, launch_run_steady}
@@ -52,7 +53,7 @@ expire_slot p locked w o = of (page_of p p.front) refl
         own f h n s = record {
           frame = f;
           state = ap (state_of p) s ∙ h;
-          front = some_is p.front f (sym (o.named p.front q e) ∙ ap frame_of h);
+          front = same_Some p.front f (sym (o.named p.front q e) ∙ ap frame_of h);
           unlocked = ap (λ (x : Page). is_among x locked) s ∙ n;
           behind = ap (λ (x : Placement). state_of x w) (turns f h n) ∙ ap (state_of (expire_to p q (Valid f))) s ∙ put_state p q (Invalid f) (mark_of p q) (page_in p q f (ap frame_of h));
           mark = ap (λ (x : Placement). mark_of x w) (turns f h n) ∙ ap (mark_of (expire_to p q (Valid f))) s ∙ put_mark p q (Invalid f) (mark_of p q) (page_in p q f (ap frame_of h)) ∙ ap (mark_of p) (sym s);
@@ -90,13 +91,13 @@ swept_from p locked w f dirty o t = elim (expire_slot p locked w o) [
     ap (λ (x : Slot). is_dirty_by w x.mark) (sym e) ∙ t.mark,
   )
   | inr e ↦ (
-    let same : e.frame ≡ f = some_is e.frame f (sym (ap frame_of e.behind) ∙ ap frame_of t.state) in
+    let same : e.frame ≡ f = same_Some e.frame f (sym (ap frame_of e.behind) ∙ ap frame_of t.state) in
         record { unlocked = e.unlocked; idle = inr (e.state ∙ ap Valid same, e.front ∙ same) },
     ap (is_dirty_by w) (sym e.mark) ∙ t.mark,
   )
 ]
 
-launch_free : (p : Placement) (v : Page) → (launch p v).free ≡ p.free
+pub launch_free : (p : Placement) (v : Page) → (launch p v).free ≡ p.free
 launch_free p v = go (state_of p v)
   where
     go : (s : PageState) → (launch_to p v s).free ≡ p.free
@@ -107,7 +108,7 @@ launch_free p v = go (state_of p v)
     go (Going f) = refl
     go OnSwap = refl
 
-launch_all_free : (qs : List Page) (p : Placement) → (launch_all p qs).free ≡ p.free
+pub launch_all_free : (qs : List Page) (p : Placement) → (launch_all p qs).free ≡ p.free
 launch_all_free [] p = refl
 launch_all_free (q ∷ qs) p = launch_all_free qs (launch p q) ∙ launch_free p q
 
@@ -160,7 +161,7 @@ among_or P w (q ∷ qs) h = elim (page_cases w q) [
   ]
 ]
 
-launch_other : (p : Placement) (v w : Page) → w ≢ v → slot_of (launch p v) w ≡ slot_of p w
+pub launch_other : (p : Placement) (v w : Page) → w ≢ v → slot_of (launch p v) w ≡ slot_of p w
 launch_other p v w n = go (state_of p v)
   where
     go : (s : PageState) → slot_of (launch_to p v s) w ≡ slot_of p w
@@ -193,7 +194,7 @@ run_taken p locked q h = run_each (TakenSome p locked) (λ w. goes_along p locke
 taken_at : (p : Placement) (locked : List Page) (w : Page) (f : ℕ) → TakenSome p locked w → frame_of (state_of p w) ≡ Some f → IsPicked p locked w f true
 taken_at p locked w f h e =
     let t : IsPicked p locked w h.0 true = h.1 in
-    let same : h.0 ≡ f = some_is h.0 f (sym (ap frame_of t.state) ∙ e) in
+    let same : h.0 ≡ f = same_Some h.0 f (sym (ap frame_of t.state) ∙ e) in
     record { state = t.state ∙ ap Invalid same; off = ap (λ (x : ℕ). times x p.free) (sym same) ∙ t.off; unlocked = t.unlocked; mark = t.mark }
 
 retire_going : (p : Placement) (q w : Page) (g f : ℕ) → state_of p q ≡ Invalid g → state_of (retire p q) w ≡ Going f → state_of p w ≡ Going f
@@ -218,7 +219,7 @@ swept_going p locked w f o l = of (page_of p p.back) refl l
     to : (q : Page) (s : PageState) (n : ℕ) (b : Bool) → state_of p q ≡ s → times p.back p.free ≡ n → is_among q locked ≡ b → page_of p p.back ≡ Some q
         → state_of (sweep_to p locked q s n b) w ≡ Going f → (state_of p w ≡ Going f) ⊎ IsPicked p locked w f true
     to q (Invalid g) zero false e n k h m =
-        let same : p.back ≡ g = some_is p.back g (sym (o.named p.back q h) ∙ ap frame_of e) in
+        let same : p.back ≡ g = same_Some p.back g (sym (o.named p.back q h) ∙ ap frame_of e) in
         by q g (is_dirty p q) e (ap (λ (x : ℕ). times x p.free) (sym same) ∙ n) k refl m
     to q (Invalid g) zero true e n k h m = inl m
     to q (Invalid g) (suc i) b e n k h m = inl m

@@ -2,22 +2,18 @@
 use Rattle.std.proofs.Common.{◌≡◌, ◌≢◌, ◌⊎◌, inl, inr, ℕ, zero, suc, ◌+◌, ◌-◌, ◌<◌, ◌≤◌, Bool, true, false, cond, refl, sym, ap, ◌∙◌, subst, arith}
 use Rattle.page_model.specs.Runs.{passing_above, passing_below, run_both, run_up}
 use Rattle.page_laws.specs.Neighbours.{IsWidestRun, IsLongestRun}
-use Rattle.page_laws.proofs.Lists.Runs.{below_le, run_both_in, run_up_in}
+use Rattle.page_laws.proofs.Lists.Runs.{below_le, run_both_in, run_up_in, less_by}
 
 -- Where passing stops.
 
-most_by : (b : Bool) (n room : ℕ) → n ≤ room → cond b (1 + n) 0 ≤ suc room
-most_by true n room h = omega arith
-most_by false n room h = omega arith
-
-above_le : (passes : ℕ → Bool) (v room : ℕ) → passing_above passes v room ≤ room
+pub above_le : (passes : ℕ → Bool) (v room : ℕ) → passing_above passes v room ≤ room
 above_le passes v zero = omega arith
-above_le passes v (suc room) = most_by (passes (v + 1)) (passing_above passes (v + 1) room) room (above_le passes (v + 1) room)
+above_le passes v (suc room) = less_by (passes (v + 1)) (passing_above passes (v + 1) room) room (above_le passes (v + 1) room)
 
-below_room : (passes : ℕ → Bool) (v room : ℕ) → passing_below passes v room ≤ room
+pub below_room : (passes : ℕ → Bool) (v room : ℕ) → passing_below passes v room ≤ room
 below_room passes zero room = omega arith
 below_room passes (suc v) zero = omega arith
-below_room passes (suc v) (suc room) = most_by (passes v) (passing_below passes v room) room (below_room passes v room)
+below_room passes (suc v) (suc room) = less_by (passes v) (passing_below passes v room) room (below_room passes v room)
 
 above_stops : (passes : ℕ → Bool) (v room : ℕ) → passing_above passes v room < room → passes (v + passing_above passes v room + 1) ≡ false
 above_stops passes v zero l = absurd (omega arith)

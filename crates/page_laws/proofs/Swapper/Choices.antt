@@ -1,12 +1,13 @@
 -- The swapper chooses as is said of it.
 use Rattle.std.proofs.Common.{◌≡◌, ◌⊎◌, inl, inr, ℕ, zero, suc, ◌+◌, ◌<◌, ◌≤◌, ◌==◌, nat_lt, nat_le, Bool, true, false, not, ◌&&◌, ◌||◌, cond, List, [], ◌∷◌, length, take, filter, Option, Some, None, refl, sym, ap, ◌∙◌, subst, arith}
 use Rattle.std.proofs.lemmas.Bool.Decides.{nat_tests}
+use Rattle.std.proofs.lemmas.Bool.{leb-true, not-true, and_parts}
 use Rattle.page_model.specs.Placement.{Placement}
 use Rattle.page_model.specs.Runs.{desired_free}
 use Rattle.page_model.specs.Swapper.{Runner, Choice, In, Out, Nothing, is_out, since, size_in_frames, is_longer, longest_of, longest, is_larger, ranked_in, ranked, may_come_in, may_go_out, sleepers, brings, puts_out, out_of, choice_of_out, choice_by, swap_choice}
 use Rattle.page_model.specs.Swapping.{OneOf, IsFirst, ComesIn, MayGo, larger_count, IsPick, GoesOut, NoneMoves}
-use Rattle.page_laws.proofs.Lists.Runs.{and_both}
-use Rattle.page_laws.proofs.Lists.Local.{none_some, some_is}
+use Rattle.page_laws.proofs.Lists.Local.{none_some}
+use Rattle.std.proofs.lemmas.Option.{same_Some}
 
 -- Orders.
 
@@ -84,7 +85,7 @@ record IsLongest (p : Placement) (xs : List Runner) (r : Runner) : Type 0 where
 longest_is : (p : Placement) (xs : List Runner) (r : Runner) → longest p xs ≡ Some r → IsLongest p xs r
 longest_is p [] r e = none_some r e
 longest_is p (x ∷ xs) r e =
-    let h = some_is (longest_of p x xs) r e in
+    let h = same_Some (longest_of p x xs) r e in
     record { one = subst (λ (z : Runner). OneOf z (x ∷ xs)) h (longest_one p x xs); first = λ y o. subst (λ (z : Runner). IsFirst p z y) h (longest_first p x xs y o) }
 
 longest_none : (p : Placement) (xs : List Runner) (y : Runner) → longest p xs ≡ None → OneOf y xs → ⊥
@@ -92,10 +93,6 @@ longest_none p [] y e o = absurd o
 longest_none p (x ∷ xs) y e o = none_some (longest_of p x xs) (sym e)
 
 -- Those that may come in, or go out.
-
-not_true : (b : Bool) → not b ≡ true → b ≡ false
-not_true true e = absurd cc
-not_true false e = refl
 
 not_false : (b : Bool) → b ≡ false → not b ≡ true
 not_false true e = absurd cc
@@ -105,13 +102,10 @@ may_from : (p : Placement) (x : Runner) → is_out p x.pid ≡ true → x.asleep
 may_from p x a b = ap (λ (c : Bool). c && not x.asleep) a ∙ not_false x.asleep b
 
 may_parts : (p : Placement) (x : Runner) → may_go_out p x ≡ true → MayGo p x
-may_parts p x e = let k = and_both (not (is_out p x.pid)) (not x.borrowed) e in record { resident = not_true (is_out p x.pid) k.0; own = not_true x.borrowed k.1 }
+may_parts p x e = let k = and_parts (not (is_out p x.pid)) (not x.borrowed) e in record { resident = not-true (is_out p x.pid) k.0; own = not-true x.borrowed k.1 }
 
 parts_may : (p : Placement) (x : Runner) → MayGo p x → may_go_out p x ≡ true
 parts_may p x m = ap (λ (c : Bool). c && not x.borrowed) (not_false (is_out p x.pid) m.resident) ∙ not_false x.borrowed m.own
-
-enough_is : (a b : ℕ) → nat_le a b ≡ true → a ≤ b
-enough_is a b e = grind (arith, nat_tests)
 
 few_is : (a b : ℕ) → nat_le a b ≡ false → b < a
 few_is a b e = grind (arith, nat_tests)
@@ -133,19 +127,19 @@ chosen_in p rs pid e = go (nat_le (desired_free p) (length p.free)) refl e
     from (Some r) l k m =
         let i : IsLongest p (filter (may_come_in p) rs) r = longest_is p (filter (may_come_in p) rs) r l in
         let a = one_map r (may_come_in p) rs i.one in
-        let b = and_both (is_out p r.pid) (not r.asleep) a.1 in
+        let b = and_parts (is_out p r.pid) (not r.asleep) a.1 in
         record {
           runner = r;
           one = a.0;
           number = (let h : In r.pid ≡ In pid = k in cc);
           out = b.0;
-          awake = not_true r.asleep b.1;
+          awake = not-true r.asleep b.1;
           longest = λ x o u v. i.first x (one_in x (may_come_in p) rs (may_from p x u v) o);
           enough = m;
         }
 
     go : (b : Bool) → nat_le (desired_free p) (length p.free) ≡ b → choice_by p rs b ≡ In pid → ComesIn p rs pid
-    go true h k = from (longest p (filter (may_come_in p) rs)) refl k (enough_is (desired_free p) (length p.free) h)
+    go true h k = from (longest p (filter (may_come_in p) rs)) refl k (leb-true (desired_free p) (length p.free) h)
     go false h k = absurd (out_not_in p (filter (may_go_out p) rs) (longest p (sleepers (filter (may_go_out p) rs))) pid k)
 
 -- The largest.
@@ -409,7 +403,7 @@ chosen_none p rs e = go (nat_le (desired_free p) (length p.free)) refl e
     go : (b : Bool) → nat_le (desired_free p) (length p.free) ≡ b → choice_by p rs b ≡ Nothing → NoneMoves p rs
     go true h k = (
       (λ x o a m. nobody_in (longest p (filter (may_come_in p) rs)) refl k x o a x.asleep refl),
-      (λ x o a m. absurd (let l = enough_is (desired_free p) (length p.free) h in omega arith)),
+      (λ x o a m. absurd (let l = leb-true (desired_free p) (length p.free) h in omega arith)),
     )
     go false h k = (
       (λ x o a m. absurd (let l = few_is (desired_free p) (length p.free) h in omega arith)),

@@ -10,7 +10,7 @@ use Rattle.vm_facts.specs.declared.entry.Entry.{Entry}
 use Rattle.vm_facts.specs.declared.entry.Entry.TheVariants as entries
 use Rattle.page_model.specs.Pages.{Slot, no_slot, frame_of, numbered, changed, written_mark}
 use Rattle.flat_state.specs.PageNames.{number_of, beside, pages_from, same_page}
-use Rattle.page_model.specs.Frames.{times}
+use Rattle.vm_facts.specs.Lists.{times}
 use Rattle.page_model.specs.Placement.{Placement, Residence, Transfer, Part, Errand, Writes, Reads, slots_of, slot_of, state_of, mark_of, is_dirty, parts_of, image_of, sharers, put}
 use Rattle.page_model.specs.Moves.{turn, begin, join_last, launch, launch_to, launch_all, launch_run, land, land_read, land_all, done, done_of, retire, retire_to, arrived_mark}
 use Rattle.page_model.specs.Runs.{run_put, run_put_by, run_up, run_alone, is_seated, is_seated_by, is_near, most_written}
@@ -18,20 +18,24 @@ use Rattle.page_model.specs.Serve.{is_full}
 use Rattle.page_model.specs.Place.{put_by, put_step, moved, place_entry, data_from, stack_from, pages_of_space}
 use Rattle.page_model.specs.Conditions.{EachPage, HasSeat, CanPlace, CanBegin, HaveParts}
 use Rattle.page_model.specs.Ownership.{OwnsFrames}
-use Rattle.page_model.specs.Swapper.{residence_of, is_out, is_of_space, is_of_text, names_page, is_settled, first_seated, put_unit_by, put_out_by, put_out_if, put_out_unit}
+use Rattle.page_model.specs.Swapper.{residence_of, is_out, names_page, is_settled, first_seated, put_unit_by, put_out_by, put_out_if, put_out_unit}
+use Rattle.vm_facts.specs.Pages.{is_of_space, is_of_text}
 use Rattle.page_model.specs.Dues.{DueStand, LeavesDue}
 use Rattle.page_model.specs.PuttingOut.{IsResident, is_active_by, is_active, active_count, put_rank, put_rank_by, EndsPuttingOut}
-use Rattle.page_laws.proofs.Lists.Frames.{times-append, times_one}
-use Rattle.page_laws.proofs.Lists.Pages.{page_cases, put_state, put_length}
-use Rattle.page_laws.proofs.Lists.Local.{none_some, some_is}
+use Rattle.page_laws.proofs.Lists.Frames.{times_one}
+use Rattle.vm_facts.proofs.Lists.{times-append}
+use Rattle.page_laws.proofs.Lists.Pages.{page_cases, put_state, put_length, beside_self}
+use Rattle.page_laws.proofs.Lists.Local.{none_some}
+use Rattle.std.proofs.lemmas.Option.{same_Some}
 use Rattle.page_laws.proofs.Moves.Steps.{page_in, put_other_state}
-use Rattle.page_laws.proofs.Lists.Runs.{and_both, run_each, run_up_in, run_alone_in, beside_number}
+use Rattle.page_laws.proofs.Lists.Runs.{run_each, run_up_in, run_alone_in}
+use Rattle.std.proofs.lemmas.Bool.{and_parts, cases_lt, leb-false}
+use Rattle.page_laws.proofs.Moves.HandRuns.{retire_flies}
 use Rattle.page_laws.proofs.Ownership.Runs.{Landing, landing_state, land_owner, land_transfers, seated_seat}
 use Rattle.page_laws.proofs.Ownership.Entries.{place_entry_owner}
 use Rattle.page_laws.proofs.Moves.Stays.{Steady, done_steady}
 use Rattle.page_laws.proofs.Bytes.Others.{put_steady}
-use Rattle.page_laws.proofs.Ends.Serving.{land_all_transfers}
-use Rattle.page_laws.proofs.Moves.Transfers.{entry_count}
+use Rattle.page_laws.proofs.Moves.Transfers.{entry_count, land_all_rest}
 use Rattle.page_laws.proofs.Moves.Parts.{entry_parts}
 use Rattle.page_laws.proofs.Due.Entries.{entry_due}
 
@@ -58,12 +62,9 @@ active_less p q l (Coming f) e = refl
 active_less p q l (Going f) e = e
 active_less p q l OnSwap e = e
 
-le_or : (a b : ℕ) → (a < b) ⊎ (b ≤ a)
-le_or a b = grind arith
-
 -- where a page is active after it was put into a state, that is an active state
 put_active : (p : Placement) (v : Page) (s : PageState) (m : Bool) (free : List ℕ) (ts : List Transfer) → is_active (turn p v s m free ts) v ≡ true → is_active_by (turn p v s m free ts) s ≡ true
-put_active p v s m free ts e = elim (le_or (number_of v) (length (slots_of p v))) [
+put_active p v s m free ts e = elim (cases_lt (number_of v) (length (slots_of p v))) [
   | inl l ↦ sym (ap (is_active_by (turn p v s m free ts)) (put_state p v s m l)) ∙ e
   | inr l ↦ absurd (
       let k : slot_of (put p v s m) v ≡ no_slot = get_or_past (slots_of (put p v s m) v) (number_of v) no_slot (let h = put_length p v s m v in omega arith) in
@@ -203,7 +204,7 @@ put_idle p v (suc n) l c = go (is_dirty p v)
     launched = idle_still (launch b v) (launch_all (launch b v) rest) v (launch_all_calm rest (launch b v)) (launched_idle b v (begun_seat p v c))
 
     go : (d : Bool) → is_active (put_by p v (pages_from v (number_of v) (suc n)) d) v ≡ false
-    go true = subst (λ (x : Page). is_active (launch_all (launch b x) rest) v ≡ false) (sym (beside_number v)) launched
+    go true = subst (λ (x : Page). is_active (launch_all (launch b x) rest) v ≡ false) (sym (beside_self v)) launched
     go false = retired_idle p v c
 
 -- Counting.
@@ -231,7 +232,7 @@ seated_first p [] v e = none_some v e
 seated_first p (q ∷ qs) v e = go (is_seated p q) refl e (seated_first p qs v)
   where
     go : (b : Bool) → is_seated p q ≡ b → cond b (Some q) (first_seated p qs) ≡ Some v → (first_seated p qs ≡ Some v → is_seated p v ≡ true) → is_seated p v ≡ true
-    go true h k ih = ap (is_seated p) (sym (some_is q v k)) ∙ h
+    go true h k ih = ap (is_seated p) (sym (same_Some q v k)) ∙ h
     go false h k ih = ih k
 
 count_less : (p q : Placement) (qs : List Page) (v : Page) → Calmer p q → first_seated p qs ≡ Some v → is_active q v ≡ false → active_count q qs < active_count p qs
@@ -250,7 +251,7 @@ count_less p q (w ∷ qs) v c e i = go (is_seated p w) refl e (λ k. count_less 
     tail false false h l = omega arith
 
     go : (b : Bool) → is_seated p w ≡ b → cond b (Some w) (first_seated p qs) ≡ Some v → (first_seated p qs ≡ Some v → active_count q qs < active_count p qs) → active_count q (w ∷ qs) < active_count p (w ∷ qs)
-    go true h k ih = head (is_active q w) (is_active p w) (subst (λ (x : Page). is_active q x ≡ false) (sym (some_is w v k)) i) (seated_active p (state_of p w) h)
+    go true h k ih = head (is_active q w) (is_active p w) (subst (λ (x : Page). is_active q x ≡ false) (sym (same_Some w v k)) i) (seated_active p (state_of p w) h)
     go false h k ih = tail (is_active q w) (is_active p w) (c w) (ih k)
 
 -- Residents, and the pages of the space.
@@ -322,7 +323,7 @@ done_rank : (p : Placement) (pid sid : ℕ) (t : Transfer) (ts : List Transfer) 
 done_rank p pid sid t ts o e h =
     let a = rank_is p pid sid e in
     let b = rank_is (done p) pid sid (same_out p (done p) pid (done_residents p) ∙ e) in
-    let c : (done p).transfers ≡ ts = ap (λ (us : List Transfer). (done_of p us).transfers) h ∙ land_all_transfers t.parts p t.errand ts in
+    let c : (done p).transfers ≡ ts = ap (λ (us : List Transfer). (done_of p us).transfers) h ∙ land_all_rest t.parts p t.errand ts in
     let d = ap length c in
     let g : length p.transfers ≡ suc (length ts) = ap length h in
     let k = ap (active_count (done p)) (same_pages p (done p) sid (done_steady p o)) in
@@ -374,9 +375,6 @@ unsettled_flies p sid e = go p.transfers refl
 pub full_is : (n : ℕ) → nat_le 16 n ≡ true → 16 ≤ n
 full_is n e = grind (arith, nat_tests)
 
-pub not_full : (n : ℕ) → nat_le 16 n ≡ false → n < 16
-not_full n e = grind (arith, nat_tests)
-
 pub full_flies : (p : Placement) → is_full p ≡ true → (t : Transfer) × (ts : List Transfer) × (p.transfers ≡ t ∷ ts)
 full_flies p e = go p.transfers refl
   where
@@ -398,8 +396,8 @@ run_seats p v c = go (is_dirty p v)
     passes w = is_seated p (beside v w) && (is_dirty p (beside v w) && is_near v w)
 
     go : (b : Bool) → EachPage (HasSeat p) (pages_from v (number_of v) (run_put_by p v b).n)
-    go true = run_each (HasSeat p) passes v (run_up passes (number_of v) most_written) (run_up_in passes (number_of v) most_written) c (λ w e. seated_seat p (beside v w) (and_both (is_seated p (beside v w)) (is_dirty p (beside v w) && is_near v w) e).0)
-    go false = run_each (HasSeat p) passes v (run_alone v) (run_alone_in passes v) c (λ w e. seated_seat p (beside v w) (and_both (is_seated p (beside v w)) (is_dirty p (beside v w) && is_near v w) e).0)
+    go true = run_each (HasSeat p) passes v (run_up passes (number_of v) most_written) (run_up_in passes (number_of v) most_written) c (λ w e. seated_seat p (beside v w) (and_parts (is_seated p (beside v w)) (is_dirty p (beside v w) && is_near v w) e).0)
+    go false = run_each (HasSeat p) passes v (run_alone v) (run_alone_in passes v) c (λ w e. seated_seat p (beside v w) (and_parts (is_seated p (beside v w)) (is_dirty p (beside v w) && is_near v w) e).0)
 
 -- something is so of the unit, where it is so of each that it can be
 pub unit_case : (P : Entry → Type 0) (p : Placement) (pid sid : ℕ)
@@ -410,7 +408,7 @@ pub unit_case : (P : Entry → Type 0) (p : Placement) (pid sid : ℕ)
 unit_case P p pid sid d u l = go (is_settled p sid) refl
   where
     unit : (v : Page) (b : Bool) → is_settled p sid ≡ true → first_seated p (pages_of_space p sid) ≡ Some v → (is_dirty p v && is_full p) ≡ b → P (put_unit_by p v b)
-    unit v true e h k = let f = full_flies p (and_both (is_dirty p v) (is_full p) k).1 in d f.0 f.1 f.2
+    unit v true e h k = let f = full_flies p (and_parts (is_dirty p v) (is_full p) k).1 in d f.0 f.1 f.2
     unit v false e h k = u v e h k
 
     by : (o : Option Page) → is_settled p sid ≡ true → first_seated p (pages_of_space p sid) ≡ o → P (put_out_by p pid o)
@@ -434,21 +432,10 @@ unit_falls locked at p pid sid o i e = unit_case (λ (u : Entry). put_rank (plac
     (λ v s h k. put_rank_falls locked at p pid sid v (run_put p v).n e (run_some p v) h)
     (λ s h. out_rank p pid sid at i e)
 
-retire_transfers : (p : Placement) (v : Page) → (retire p v).transfers ≡ p.transfers
-retire_transfers p v = go (state_of p v)
-  where
-    go : (s : PageState) → (retire_to p v s).transfers ≡ p.transfers
-    go (Valid f) = refl
-    go (Invalid f) = refl
-    go Unfilled = refl
-    go (Coming f) = refl
-    go (Going f) = refl
-    go OnSwap = refl
-
 pub unit_few : (locked : List Page) (at : ℕ) (p : Placement) (pid sid : ℕ) → length p.transfers ≤ 16 → length (place_entry locked at p (put_out_unit p pid sid)).transfers ≤ 16
 unit_few locked at p pid sid l = unit_case (λ (u : Entry). length (place_entry locked at p u).transfers ≤ 16) p pid sid
     (λ t ts h.
-    let c : (done p).transfers ≡ ts = ap (λ (us : List Transfer). (done_of p us).transfers) h ∙ land_all_transfers t.parts p t.errand ts in
+    let c : (done p).transfers ≡ ts = ap (λ (us : List Transfer). (done_of p us).transfers) h ∙ land_all_rest t.parts p t.errand ts in
     let d = ap length c in
     let g : length p.transfers ≡ suc (length ts) = ap length h in
     omega arith)
@@ -456,8 +443,8 @@ unit_few locked at p pid sid l = unit_case (λ (u : Entry). length (place_entry 
     (λ s h. l)
   where
     put_few : (v : Page) (d f : Bool) → is_dirty p v ≡ d → is_full p ≡ f → (is_dirty p v && is_full p) ≡ false → length (put_step p v (pages_from v (number_of v) (run_put p v).n)).transfers ≤ 16
-    put_few v false f e h k = subst (λ (b : Bool). length (put_by p v (pages_from v (number_of v) (run_put p v).n) b).transfers ≤ 16) (sym e) (let c = ap length (retire_transfers p v) in omega arith)
-    put_few v true false e h k = let c = entry_count locked at p (entries.Put v (run_put p v).n) in let m = not_full (length p.transfers) h in omega arith
+    put_few v false f e h k = subst (λ (b : Bool). length (put_by p v (pages_from v (number_of v) (run_put p v).n) b).transfers ≤ 16) (sym e) (let c = ap length (retire_flies p v) in omega arith)
+    put_few v true false e h k = let c = entry_count locked at p (entries.Put v (run_put p v).n) in let m = leb-false 16 (length p.transfers) h in omega arith
     put_few v true true e h k = absurd (let z : true ≡ false = sym (ap₂ (λ (a b : Bool). a && b) e h) ∙ k in cc)
 
 -- The whole.

@@ -1,17 +1,11 @@
 -- A process goes in or out alone.
-use Rattle.std.proofs.Common.{◌≡◌, ◌≢◌, ℕ, ◌==◌, Bool, true, false, cond, List, [], ◌∷◌, Some, None, refl, sym, ap, ◌∙◌, arith}
-use Rattle.std.proofs.lemmas.Bool.Decides.{nat_tests}
+use Rattle.std.proofs.Common.{◌≡◌, ◌≢◌, ℕ, ◌==◌, Bool, true, false, cond, List, [], ◌∷◌, Some, None, refl, sym, ap, ◌∙◌}
+use Rattle.std.proofs.lemmas.Bool.{eqb-true, ne_eqb}
 use Rattle.page_model.specs.Pages.{numbered, changed}
 use Rattle.page_model.specs.Placement.{Placement, Residence}
 use Rattle.page_model.specs.Place.{moved}
 use Rattle.page_model.specs.Swapper.{residence_of}
 use Rattle.page_model.specs.PuttingOut.{IsResident}
-
-equal : (a b : ℕ) → (a == b) ≡ true → a ≡ b
-equal a b e = grind (arith, nat_tests)
-
-differs : (a b : ℕ) → a ≢ b → (a == b) ≡ false
-differs a b n = grind (arith, nat_tests)
 
 -- one resident of a list, in or out since another place
 abbrev set_out : List Residence → ℕ → Bool → ℕ → List Residence
@@ -24,7 +18,7 @@ own_in (r ∷ rs) pid out at n = go (r.pid == pid) refl n (own_in rs pid out at)
     go : (b : Bool) → (r.pid == pid) ≡ b → (cond b (Some r) (numbered (λ (r : Residence). r.pid) pid rs) ≢ None)
         → ((numbered (λ (r : Residence). r.pid) pid rs ≢ None) → residence_of (set_out rs pid out at) pid ≡ record { pid = pid; out = out; since = at })
         → residence_of (cond b (record r { out = out; since = at } ∷ rs) (r ∷ set_out rs pid out at)) pid ≡ record { pid = pid; out = out; since = at }
-    go true e k ih = ap (λ (b : Bool). cond b (record r { out = out; since = at }) (residence_of rs pid)) e ∙ ap (λ (n : ℕ). record { pid = n; out = out; since = at }) (equal r.pid pid e)
+    go true e k ih = ap (λ (b : Bool). cond b (record r { out = out; since = at }) (residence_of rs pid)) e ∙ ap (λ (n : ℕ). record { pid = n; out = out; since = at }) (eqb-true r.pid pid e)
     go false e k ih = ap (λ (b : Bool). cond b r (residence_of (set_out rs pid out at) pid)) e ∙ ih k
 
 other_in : (rs : List Residence) (pid n : ℕ) (out : Bool) (at : ℕ) → n ≢ pid → residence_of (set_out rs pid out at) n ≡ residence_of rs n
@@ -33,7 +27,7 @@ other_in (r ∷ rs) pid n out at d = go (r.pid == pid) refl (other_in rs pid n o
   where
     go : (b : Bool) → (r.pid == pid) ≡ b → residence_of (set_out rs pid out at) n ≡ residence_of rs n → residence_of (cond b (record r { out = out; since = at } ∷ rs) (r ∷ set_out rs pid out at)) n ≡ residence_of (r ∷ rs) n
     go true e ih =
-        let m : (r.pid == n) ≡ false = differs r.pid n (λ k. d (sym k ∙ equal r.pid pid e)) in
+        let m : (r.pid == n) ≡ false = ne_eqb r.pid n (λ k. d (sym k ∙ eqb-true r.pid pid e)) in
         ap (λ (b : Bool). cond b (record r { out = out; since = at }) (residence_of rs n)) m ∙ sym (ap (λ (b : Bool). cond b r (residence_of rs n)) m)
     go false e ih = ap (λ (x : Residence). cond (r.pid == n) r x) ih
 

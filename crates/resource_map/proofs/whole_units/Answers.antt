@@ -1,4 +1,4 @@
-use Rattle.std.proofs.Common.{◌≡◌, ℕ, ◌+◌, true, List, ◌++◌, [], ◌∷◌, sym, ◌∙◌, subst, arith}
+use Rattle.std.proofs.Common.{◌≡◌, ℕ, ◌+◌, true, List, ◌++◌, [], ◌∷◌, sym, subst, arith}
 use Rattle.resource_map.specs.declared.Extent.{Extent}
 use Rattle.resource_map.specs.Extents.{InOrder, covers}
 use Rattle.resource_map.proofs.ExtentLaws.{order_push, covers_push}

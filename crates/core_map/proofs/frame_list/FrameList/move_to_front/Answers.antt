@@ -1,4 +1,4 @@
-use Rattle.core_map.proofs.OrderLemmas.{times-without_same}
+use Rattle.vm_facts.proofs.Lists.{times-without_same}
 use Rattle.core_map.proofs.frame_list.FrameList.move_to_front.Goals as goal
 
 pub push_front-requires-clause-absent : goal.push_front-requires-clause-absent
