@@ -1,11 +1,11 @@
 -- The changes of a process that has its registers already.
-use Rattle.std.proofs.Common.{◌≡◌, ℕ, cond, nat_lt, zero, suc, ◌+◌, ◌<◌, ◌==◌, Bool, true, false, not, List, [], ◌∷◌, length, filter, get_or, set, Option, Some, None, IsTrue, refl, sym, ap, ◌∙◌, subst, arith}
-use Rattle.std.specs.Prelude.{position, find, IsSome}
-use Rattle.flat_state.specs.Space.{Space, puts}
-use Rattle.flat_state.specs.Flat.{Holding, Holds, Lends, Zombie, Process, FlatState, NamedImage, image_numbered, process_of, holds_space, space_with}
+use Rattle.std.proofs.Common.{◌≡◌, ℕ, cond, nat_lt, ◌+◌, ◌==◌, Bool, true, false, not, List, [], ◌∷◌, length, filter, get_or, set, Option, Some, None, IsTrue, refl, sym, ap, ◌∙◌, subst, arith}
+use Rattle.std.specs.Prelude.{position, IsSome}
+use Rattle.flat_state.specs.Space.{Space}
+use Rattle.flat_state.specs.Flat.{Holding, Holds, Lends, Zombie, Process, FlatState, NamedImage, image_numbered, holds_space, space_with}
 use Rattle.vm_facts.specs.declared.regs.Regs.{Regs}
 use Rattle.std.proofs.lemmas.Bool.Decides.{nat_tests}
-use Rattle.flat_state.specs.Change.{replaced, replaced_by, with_process, without_process, changed, changed_if, changed_by, apply_change, forked, lent, entered, ended, resized, with_child, child_of, given_back, orphaned, left}
+use Rattle.flat_state.specs.Change.{replaced, with_process, without_process, changed, changed_if, changed_by, apply_change, entered, resized, with_child, child_of, given_back, orphaned, left}
 use Rattle.flat_state.specs.declared.change.Change.{Change}
 use Rattle.flat_state.specs.declared.change.Change.TheVariants.{Keep, Resize, Fork, Lend, Exec, Reap, Sleep, End}
 use Rattle.replay_check.specs.Images.{CanChange}

@@ -1,5 +1,5 @@
 -- Images that are loaded, and found by name.
-use Rattle.std.proofs.Common.{◌≡◌, ℕ, zero, suc, ◌+◌, ◌<◌, ◌≤◌, Bool, true, false, List, [], ◌∷◌, ◌++◌, length, drop, get_or, Some, None, Result, Ok, Err, is_ok, IsTrue, refl, sym, ap, ◌∙◌, subst, append_assoc, arith}
+use Rattle.std.proofs.Common.{◌≡◌, ℕ, zero, suc, ◌+◌, ◌<◌, ◌≤◌, Bool, true, false, List, [], ◌∷◌, ◌++◌, length, drop, get_or, Some, None, Result, Ok, Err, is_ok, IsTrue, refl, ap, ◌∙◌, subst, arith}
 use Rattle.std.specs.Prelude.{bytes_eq, slice_get, All, IsSome}
 use Rattle.std.proofs.lemmas.List.Elements.{All-tail, recursion_from_All}
 use Rattle.std.proofs.lemmas.List.{drop_more, drop_all}

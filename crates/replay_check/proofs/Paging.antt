@@ -1,5 +1,5 @@
 -- Computations over a space of which only some pages are present.
-use Rattle.std.proofs.Common.{◌≡◌, ℕ, ◌+◌, ◌-◌, ◌≤◌, ◌<◌, ◌==◌, Bool, true, false, not, ◌&&◌, ◌||◌, cond, List, [], ◌∷◌, ◌++◌, length, length-append, filter, append_assoc, Option, Some, None, Result, Ok, Err, refl, sym, ap, ◌∙◌, ap₂, subst, subst₂, arith, eq-eqb, le_refl, le_trans, append-nil}
+use Rattle.std.proofs.Common.{◌≡◌, ℕ, ◌+◌, ◌-◌, ◌≤◌, ◌<◌, ◌==◌, Bool, true, false, not, ◌&&◌, ◌||◌, cond, List, [], ◌∷◌, ◌++◌, length, length-append, filter, append_assoc, Option, Some, None, Result, Ok, Err, refl, sym, ap, ◌∙◌, ap₂, subst, subst₂, arith, le_refl, le_trans, append-nil}
 use Rattle.std.specs.Prelude.{◌/◌, ◌%◌, ◌*◌, ℤ, nat_le, slice_index}
 use Rattle.std.specs.List.{cons_option}
 use Rattle.std.proofs.lemmas.Bool.Decides.{nat_tests}

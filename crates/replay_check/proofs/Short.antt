@@ -1,14 +1,14 @@
 -- The replies of exit and write.
-use Rattle.std.proofs.Common.{◌≡◌, ℕ, zero, suc, ◌+◌, ◌≤◌, ◌*◌, ◌%◌, ◌==◌, ◌||◌, min, Bool, true, false, List, [], ◌∷◌, length, Result, Ok, Err, refl, sym, ap, ◌∙◌, subst, arith}
+use Rattle.std.proofs.Common.{◌≡◌, ℕ, zero, suc, ◌≤◌, ◌*◌, ◌%◌, ◌==◌, ◌||◌, min, Bool, true, false, List, [], ◌∷◌, length, Result, Ok, Err, sym, ap, ◌∙◌, subst, arith}
 use Rattle.vm_facts.specs.Answers.{Answers}
 use Rattle.vm_facts.specs.declared.regs.Regs.{Regs}
-use Rattle.user_vax.specs.Program.{Program, Gives, Reads, run, ◌>>=◌}
+use Rattle.user_vax.specs.Program.{Gives, Reads, run, ◌>>=◌}
 use Rattle.user_vax.specs.declared.refused.Refused.{Refused}
 use Rattle.user_vax.specs.Operands.{past}
 use Rattle.user_vax.proofs.Runs.{ok_of_bind}
 use Rattle.flat_state.specs.Flat.{NamedImage}
 use Rattle.flat_model.specs.declared.calls.Reply.{Reply}
-use Rattle.flat_model.specs.declared.calls.Reply.TheVariants.{Fails, Does, Writes, Waits, Exits}
+use Rattle.flat_model.specs.declared.calls.Reply.TheVariants.{Fails, Writes, Exits}
 use Rattle.flat_model.specs.Calls.{argument, three_arguments, bytes_from, written_to, write_reply, exit_reply, write_limit}
 use Rattle.replay_check.specs.Images.{CanReply, CanAnswer}
 

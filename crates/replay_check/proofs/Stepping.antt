@@ -1,8 +1,8 @@
 -- A step, from what its instruction came to.
-use Rattle.std.proofs.Common.{◌≡◌, ℕ, zero, suc, ◌+◌, ◌≤◌, ◌<◌, min, Bool, true, false, List, [], ◌∷◌, length, Option, Some, None, Result, Ok, Err, ℤ, refl, sym, ap, ◌∙◌, subst, arith}
-use Rattle.vm_facts.specs.Answers.{Answers, ByteWrite}
+use Rattle.std.proofs.Common.{◌≡◌, ℕ, Bool, false, List, length, Option, Some, None, Result, Ok, Err, ℤ, refl, sym, ap, ◌∙◌}
+use Rattle.vm_facts.specs.Answers.{ByteWrite}
 use Rattle.flat_state.specs.Space.{Space, answers_of, puts, byte_at, may_write_at, address_in}
-use Rattle.flat_state.specs.Flat.{Holding, Holds, Process, FlatState, NamedImage, Inputs, process_of}
+use Rattle.flat_state.specs.Flat.{Process, FlatState, NamedImage, Inputs, process_of}
 use Rattle.vm_facts.specs.declared.regs.Regs.{Regs}
 use Rattle.user_vax.specs.Program.{Program, run, Access, ReadOf, TestOf}
 use Rattle.user_vax.specs.Effects.{Effect}
@@ -11,23 +11,21 @@ use Rattle.user_vax.specs.declared.refused.Refused.{Refused}
 use Rattle.user_vax.specs.declared.refused.Refused.TheVariants as refusals
 use Rattle.user_vax.specs.declared.stepping.Stepped.{Stepped}
 use Rattle.user_vax.specs.declared.stepping.Stepped.TheVariants as steps
-use Rattle.user_vax.proofs.Runs.{ok_of_bind}
 use Rattle.user_vax.specs.Laws.{read_refusal, test_refusal, refusal}
 use Rattle.user_vax.proofs.Order.{keeps_order}
 use Rattle.flat_model.specs.Instruction.{instruction_in}
 use Rattle.flat_state.specs.declared.spot.Spot.{Spot}
 use Rattle.flat_state.specs.declared.spot.Spot.TheVariants.{Text, Data, Stack, Below, Outside}
 use Rattle.flat_state.specs.Change.{apply_writes, apply_change, wrote_by, wrote_if, with_process}
-use Rattle.flat_state.specs.declared.change.Change.TheVariants.{Keep, Resize, Sleep, End}
+use Rattle.flat_state.specs.declared.change.Change.TheVariants.{Keep}
 use Rattle.flat_model.specs.declared.calls.Reply.{Reply}
-use Rattle.flat_model.specs.declared.calls.Reply.TheVariants.{Fails, Does, Writes, Waits, Exits}
+use Rattle.flat_model.specs.declared.calls.Reply.TheVariants.{Writes}
 use Rattle.flat_model.specs.declared.calls.SystemCall.{SystemCall}
-use Rattle.flat_model.specs.declared.calls.SystemCall.TheVariants as calls
-use Rattle.flat_model.specs.Calls.{call_of, replied, or_fault, refused_reply, reply_of, bytes_from, written_to, write_reply}
-use Rattle.flat_model.specs.Step.{flat_step, step_if, step_holding, step_of, step_behind, called_step, replied_step, reply_behind, pages_down_to, data_pages_of, written_process}
+use Rattle.flat_model.specs.Calls.{call_of, replied, or_fault, refused_reply, reply_of}
+use Rattle.flat_model.specs.Step.{flat_step, step_if, step_holding, step_of, step_behind, called_step, replied_step, written_process}
 use Rattle.replay_check.specs.declared.deed.Did.TheVariants as deeds
 use Rattle.replay_check.specs.declared.deed.Deed.{Deed}
-use Rattle.replay_check.specs.Machine.{step_by, space_in, space_at, process_at, IsPlace, IsBehind}
+use Rattle.replay_check.specs.Machine.{step_by, space_at, process_at, IsPlace, IsBehind}
 use Rattle.replay_check.proofs.Lists.{process_found}
 use Rattle.replay_check.proofs.Changing.{held, at_kept}
 

@@ -5,7 +5,6 @@ use Rattle.vm_facts.specs.declared.entry.Entry.{Entry}
 use Rattle.page_model.specs.Pages.{numbered}
 use Rattle.page_model.specs.Placement.{Placement}
 use Rattle.page_model.specs.Place.{space_of_process}
-use Rattle.flat_state.specs.Change.{is_borrower}
 use Rattle.page_model.specs.Swapper.{is_out, put_out_unit}
 use Rattle.page_model.specs.PuttingOut.{IsResident, put_rank, EndsPuttingOut}
 use Rattle.kernel_model.specs.Sound.{lives}

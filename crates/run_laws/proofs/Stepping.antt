@@ -28,6 +28,7 @@ use Rattle.flat_state.specs.Numbers.{IsNumbered}
 use Rattle.flat_state.specs.Lenders.{LendsStand}
 use Rattle.kernel_model.specs.Stands.{Stands}
 use Rattle.kernel_laws.proofs.Sound.Steps.{touch_transfers}
+use Rattle.page_laws.proofs.Moves.Puts.{rest_by_puts, touch_all_kept}
 use Rattle.page_laws.proofs.Moves.Stays.{Steady}
 use Rattle.page_laws.proofs.Bytes.Others.{touch_steady}
 use Rattle.kernel_laws.proofs.Machine.Shapes.{touch_shaped, image_kept}
@@ -44,7 +45,6 @@ use Rattle.run_laws.specs.Standing.{machine_of, Placed, Own}
 use Rattle.kernel_model.specs.Invariant.{EntersImage}
 use Rattle.run_laws.proofs.Writing.{SameSpace, puts_same, space_tables, touch_all_placed, writes_placed}
 use Rattle.run_laws.proofs.OwnChanges.{Changing, own_change}
-use Rattle.kernel_laws.proofs.Machine.Starts.{start_outlines}
 use Rattle.kernel_laws.proofs.Kept.Changes.{GivesBack}
 use Rattle.run_laws.proofs.BackChanges.{back_change}
 
@@ -110,8 +110,7 @@ touched_out [] p n = refl
 touched_out (q ∷ qs) p n = touched_out qs (touch p q) n ∙ ap (λ (rs : List Residence). (residence_of rs n).out) (touch_shaped p q).residents
 
 pub touched_due : (qs : List Page) (p : Placement) → (touch_all p qs).due ≡ p.due
-touched_due [] p = refl
-touched_due (q ∷ qs) p = let t : Steady p (touch p q) = touch_steady p q in touched_due qs (touch p q) ∙ t.due
+touched_due qs p = (touch_all_kept rest_by_puts qs p).due
 
 pub touched_settled : (qs : List Page) (p : Placement) (sid : ℕ) → is_settled (touch_all p qs) sid ≡ is_settled p sid
 touched_settled [] p sid = refl

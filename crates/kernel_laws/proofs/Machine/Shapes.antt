@@ -134,7 +134,7 @@ shaped_by_puts = record {
   still = λ p q a b c. record {
     spaces = λ sid. ap (λ (ss : List SpacePages). shape_in (numbered space_number sid ss)) a;
     texts = λ i. ap (λ (ts : List TextPages). length (text_in (numbered image_number i ts))) b;
-    residents = c;
+    residents = c.residents;
   };
   both = shaped_both;
   puts = put_shaped;
@@ -143,7 +143,7 @@ shaped_by_puts = record {
 -- Each move keeps the shapes.
 
 pub filled_shaped : (p : Placement) (v : Page) → Shaped p (filled p v)
-filled_shaped = filled_kept shaped_by_puts
+filled_shaped = filled_kept shaped_by_puts (λ p ds. shaped_self p)
 
 pub get_run_shaped : (p : Placement) (e : Errand) (qs : List Page) → Shaped p (get_run p e qs)
 get_run_shaped = get_run_kept shaped_by_puts
@@ -155,7 +155,7 @@ pub put_step_shaped : (p : Placement) (v : Page) (qs : List Page) → Shaped p (
 put_step_shaped = put_step_kept shaped_by_puts
 
 pub moves_shaped : (n : ℕ) (p : Placement) (locked : List Page) → Shaped p (hand_moves p locked n)
-moves_shaped = moves_kept shaped_by_puts
+moves_shaped = moves_kept shaped_by_puts (λ p. shaped_self p)
 
 pub done_shaped : (p : Placement) → Shaped p (done p)
 done_shaped = done_kept shaped_by_puts

@@ -9,6 +9,7 @@ use Rattle.vm_facts.specs.declared.page.Page.TheVariants.{Data, Stack, Text}
 use Rattle.vm_facts.specs.declared.page.PageState.{PageState}
 use Rattle.vm_facts.specs.declared.regs.Regs.{Regs}
 use Rattle.vm_facts.specs.declared.entry.Entry.{Entry}
+use Rattle.vm_facts.specs.declared.entry.Entry.TheVariants as entries
 use Rattle.aout_image.specs.declared.Image.{Image}
 use Rattle.swap_book.specs.Holdings.{Holdings}
 use Rattle.flat_state.specs.declared.change.Change.{Change}
@@ -16,7 +17,7 @@ use Rattle.flat_state.specs.declared.change.Change.TheVariants.{Keep, Resize, Fo
 use Rattle.flat_state.specs.Flat.{cleared, start_regs}
 use Rattle.page_model.specs.Pages.{SpacePages, changed, with_data, with_stack}
 use Rattle.page_model.specs.Placement.{Placement, Transfer, Part, Errand, Writes, Reads, Source, Due, space_number, state_of, mark_of, is_dirty, page_of, put, spaces_with, sharers, image_of, new_pages}
-use Rattle.page_model.specs.Moves.{done, touch, drop_all}
+use Rattle.page_model.specs.Moves.{touch, drop_all}
 use Rattle.page_model.specs.Place.{filled, put_by, put_step, place_entry, sized, data_count, stack_count, data_from, stack_from, cut_space, resize, fork_space, enter_space, enter_image, remove_space, pages_of_space, pages_of_text, leave_text, leave_text_by, give_up, give_up_unless, place_change, facts_numbered}
 use Rattle.flat_state.specs.Journal.{append}
 use Rattle.kernel_model.specs.Kernel.{New, HoldsSpace, Ended, Kernel, Proc, with_regs, plain_step, zero_step, copy_step, done_step, write_step, note_step, out_step, in_step}
@@ -26,7 +27,7 @@ use Rattle.kernel_model.specs.Start.{begin_step}
 use Rattle.kernel_model.specs.Sound.{lives}
 use Rattle.kernel_model.specs.Numbers.{EachResides, Numbered, TakesNext}
 use Rattle.page_model.specs.PuttingOut.{IsResident}
-use Rattle.page_laws.proofs.Moves.Puts.{KeptByPuts, entry_kept, filled_kept, done_kept, touch_kept, drop_all_kept, leave_all_kept}
+use Rattle.page_laws.proofs.Moves.Puts.{KeptByPuts, entry_kept, touch_kept, drop_all_kept, leave_all_kept}
 use Rattle.page_laws.proofs.Ownership.Changes.{dropped_pages}
 use Rattle.kernel_laws.proofs.Machine.Shapes.{Shaped, touch_shaped}
 use Rattle.kernel_laws.proofs.Sound.Steps.{pass_lives, proc_number}
@@ -56,7 +57,7 @@ numbers_by_puts : KeptByPuts SameSpaces
 numbers_by_puts = record { still = λ p q a b c. ap (map space_number) a; both = λ p q r a b. b ∙ a; puts = put_numbers }
 
 pub entry_numbers : (locked : List Page) (at : ℕ) (p : Placement) (e : Entry) → SameSpaces p (place_entry locked at p e)
-entry_numbers = entry_kept numbers_by_puts (λ p pid out at. refl)
+entry_numbers = entry_kept numbers_by_puts (λ p ds. refl) (λ p. refl) (λ p pid out at. refl)
 
 -- Numbers that come and go.
 

@@ -1,20 +1,19 @@
 -- What the coupling asks beside it stands behind each step of the whole machine.
 use Rattle.std.proofs.Common.{◌≡◌, inl, inr, ℕ, zero, suc, ◌*◌, ◌||◌, Bool, true, false, cond, not, List, [], ◌∷◌, length, Some, refl, sym, ap, ◌∙◌}
 use Rattle.std.proofs.lemmas.Bool.{cases_eq}
+use Rattle.page_laws.proofs.Moves.Puts.{rest_by_puts, reclaim_kept}
 use Rattle.page_laws.proofs.Due.Entries.{get_due_list}
 use Rattle.flat_state.specs.Space.{Space}
 use Rattle.flat_state.specs.Flat.{Holds, Process, FlatState, NamedImage, process_of, holds_space}
 use Rattle.vm_facts.specs.declared.page.Page.{Page}
 use Rattle.vm_facts.specs.declared.page.Page.TheVariants.{Text}
-use Rattle.vm_facts.specs.declared.page.PageState.{PageState}
-use Rattle.vm_facts.specs.declared.page.PageState.TheVariants.{Unfilled, Valid, Invalid, Coming, Going, OnSwap}
 use Rattle.vm_facts.specs.declared.regs.Regs.{Regs}
 use Rattle.vm_facts.specs.declared.entry.Entry.{Entry}
 use Rattle.vm_facts.specs.declared.entry.Entry.TheVariants as entries
 use Rattle.flat_state.specs.Journal.{append}
 use Rattle.flat_state.specs.PageNames.{number_of, pages_from, same_page}
-use Rattle.page_model.specs.Placement.{Placement, Residence, Due, CopyOf, due_at, state_of}
-use Rattle.page_model.specs.Moves.{begin, reclaim, reclaim_to, done}
+use Rattle.page_model.specs.Placement.{Placement, Residence, Due, CopyOf, due_at}
+use Rattle.page_model.specs.Moves.{begin, reclaim, done}
 use Rattle.page_model.specs.Hands.{hand_move, hand_moves}
 use Rattle.page_model.specs.Place.{filled, put_step}
 use Rattle.page_model.specs.Serve.{read_errand}
@@ -41,15 +40,7 @@ stands_still images k l flat ss ds sh s = record {
 }
 
 pub reclaim_due : (p : Placement) (v : Page) → (reclaim p v).due ≡ p.due
-reclaim_due p v = go (state_of p v)
-  where
-    go : (s : PageState) → (reclaim_to p v s).due ≡ p.due
-    go (Invalid f) = refl
-    go Unfilled = refl
-    go (Valid f) = refl
-    go (Coming f) = refl
-    go (Going f) = refl
-    go OnSwap = refl
+reclaim_due p v = (reclaim_kept rest_by_puts p v).due
 
 pub moves_due : (n : ℕ) (p : Placement) (locked : List Page) → (hand_moves p locked n).due ≡ p.due
 moves_due zero p locked = refl

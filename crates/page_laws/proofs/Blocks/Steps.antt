@@ -13,8 +13,8 @@ use Rattle.vm_facts.specs.Lists.{times, without}
 use Rattle.page_model.specs.Placement.{Placement, Transfer, Part, Errand, Writes, Reads, Source, slots_of, state_of, mark_of, is_dirty, page_of, parts_of, sharers, put, space_number, image_number, sharers_in}
 use Rattle.page_model.specs.Moves.{evict, turn, fill_at, begin, join_last, get_one, get_at, get_all, get_run, launch, launch_to, launch_all, launch_run, land, land_read, land_all, done, done_of, arrived_mark, reclaim, reclaim_to, retire, retire_to}
 use Rattle.page_model.specs.Runs.{run_out, pages_of_run}
-use Rattle.page_model.specs.Hands.{expire, expire_of, expire_if, expire_to, sweep, sweep_of, sweep_to, sweep_by, hand_move, hand_moves}
-use Rattle.page_model.specs.Place.{filled, put_step, put_by, place_entry}
+use Rattle.page_model.specs.Hands.{expire, expire_of, expire_if, expire_to, sweep, sweep_of, sweep_to, sweep_by, hand_move, hand_moves, advance}
+use Rattle.page_model.specs.Place.{filled, put_step, put_by, place_entry, moved}
 use Rattle.page_model.specs.Serve.{source_for}
 use Rattle.page_model.specs.Conditions.{EachPage, AllApart, CanEnter, IsSeated, HasSeat, CanPlace, IsShared, EntryShared}
 use Rattle.page_model.specs.Ownership.{OwnsFrames, OwnsBlocks, OneOwner, TextAside}
@@ -252,15 +252,15 @@ still_sizes p q a b (Data sid v) = ap (λ (ss : List SpacePages). length (data_i
 still_sizes p q a b (Stack sid v) = ap (λ (ss : List SpacePages). length (stack_in (numbered space_number sid ss))) a
 still_sizes p q a b (Text image v) = ap (λ (ts : List TextPages). length (text_in (numbered image_number image ts))) b
 
+shape_alike : (p q : Placement) → q.spaces ≡ p.spaces → q.texts ≡ p.texts → SameShape p q
+shape_alike p q a b = record { sizes = still_sizes p q a b; sharing = λ i. ap (λ (ss : List SpacePages). sharers_in i ss) a }
+
 pub shape_by_puts : KeptByPuts SameShape
-shape_by_puts = record {
-  still = λ p q a b c. record { sizes = still_sizes p q a b; sharing = λ i. ap (λ (ss : List SpacePages). sharers_in i ss) a };
-  both = shape_both;
-  puts = put_shape;
-}
+shape_by_puts = record { still = λ p q a b c. shape_alike p q a b; both = shape_both; puts = put_shape }
 
 entry_shape : (locked : List Page) (at : ℕ) (p : Placement) (e : Entry) → SameShape p (place_entry locked at p e)
-entry_shape = entry_kept shape_by_puts (λ p pid out at. record { sizes = λ w. refl; sharing = λ i. refl })
+entry_shape = entry_kept shape_by_puts (λ p ds. shape_alike p (record p { due = ds }) refl refl) (λ p. shape_alike p (advance p) refl refl)
+    (λ p pid out at. shape_alike p (moved p pid out at) refl refl)
 
 -- Each paging entry keeps one owner of each frame and each block.
 pub place_entry_one : (size : ℕ) (lives : ℕ → Bool) (hs : Holdings) (locked : List Page) (at : ℕ) (p : Placement) (e : Entry) → OneOwner size lives p hs → CanPlace p e → EntryShared p e → OneOwner size lives (place_entry locked at p e) hs

@@ -16,11 +16,12 @@ use Rattle.page_model.specs.Place.{put_step, put_by}
 use Rattle.page_model.specs.Conditions.{EachPage, AllApart, CanEnter, IsSeated, HasSeat}
 use Rattle.page_model.specs.Ownership.{OwnsFrames}
 use Rattle.page_model.specs.PageBytes.{Bytes, CouplesPages, with_frame, source_bytes, ReadsFrom, bytes_read, StoresAll, BytesBy, BytesAfter}
+use Rattle.page_laws.proofs.Moves.Puts.{rest_by_puts, get_kept}
 use Rattle.page_laws.proofs.Lists.Frames.{length_set_frame}
 use Rattle.page_laws.proofs.Lists.Pages.{put_other}
 use Rattle.page_laws.proofs.Lists.Parts.{IsOpen, begin_open, parts_begin}
 use Rattle.std.proofs.lemmas.Option.{same_Some}
-use Rattle.page_laws.proofs.Moves.Steps.{evict_other, EvictRest, evict_rest}
+use Rattle.page_laws.proofs.Moves.Steps.{evict_other}
 use Rattle.page_laws.proofs.Ownership.Pages.{get_owner, launch_owner, expire_owner}
 use Rattle.page_laws.proofs.Lists.Runs.{each_page_imp, each_page_both, run_each, run_both_in, run_up_in, run_alone_in, run_apart}
 use Rattle.std.proofs.lemmas.Bool.{and_parts}
@@ -60,11 +61,7 @@ get_slot p e v w o n h = go p.free
     go (f ∷ rest) = put_other (evict p f) v (Coming f) (mark_of p v) w n ∙ evict_other p f w o h
 
 pub get_due : (p : Placement) (e : Errand) (v : Page) → (get_one p e v).due ≡ p.due
-get_due p e v = go p.free
-  where
-    go : (fr : List ℕ) → (get_at p e v fr).due ≡ p.due
-    go [] = refl
-    go (f ∷ rest) = let r : EvictRest p (evict p f) = evict_rest p f in r.due
+get_due p e v = (get_kept rest_by_puts p e v).due
 
 reads_still : (p : Placement) (e : Errand) (source : Source) (demanded v w : Page) → OwnsFrames p → w ≢ v → CanEnter p w → ReadsFrom p source demanded w → ReadsFrom (get_one p e v) source demanded w
 reads_still p e FromSwap demanded v w o n c h = ap (λ (x : Slot). x.state) (get_slot p e v w o n c.frameless) ∙ h

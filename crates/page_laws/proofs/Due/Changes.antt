@@ -2,18 +2,17 @@
 use Rattle.std.proofs.Common.{◌≡◌, ◌≢◌, ℕ, zero, suc, ◌<◌, Bool, true, false, List, [], ◌∷◌, ◌++◌, length, get_or, cond, Option, Some, None, refl, sym, ap, ◌∙◌, subst}
 use Rattle.vm_facts.specs.declared.page.Page.{Page}
 use Rattle.vm_facts.specs.declared.page.Page.TheVariants.{Data, Stack, Text}
-use Rattle.vm_facts.specs.declared.page.PageState.{PageState}
-use Rattle.vm_facts.specs.declared.page.PageState.TheVariants.{Unfilled, Valid, Invalid, Coming, Going, OnSwap}
 use Rattle.flat_state.specs.declared.change.Change.{Change}
 use Rattle.flat_state.specs.declared.change.Change.TheVariants.{Keep, Resize, Fork, Lend, Exec, Reap, Sleep, End}
 use Rattle.page_model.specs.Pages.{Slot, no_slot, data_in, stack_in}
 use Rattle.flat_state.specs.PageNames.{number_of, same_page}
-use Rattle.page_model.specs.Placement.{Placement, Due, Start, CopyOf, due_at, filling_by, slots_of, slot_of, state_of, sharers, image_of}
-use Rattle.page_model.specs.Moves.{touch, drop_all, leave_by, leave_page, leave_all, listed}
+use Rattle.page_model.specs.Placement.{Placement, Due, Start, CopyOf, due_at, filling_by, slots_of, slot_of, sharers, image_of}
+use Rattle.page_model.specs.Moves.{touch, drop_all, leave_page, leave_all}
 use Rattle.page_model.specs.Place.{data_count, stack_count, data_from, stack_from, fork_space, enter_space, enter_image, remove_space, pages_of_space, pages_of_text, leave_text, leave_text_by, give_up, give_up_unless, place_change, facts_numbered}
 use Rattle.page_model.specs.Conditions.{EachPage, IsNew, CanChange, ApartFrom}
 use Rattle.page_model.specs.PageBytes.{IsWritable}
 use Rattle.page_model.specs.Dues.{HasSource, IsDue, DueStand}
+use Rattle.page_laws.proofs.Moves.Puts.{rest_by_puts, leave_all_kept}
 use Rattle.page_laws.proofs.Lists.Local.{none_some}
 use Rattle.std.proofs.lemmas.Option.{same_Some}
 use Rattle.flat_state.proofs.PageNames.{same_page_is}
@@ -80,21 +79,8 @@ give_up_length p sid w i n =
     let d : Placement = drop_all p (pages_of_space p sid) in
     leave_text_length (remove_space d sid) (image_of p sid) w ∙ ap length (remove_slots d sid w i n) ∙ drop_all_length (pages_of_space p sid) p w
 
-pub leave_due : (p : Placement) (v : Page) → (leave_page p v).due ≡ p.due
-leave_due p v = go (state_of p v) (listed p v)
-  where
-    go : (s : PageState) (n : ℕ) → (leave_by p v s n).due ≡ p.due
-    go (Valid f) n = refl
-    go (Invalid f) zero = refl
-    go (Invalid f) (suc n) = refl
-    go OnSwap n = refl
-    go Unfilled n = refl
-    go (Coming f) n = refl
-    go (Going f) n = refl
-
 pub leave_all_due : (qs : List Page) (p : Placement) → (leave_all p qs).due ≡ p.due
-leave_all_due [] p = refl
-leave_all_due (v ∷ qs) p = leave_all_due qs (leave_page p v) ∙ leave_due p v
+leave_all_due qs p = (leave_all_kept rest_by_puts qs p).due
 
 give_up_due : (p : Placement) (sid : ℕ) → (give_up p sid).due ≡ p.due
 give_up_due p sid = go (sharers r (image_of p sid)) ∙ (drop_all_rest (pages_of_space p sid) p).1

@@ -19,6 +19,7 @@ use Rattle.page_model.specs.Ownership.{OwnsFrames}
 use Rattle.page_model.specs.PageBytes.{IsWritable}
 use Rattle.page_model.specs.Dues.{HasSource, IsDue, DueStand, NotDue, LeavesDue}
 use Rattle.page_model.specs.Runs.{pages_of_run, run_in, run_in_by, run_both, run_up, run_alone, comes_from_swap, comes_from_file, is_near, spare_frames}
+use Rattle.page_laws.proofs.Moves.Puts.{rest_by_puts, get_all_kept, fill_kept}
 use Rattle.page_laws.proofs.Ownership.Changes.{numbered_hit, numbered_miss}
 use Rattle.page_laws.proofs.Ownership.Serve.{run_in_enters}
 use Rattle.page_laws.proofs.Lists.Pages.{page_cases, put_state, put_other, put_length}
@@ -179,12 +180,7 @@ filled_due : (p : Placement) (v : Page) → OwnsFrames p → CanEnter p v → No
 filled_due p v o c n = due_still p (filled p v) (filled_fills (Waits (due_after p.due v)) p v o c (not_waiting (due_after p.due v) v n)) (λ w d e. filled_less p.due v w d n e)
 
 pub get_due_list : (qs : List Page) (p : Placement) (e : Errand) → (get_all p e qs).due ≡ p.due
-get_due_list [] p e = refl
-get_due_list (v ∷ qs) p e = get_due_list qs (get_one p e v) e ∙ go p.free
-  where
-    go : (fr : List ℕ) → (get_at p e v fr).due ≡ p.due
-    go [] = refl
-    go (f ∷ rest) = let r : EvictRest p (evict p f) = evict_rest p f in r.due
+get_due_list qs p e = (get_all_kept rest_by_puts qs p e).due
 
 get_run_due : (p : Placement) (source : Source) (demanded : Page) (qs : List Page) → OwnsFrames p → EachPage (CanEnter p) qs → AllApart qs → EachPage (NotDue p.due) qs → DueStand p → DueStand (get_run p (Reads source demanded) qs)
 get_run_due p source demanded qs o c a n =
@@ -275,11 +271,7 @@ run_in_due p q s n = go q n (state_of p q) (spare_frames p)
     go (Stack sid v) n (Going f) spare = alone (Stack sid v) n
 
 pub fill_due_list : (p : Placement) (v : Page) → (fill p v).due ≡ p.due
-fill_due_list p v = go p.free
-  where
-    go : (fr : List ℕ) → (fill_at p v fr).due ≡ p.due
-    go [] = refl
-    go (f ∷ rest) = let r : EvictRest p (evict p f) = evict_rest p f in r.due
+fill_due_list p v = (fill_kept rest_by_puts p v).due
 
 fill_due : (p : Placement) (v : Page) → OwnsFrames p → CanEnter p v → NotDue p.due v → DueStand p → DueStand (fill p v)
 fill_due p v o c n =

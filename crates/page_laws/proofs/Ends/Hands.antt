@@ -1,18 +1,18 @@
 -- Serving leaves the hands as far apart as they were, and as many frames.
-use Rattle.std.proofs.Common.{◌≡◌, ℕ, ◌+◌, ◌/◌, ◌<◌, Bool, true, false, List, [], ◌∷◌, length, Option, Some, None, refl, sym, ap, ◌∙◌, subst, arith}
+use Rattle.std.proofs.Common.{◌≡◌, ℕ, ◌+◌, ◌/◌, ◌<◌, Bool, true, false, List, [], ◌∷◌, length, refl, sym, ap, ◌∙◌, subst, arith}
 use Rattle.vm_facts.specs.declared.page.Page.{Page}
 use Rattle.vm_facts.specs.declared.page.PageState.{PageState}
 use Rattle.vm_facts.specs.declared.page.PageState.TheVariants.{Unfilled, Valid, Invalid, Coming, Going, OnSwap}
 use Rattle.page_model.specs.Pages.{Filling, Zeros, OfImage}
-use Rattle.page_model.specs.Placement.{Placement, Transfer, Errand, state_of, filling_of, page_of}
-use Rattle.page_model.specs.Moves.{evict, evict_at, fill, fill_at, begin, get_one, get_at, get_all, reclaim, reclaim_to, done}
+use Rattle.page_model.specs.Placement.{Placement, Transfer, Errand, state_of, filling_of}
+use Rattle.page_model.specs.Moves.{fill, get_run, reclaim, done}
 use Rattle.page_model.specs.Runs.{pages_of_run, run_in}
 use Rattle.page_model.specs.Hands.{expire, sweep}
 use Rattle.page_model.specs.Serve.{force, force_by, read_step, read_errand, read_if, bring_by, feed_by, serve_by, serve_step, is_full}
 use Rattle.page_model.specs.Rank.{walk, HandsStand, HasRoom}
 use Rattle.page_model.specs.Ownership.{OwnsFrames}
-use Rattle.page_laws.proofs.Lists.Frames.{length_set_frame}
-use Rattle.page_laws.proofs.Moves.Stays.{Steady, swept_steady, done_steady}
+use Rattle.page_laws.proofs.Moves.Puts.{SameRest, rest_by_puts, fill_kept, get_run_kept, reclaim_kept, done_kept}
+use Rattle.page_laws.proofs.Moves.Stays.{Steady, swept_steady}
 use Rattle.page_laws.proofs.Ends.Forcing.{move_stands}
 
 -- the hands at the same frames, of as many
@@ -34,67 +34,44 @@ hands_stand p q s h = record {
   ahead = s.front ∙ h.ahead ∙ ap (λ (n : ℕ). walk n (n / 4) p.back) (sym s.frames) ∙ ap (walk (length q.holds) (length q.holds / 4)) (sym s.back);
 }
 
-evict_hands : (p : Placement) (f : ℕ) → SameHands p (evict p f)
-evict_hands p f = go (page_of p f)
-  where
-    go : (h : Option Page) → SameHands p (evict_at p f h)
-    go None = hands_self p
-    go (Some v) = record { front = refl; back = refl; frames = length_set_frame p.holds f None }
+-- moves but those of the hands leave them
+hands_of : (p q : Placement) → SameRest p q → SameHands p q
+hands_of p q s = record { front = s.front; back = s.back; frames = s.count }
 
 pub fill_hands : (p : Placement) (v : Page) → SameHands p (fill p v)
-fill_hands p v = go p.free
-  where
-    go : (fr : List ℕ) → SameHands p (fill_at p v fr)
-    go [] = hands_self p
-    go (f ∷ rest) = let s : SameHands p (evict p f) = evict_hands p f in record { front = s.front; back = s.back; frames = length_set_frame (evict p f).holds f (Some v) ∙ s.frames }
+fill_hands p v = hands_of p (fill p v) (fill_kept rest_by_puts p v)
 
-get_hands : (p : Placement) (e : Errand) (v : Page) → SameHands p (get_one p e v)
-get_hands p e v = go p.free
-  where
-    go : (fr : List ℕ) → SameHands p (get_at p e v fr)
-    go [] = hands_self p
-    go (f ∷ rest) = let s : SameHands p (evict p f) = evict_hands p f in record { front = s.front; back = s.back; frames = length_set_frame (evict p f).holds f (Some v) ∙ s.frames }
-
-pub get_all_hands : (qs : List Page) (p : Placement) (e : Errand) → SameHands p (get_all p e qs)
-get_all_hands [] p e = hands_self p
-get_all_hands (v ∷ qs) p e = hands_both p (get_one p e v) (get_all (get_one p e v) e qs) (get_hands p e v) (get_all_hands qs (get_one p e v) e)
+pub get_run_hands : (p : Placement) (e : Errand) (qs : List Page) → SameHands p (get_run p e qs)
+get_run_hands p e qs = hands_of p (get_run p e qs) (get_run_kept rest_by_puts p e qs)
 
 read_hands : (p : Placement) (q : Page) → SameHands p (read_step p q)
-read_hands p q = let s = get_all_hands (pages_of_run q (run_in p q)) (begin p (read_errand p q)) (read_errand p q) in record { front = s.front; back = s.back; frames = s.frames }
+read_hands p q = get_run_hands p (read_errand p q) (pages_of_run q (run_in p q))
 
 pub reclaim_hands : (p : Placement) (v : Page) → SameHands p (reclaim p v)
-reclaim_hands p v = go (state_of p v)
-  where
-    go : (s : PageState) → SameHands p (reclaim_to p v s)
-    go (Invalid f) = record { front = refl; back = refl; frames = refl }
-    go Unfilled = hands_self p
-    go (Valid f) = hands_self p
-    go (Coming f) = hands_self p
-    go (Going f) = hands_self p
-    go OnSwap = hands_self p
+reclaim_hands p v = hands_of p (reclaim p v) (reclaim_kept rest_by_puts p v)
 
-pub done_hands : (p : Placement) → OwnsFrames p → SameHands p (done p)
-done_hands p o = let s : Steady p (done p) = done_steady p o in record { front = s.front; back = s.back; frames = ap length s.holds }
+pub done_hands : (p : Placement) → SameHands p (done p)
+done_hands p = hands_of p (done p) (done_kept rest_by_puts p)
 
 pub force_stands : (p : Placement) (locked : List Page) → OwnsFrames p → HandsStand p → HandsStand (force p locked)
 force_stands p locked o h = go p.transfers
   where
     go : (ts : List Transfer) → HandsStand (force_by p locked ts)
     go [] = move_stands p locked h
-    go (t ∷ ts) = hands_stand p (done p) (done_hands p o) h
+    go (t ∷ ts) = hands_stand p (done p) (done_hands p) h
 
 pub force_frames : (p : Placement) (locked : List Page) → OwnsFrames p → length (force p locked).holds ≡ length p.holds
 force_frames p locked o = go p.transfers
   where
     go : (ts : List Transfer) → length (force_by p locked ts).holds ≡ length p.holds
     go [] = let s : Steady p (sweep (expire p locked) locked) = swept_steady p locked in ap length s.holds
-    go (t ∷ ts) = let s = done_hands p o in s.frames
+    go (t ∷ ts) = let s = done_hands p in s.frames
 
 pub serve_stands : (p : Placement) (locked : List Page) (q : Page) → OwnsFrames p → HandsStand p → HandsStand (serve_step p locked q)
 serve_stands p locked q o h = go (state_of p q)
   where
     read : (full : Bool) → HandsStand (read_if p q full)
-    read true = hands_stand p (done p) (done_hands p o) h
+    read true = hands_stand p (done p) (done_hands p) h
     read false = hands_stand p (read_step p q) (read_hands p q) h
 
     bring : (s : PageState) (x : Filling) (full : Bool) → HandsStand (bring_by p q s x full)
@@ -113,8 +90,8 @@ serve_stands p locked q o h = go (state_of p q)
     go : (s : PageState) → HandsStand (serve_by p locked q s)
     go (Valid f) = h
     go (Invalid f) = hands_stand p (reclaim p q) (reclaim_hands p q) h
-    go (Coming f) = hands_stand p (done p) (done_hands p o) h
-    go (Going f) = hands_stand p (done p) (done_hands p o) h
+    go (Coming f) = hands_stand p (done p) (done_hands p) h
+    go (Going f) = hands_stand p (done p) (done_hands p) h
     go Unfilled = feed Unfilled (filling_of p q) p.free (is_full p)
     go OnSwap = feed OnSwap (filling_of p q) p.free (is_full p)
 
@@ -122,7 +99,7 @@ pub serve_frames : (p : Placement) (locked : List Page) (q : Page) → OwnsFrame
 serve_frames p locked q o = go (state_of p q)
   where
     read : (full : Bool) → length (read_if p q full).holds ≡ length p.holds
-    read true = let s = done_hands p o in s.frames
+    read true = let s = done_hands p in s.frames
     read false = let s = read_hands p q in s.frames
 
     bring : (s : PageState) (x : Filling) (full : Bool) → length (bring_by p q s x full).holds ≡ length p.holds
@@ -141,8 +118,8 @@ serve_frames p locked q o = go (state_of p q)
     go : (s : PageState) → length (serve_by p locked q s).holds ≡ length p.holds
     go (Valid f) = refl
     go (Invalid f) = let s = reclaim_hands p q in s.frames
-    go (Coming f) = let s = done_hands p o in s.frames
-    go (Going f) = let s = done_hands p o in s.frames
+    go (Coming f) = let s = done_hands p in s.frames
+    go (Going f) = let s = done_hands p in s.frames
     go Unfilled = feed Unfilled (filling_of p q) p.free (is_full p)
     go OnSwap = feed OnSwap (filling_of p q) p.free (is_full p)
 

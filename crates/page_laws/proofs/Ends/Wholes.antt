@@ -8,13 +8,12 @@ use Rattle.flat_state.specs.PageNames.{number_of}
 use Rattle.page_model.specs.Placement.{Placement, slots_of, state_of, filling_of, IsThere}
 use Rattle.page_model.specs.Moves.{done}
 use Rattle.page_model.specs.Runs.{pages_of_run, run_in}
-use Rattle.page_model.specs.Place.{filled}
 use Rattle.page_model.specs.Serve.{force, force_entry, read_errand, read_if, bring_by, feed_by, serve_by, serve_step, serve_entry, is_full}
 use Rattle.page_model.specs.Rank.{far, rank, HandsStand, HasRoom, EndsForcing, EndsServing}
 use Rattle.page_model.specs.Ownership.{OwnsFrames}
 use Rattle.page_laws.proofs.Moves.Stays.{Stays, force_stays}
 use Rattle.page_laws.proofs.Blocks.Steps.{SameShape, shape_by_puts}
-use Rattle.page_laws.proofs.Moves.Puts.{done_kept, get_run_kept, filled_kept, reclaim_kept}
+use Rattle.page_laws.proofs.Moves.Puts.{done_kept, get_run_kept, fill_kept, reclaim_kept}
 use Rattle.page_laws.proofs.Ownership.Serve.{force_owner, serve_owner}
 use Rattle.page_laws.proofs.Moves.Locks.{force_spares, serve_spares, spares_both}
 use Rattle.page_laws.proofs.Ends.Serving.{force_falls, serve_falls}
@@ -74,7 +73,7 @@ serve_shape p locked q o = go (state_of p q)
     read false = get_run_kept shape_by_puts p (read_errand p q) (pages_of_run q (run_in p q))
 
     zeros : SameShape p (bring_by p q Unfilled Zeros true)
-    zeros = let s : SameShape p (filled p q) = filled_kept shape_by_puts p q in record { sizes = s.sizes; sharing = s.sharing }
+    zeros = fill_kept shape_by_puts p q
 
     bring : (s : PageState) (x : Filling) (full : Bool) → SameShape p (bring_by p q s x full)
     bring Unfilled Zeros full = zeros

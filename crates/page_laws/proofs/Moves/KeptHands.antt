@@ -5,7 +5,7 @@ use Rattle.vm_facts.specs.declared.entry.Entry.{Entry}
 use Rattle.vm_facts.specs.declared.entry.Entry.TheVariants as entries
 use Rattle.flat_state.specs.PageNames.{pages_from, number_of}
 use Rattle.page_model.specs.Placement.{Placement}
-use Rattle.page_model.specs.Moves.{fill, begin, touch, touch_to, done}
+use Rattle.page_model.specs.Moves.{get_run, done}
 use Rattle.page_model.specs.Hands.{hand_move, hand_moves}
 use Rattle.page_model.specs.Place.{filled, put_step, place_entry}
 use Rattle.page_model.specs.Serve.{read_errand}
@@ -13,7 +13,7 @@ use Rattle.page_model.specs.Rank.{HandsStand}
 use Rattle.page_model.specs.Ownership.{OwnsFrames}
 use Rattle.page_laws.proofs.Moves.Stays.{Steady, Stays, move_stays}
 use Rattle.page_laws.proofs.Ends.Forcing.{move_stands}
-use Rattle.page_laws.proofs.Ends.Hands.{SameHands, hands_self, hands_stand, fill_hands, get_all_hands, reclaim_hands, done_hands}
+use Rattle.page_laws.proofs.Ends.Hands.{SameHands, hands_self, hands_stand, fill_hands, get_run_hands, reclaim_hands, done_hands}
 use Rattle.page_laws.proofs.Bytes.Others.{put_steady}
 
 pub record KeepsHands (p q : Placement) : Type 0 where
@@ -36,8 +36,8 @@ steady_keep p q s = keeps_same p q (record { front = s.front; back = s.back; fra
 fill_keep : (p : Placement) (v : Page) → KeepsHands p (filled p v)
 fill_keep p v = let s = fill_hands p v in keeps_same p (filled p v) (record { front = s.front; back = s.back; frames = s.frames })
 
-get_keep : (p : Placement) (v : Page) (qs : List Page) → KeepsHands p (Rattle.page_model.specs.Moves.get_run p (read_errand p v) qs)
-get_keep p v qs = let s = get_all_hands qs (begin p (read_errand p v)) (read_errand p v) in keeps_same p (Rattle.page_model.specs.Moves.get_run p (read_errand p v) qs) (record { front = s.front; back = s.back; frames = s.frames })
+get_keep : (p : Placement) (v : Page) (qs : List Page) → KeepsHands p (get_run p (read_errand p v) qs)
+get_keep p v qs = keeps_same p (get_run p (read_errand p v) qs) (get_run_hands p (read_errand p v) qs)
 
 keep_self : (p : Placement) → KeepsHands p p
 keep_self p = keeps_same p p (hands_self p)
@@ -49,7 +49,7 @@ entry_keep locked at p (entries.Copy q) o = fill_keep p q
 entry_keep locked at p (entries.Reclaim q) o = keeps_same p (place_entry locked at p (entries.Reclaim q)) (reclaim_hands p q)
 entry_keep locked at p (entries.Hands n) o = moves_keep n p locked
 entry_keep locked at p (entries.Put q n) o = steady_keep p (put_step p q (pages_from q (number_of q) n)) (put_steady p q (pages_from q (number_of q) n))
-entry_keep locked at p entries.Done o = keeps_same p (done p) (done_hands p o)
+entry_keep locked at p entries.Done o = keeps_same p (done p) (done_hands p)
 entry_keep locked at p (entries.SwapOut pid) o = keeps_same p (place_entry locked at p (entries.SwapOut pid)) (record { front = refl; back = refl; frames = refl })
 entry_keep locked at p (entries.SwapIn pid) o = keeps_same p (place_entry locked at p (entries.SwapIn pid)) (record { front = refl; back = refl; frames = refl })
 entry_keep locked at p (entries.Event line) o = keep_self p

@@ -22,6 +22,7 @@ use Rattle.page_model.specs.Swapper.{residence_of, is_out, names_page, is_settle
 use Rattle.vm_facts.specs.Pages.{is_of_space, is_of_text}
 use Rattle.page_model.specs.Dues.{DueStand, LeavesDue}
 use Rattle.page_model.specs.PuttingOut.{IsResident, is_active_by, is_active, active_count, put_rank, put_rank_by, EndsPuttingOut}
+use Rattle.page_laws.proofs.Moves.Puts.{rest_by_puts, done_kept, put_step_kept}
 use Rattle.page_laws.proofs.Lists.Frames.{times_one}
 use Rattle.vm_facts.proofs.Lists.{times-append}
 use Rattle.page_laws.proofs.Lists.Pages.{page_cases, put_state, put_length, beside_self}
@@ -256,57 +257,11 @@ count_less p q (w ∷ qs) v c e i = go (is_seated p w) refl e (λ k. count_less 
 
 -- Residents, and the pages of the space.
 
-land_residents : (p : Placement) (e : Errand) (x : Part) (rest : List Transfer) → (land p e x rest).residents ≡ p.residents
-land_residents p Writes x rest = refl
-land_residents p (Reads source demanded) x rest = go (same_page x.page demanded)
-  where
-    go : (b : Bool) → (land_read p source x rest b).residents ≡ p.residents
-    go true = refl
-    go false = refl
-
-land_all_residents : (xs : List Part) (p : Placement) (e : Errand) (ts : List Transfer) → (land_all p e xs ts).residents ≡ p.residents
-land_all_residents [] p e ts = refl
-land_all_residents (x ∷ xs) p e ts = land_all_residents xs (land p e x (record { errand = e; parts = xs } ∷ ts)) e ts ∙ land_residents p e x (record { errand = e; parts = xs } ∷ ts)
-
 pub done_residents : (p : Placement) → (done p).residents ≡ p.residents
-done_residents p = go p.transfers
-  where
-    go : (ts : List Transfer) → (done_of p ts).residents ≡ p.residents
-    go [] = refl
-    go (t ∷ ts) = land_all_residents t.parts p t.errand ts
-
-launch_residents : (p : Placement) (v : Page) → (launch p v).residents ≡ p.residents
-launch_residents p v = go (state_of p v)
-  where
-    go : (s : PageState) → (launch_to p v s).residents ≡ p.residents
-    go (Valid f) = refl
-    go (Invalid f) = refl
-    go Unfilled = refl
-    go (Coming f) = refl
-    go (Going f) = refl
-    go OnSwap = refl
-
-launch_all_residents : (qs : List Page) (p : Placement) → (launch_all p qs).residents ≡ p.residents
-launch_all_residents [] p = refl
-launch_all_residents (v ∷ qs) p = launch_all_residents qs (launch p v) ∙ launch_residents p v
-
-retire_residents : (p : Placement) (v : Page) → (retire p v).residents ≡ p.residents
-retire_residents p v = go (state_of p v)
-  where
-    go : (s : PageState) → (retire_to p v s).residents ≡ p.residents
-    go (Valid f) = refl
-    go (Invalid f) = refl
-    go Unfilled = refl
-    go (Coming f) = refl
-    go (Going f) = refl
-    go OnSwap = refl
+done_residents p = (done_kept rest_by_puts p).residents
 
 pub put_residents : (p : Placement) (v : Page) (qs : List Page) → (put_step p v qs).residents ≡ p.residents
-put_residents p v qs = go (is_dirty p v)
-  where
-    go : (b : Bool) → (put_by p v qs b).residents ≡ p.residents
-    go true = launch_all_residents qs (begin p Writes)
-    go false = retire_residents p v
+put_residents p v qs = (put_step_kept rest_by_puts p v qs).residents
 
 same_pages : (p q : Placement) (sid : ℕ) → Steady p q → pages_of_space q sid ≡ pages_of_space p sid
 same_pages p q sid s = ap₂ (λ (a b : ℕ). data_from sid 0 a ++ stack_from sid 0 b) (s.sizes (Data sid 0)) (s.sizes (Stack sid 0))

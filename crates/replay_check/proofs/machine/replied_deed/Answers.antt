@@ -1,7 +1,6 @@
 use Rattle.std.proofs.Common.{◌≡◌, ℕ, ◌≤◌, false, length, ◌∙◌, ap, sym, subst, arith}
 use Rattle.vm_facts.specs.declared.regs.Regs.{Regs}
 use Rattle.flat_model.specs.Calls.{replied}
-use Rattle.flat_model.specs.declared.calls.Reply.{Reply}
 use Rattle.replay_check.specs.Images.{CanReply}
 use Rattle.replay_check.proofs.Stepping.{by_wrote}
 use Rattle.replay_check.proofs.machine.replied_deed.Goals as goal

@@ -1,4 +1,4 @@
-use Rattle.std.proofs.Common.{◌≡◌, ap, ◌∙◌}
+use Rattle.std.proofs.Common.{ap, ◌∙◌}
 use Rattle.flat_state.specs.Space.{Space}
 use Rattle.flat_state.specs.Flat.{Process, FlatState}
 use Rattle.flat_model.specs.Instruction.{instruction_in}

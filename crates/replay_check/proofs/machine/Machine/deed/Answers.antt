@@ -3,7 +3,6 @@ use Rattle.flat_state.specs.Flat.{Process, FlatState}
 use Rattle.user_vax.specs.Instruction.{writes_of, registers_after}
 use Rattle.flat_state.specs.Space.{puts}
 use Rattle.flat_state.specs.Change.{apply_writes}
-use Rattle.flat_model.specs.declared.calls.Reply.{Reply}
 use Rattle.flat_model.specs.Calls.{call_of, refused_reply}
 use Rattle.flat_model.specs.Step.{written_process}
 use Rattle.replay_check.specs.Machine.{space_in}

@@ -3,7 +3,7 @@ use Rattle.flat_state.specs.Flat.{Process, FlatState}
 use Rattle.user_vax.specs.Instruction.{answer_of, registers_after, writes_of}
 use Rattle.flat_model.specs.Instruction.{instruction_in}
 use Rattle.flat_model.specs.Step.{written_process}
-use Rattle.replay_check.specs.Machine.{process_at, space_at, space_in, no_process}
+use Rattle.replay_check.specs.Machine.{process_at, space_in, no_process}
 use Rattle.replay_check.proofs.Lists.{same_got, with_at}
 use Rattle.replay_check.proofs.Stepping.{behind_at}
 use Rattle.replay_check.proofs.machine.Machine.run.Goals as goal
