@@ -42,3 +42,4 @@ pub mod Going
 pub mod LockedRoom
 pub mod Room
 pub mod ByteReads
+pub mod KernelUnits

@@ -5,3 +5,4 @@ pub mod Machine
 pub mod Images
 pub mod Sized
 pub mod Files
+pub mod KernelUnits
