@@ -7,5 +7,6 @@ abbrev pub map_of : Inside → Places
 map_of a = record { sid = a.sid; image = a.image; facts = a.facts; text = a.text; «data» = a.data; stack = a.stack }
 
 pub record IsSpace (a : Inside) : Type 0 where
+  pub text_fits : length a.text ≤ 2048
   pub data_fits : length a.data ≤ 4096
   pub stack_fits : length a.stack ≤ 512

@@ -92,6 +92,13 @@ impl SpaceMap {
         &self.facts
     }
 
+    /// How many text pages there are, at most 2,048.
+    pub fn text_pages(&self) -> u32
+        ensures { result ≡ length self.now.text }
+    {
+        self.text.len()
+    }
+
     /// How many data pages there are.
     pub fn data_pages(&self) -> u32
         ensures { result ≡ length self.now.data }

@@ -1,0 +1,42 @@
+-- What the entry of a page and the slot of its frame show of the page.
+use Rattle.std.specs.Prelude.{◌≡◌, ℕ, Bool, true, false, List}
+use Rattle.vm_facts.specs.declared.page.PageState.{PageState}
+use Rattle.vm_facts.specs.declared.page.PageState.TheVariants.{Unfilled, Valid, Invalid, Coming, Going, OnSwap}
+use Rattle.vax_pte.specs.declared.Place.{Place}
+use Rattle.vax_pte.specs.declared.Place.TheVariants as places
+use Rattle.core_map.specs.declared.slot.Slot.{Slot}
+use Rattle.core_map.specs.declared.slot.Slot.TheVariants.{Free, Resident, Away}
+use Rattle.core_map.specs.Slots.{slot_at}
+
+-- the frame's token is in a transfer
+abbrev pub is_away : Slot → Bool
+is_away (Free token page) = false
+is_away (Resident token page dirty) = false
+is_away Away = true
+
+-- the state of a page that has a frame and isn't valid: with the frame in a transfer it is written out where it was
+-- changed, and else read in
+abbrev pub idle_state : ℕ → Bool → Bool → PageState
+idle_state f false changed = Invalid f
+idle_state f true true = Going f
+idle_state f true false = Coming f
+
+abbrev pub state_shown : List Slot → Place → PageState
+state_shown slots places.Zero = Unfilled
+state_shown slots (places.Image v) = Unfilled
+state_shown slots places.Swap = OnSwap
+state_shown slots (places.Frame f true changed) = Valid f
+state_shown slots (places.Frame f false changed) = idle_state f (is_away (slot_at slots f)) changed
+
+-- a valid page is in a frame off the free list, whose mark says whether the page is dirty; and so does the mark of any
+-- other frame that is off the list
+abbrev pub MarkShown : Slot → Bool → Bool → Type 0
+MarkShown (Free token page) valid dirty = valid ≡ false
+MarkShown (Resident token page mark) valid dirty = mark ≡ dirty
+MarkShown Away valid dirty = valid ≡ false
+
+abbrev pub ShowsMark : List Slot → Place → Bool → Type 0
+ShowsMark slots places.Zero dirty = Unit {0}
+ShowsMark slots (places.Image v) dirty = Unit {0}
+ShowsMark slots places.Swap dirty = Unit {0}
+ShowsMark slots (places.Frame f valid changed) dirty = MarkShown (slot_at slots f) valid dirty
