@@ -1,12 +1,11 @@
 -- A page that has no entry in the space doesn't go along.
-use Rattle.std.proofs.Common.{◌≡◌, ℕ, ◌<◌, ◌≤◌, ◌&&◌, nat_lt, Bool, true, false, List, Option, None, length, refl, sym, ap, ◌∙◌, subst, arith}
+use Rattle.std.proofs.Common.{◌≡◌, ℕ, ◌<◌, ◌≤◌, ◌&&◌, not, nat_lt, Bool, false, List, None, length, sym, ap, subst, arith}
 use Rattle.std.proofs.lemmas.Bool.Decides.{nat_tests}
 use Rattle.std.proofs.lemmas.List.{get_or_past}
 use Rattle.vm_facts.specs.declared.page.Page.{Page}
 use Rattle.vm_facts.specs.declared.page.Page.TheVariants.{Data, Stack, Text}
 use Rattle.vm_facts.specs.declared.page.PageState.{PageState}
 use Rattle.vm_facts.specs.declared.page.PageState.TheVariants.{Unfilled}
-use Rattle.vax_pte.specs.declared.Place.{Place}
 use Rattle.core_map.specs.Frames.{Frames}
 use Rattle.space_map.specs.Space.{Places, place_in}
 use Rattle.flat_state.specs.PageNames.{number_of, beside, is_among}
@@ -49,8 +48,8 @@ none_by : (p : Placement) (kin : Kin) (q : Page) (w : ℕ) → (IsThere p (besid
 none_by p kins.OnSwap q w n = ap (λ (s : PageState). is_on_swap s && is_near q w) (unfilled p (beside q w) n)
 none_by p kins.Unfilled q w n = ap (λ (b : Bool). b && is_unfilled (state_of p (beside q w))) (not_counted p q w n)
 none_by p (kins.Idle locked front) q w n =
-    ap (λ (s : PageState). (is_idle_by (expire p locked.now) s && (is_dirty (expire p locked.now) (beside q w) && Rattle.std.proofs.Common.not (is_among (beside q w) locked.now))) && is_near q w)
-        (unfilled (expire p locked.now) (beside q w) (still_gone p locked.now (beside q w) n))
+    ap (λ (s : PageState). (is_idle_by (expire p locked.now) s && (is_dirty (expire p locked.now) (beside q w) && not (is_among (beside q w) locked.now))) && is_near q w)
+    (unfilled (expire p locked.now) (beside q w) (still_gone p locked.now (beside q w) n))
 none_by p kins.Seated q w n = ap (λ (s : PageState). is_seated_by p s && (is_dirty p (beside q w) && is_near q w)) (unfilled p (beside q w) n)
 
 pub none_joins : (p : Placement) (core : Frames) (s : Places) (kin : Kin) (q : Page) (w : ℕ) → ShowsSpace p core s → IsNamedBy s q → place_in s (beside q w) ≡ None → false ≡ joins p kin q w

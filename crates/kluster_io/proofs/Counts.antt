@@ -1,5 +1,5 @@
 -- One more neighbour that passes.
-use Rattle.std.proofs.Common.{◌≡◌, ℕ, zero, suc, ◌+◌, ◌-◌, ◌<◌, Bool, true, cond, refl, sym, ap, ◌∙◌, arith}
+use Rattle.std.proofs.Common.{◌≡◌, ℕ, zero, suc, ◌+◌, ◌-◌, Bool, true, cond, refl, sym, ap, ◌∙◌, arith}
 use Rattle.page_model.specs.Runs.{Run, passing_above, passing_below, run_both, run_up}
 
 pub above_more : (passes : ℕ → Bool) (v room n : ℕ) → (room ≡ 0 → ⊥) → passes (v + 1) ≡ true → n ≡ passing_above passes (v + 1) (room - 1) → 1 + n ≡ passing_above passes v room

@@ -1,8 +1,8 @@
 -- A page is dirty in a frame off the free list where its frame's slot says so.
-use Rattle.std.proofs.Common.{◌≡◌, ◌⊎◌, inl, inr, ℕ, zero, suc, ◌+◌, ◌==◌, ◌&&◌, Bool, true, false, cond, List, [], ◌∷◌, Option, IsTrue, refl, sym, ap, ◌∙◌, subst, arith}
+use Rattle.std.proofs.Common.{◌≡◌, ◌⊎◌, inl, inr, ℕ, ◌==◌, ◌&&◌, Bool, true, false, cond, List, Option, IsTrue, refl, sym, ap, ◌∙◌, subst}
 use Rattle.vm_facts.specs.declared.page.Page.{Page}
 use Rattle.vm_facts.specs.declared.page.PageState.{PageState}
-use Rattle.vm_facts.specs.declared.page.PageState.TheVariants.{Valid, Invalid}
+use Rattle.vm_facts.specs.declared.page.PageState.TheVariants.{Valid}
 use Rattle.vm_facts.specs.Lists.{times}
 use Rattle.vax_pte.specs.declared.Place.{Place}
 use Rattle.vax_pte.specs.declared.Place.TheVariants.{Frame}
@@ -11,7 +11,7 @@ use Rattle.core_map.specs.declared.slot.Slot.{Slot}
 use Rattle.core_map.specs.declared.slot.Slot.TheVariants.{Free, Resident, Away}
 use Rattle.core_map.specs.declared.slot.Whose.{Whose}
 use Rattle.core_map.specs.declared.slot.Whose.TheVariants as owners
-use Rattle.core_map.specs.Slots.{slot_at, is_free, is_resident, is_dirty, listings, owner_of}
+use Rattle.core_map.specs.Slots.{slot_at, is_resident, is_dirty, listings, owner_of}
 use Rattle.core_map.specs.Frames.{IsSound}
 use Rattle.page_model.specs.Placement.{Placement, state_of}
 use Rattle.page_model.specs.Runs.{is_seated_by}

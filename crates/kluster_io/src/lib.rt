@@ -28,12 +28,7 @@ const MOST_TEXT_READ: u32 = 2;
 const MOST_WRITTEN: u32 = 16;
 
 // The run of a read from swap.
-fn pick_from_swap(
-    space: &SpaceMap,
-    core: &CoreMap,
-    page: Page,
-    spare: u32,
-) -> (u32, u32)
+fn pick_from_swap(space: &SpaceMap, core: &CoreMap, page: Page, spare: u32) -> (u32, u32)
     requires of_space { IsSome (place_in space.now page) }
     requires some { 1 ≤ spare }
     ensures { (p : Placement) → ShowsSpace p core.now space.now
@@ -52,12 +47,7 @@ fn pick_from_swap(
 }
 
 // The run of a read from the file.
-fn pick_from_file(
-    space: &SpaceMap,
-    core: &CoreMap,
-    page: Page,
-    spare: u32,
-) -> (u32, u32)
+fn pick_from_file(space: &SpaceMap, core: &CoreMap, page: Page, spare: u32) -> (u32, u32)
     requires of_space { IsSome (place_in space.now page) }
     requires some { 1 ≤ spare }
     ensures { (p : Placement) → ShowsSpace p core.now space.now
@@ -76,8 +66,8 @@ fn pick_from_file(
 }
 
 /// The run of a read that begins for a page of the space: its lowest page and its count. Of data and stack it has at
-/// most 4 pages of one chunk that are on swap; of text at most 2, both on swap in one piece or both only in the file; of
-/// a data page that is in the file the page alone. At most `spare` frames may be taken, at least 1.
+/// most 4 pages of one chunk that are on swap; of text at most 2, both on swap in one piece or both only in the file; and
+/// of any other page the page alone. At most `spare` frames may be taken, at least 1.
 pub fn pick_in(space: &SpaceMap, core: &CoreMap, page: Page, spare: u32) -> (u32, u32)
     requires of_space { IsSome (place_in space.now page) }
     requires some { 1 ≤ spare }
@@ -118,7 +108,8 @@ pub fn pick_out(
 /// frame off the free list; 1 for a clean page. The page is in a frame off the free list.
 pub fn pick_put(space: &SpaceMap, core: &CoreMap, page: Page) -> u32
     requires { IsSome (place_in space.now page) }
-    ensures { (p : Placement) → ShowsSpace p core.now space.now → is_seated p page ≡ true → result ≡ (run_put p page).n }
+    ensures { (p : Placement) → ShowsSpace p core.now space.now → is_seated p page ≡ true
+        → result ≡ (run_put p page).n }
 {
     match space.place(page) {
         Some(place) if search::is_dirty_seat(core, place) => {

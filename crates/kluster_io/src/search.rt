@@ -26,7 +26,7 @@ pub(crate) enum Kin<'l> {
     /// To be read from the file with a page of text: those that are unfilled.
     Unfilled,
     /// To be written with the page by the back hand: those near it that are dirty and invalid in a frame off the free
-    /// list, where they aren't locked. The front page counts as invalid.
+    /// list, where they aren't locked. The page that the front hand makes invalid in the same move counts as such.
     Idle {
         locked: &'l [Page],
         front: Option<Page>,
@@ -127,7 +127,7 @@ pub(crate) fn is_dirty_seat(core: &CoreMap, place: Place) -> bool
     }
 }
 
-// Whether a page is invalid once the front page is.
+// Whether a page isn't valid once the front hand has made its page invalid.
 fn is_open(page: Page, place: Place, front: Option<Page>) -> bool
     ensures { (slots : List Slot) → result ≡ (is_front page front || not (is_valid (state_shown slots place))) }
 {
@@ -137,22 +137,17 @@ fn is_open(page: Page, place: Place, front: Option<Page>) -> bool
     }
 }
 
-// Whether the back hand may take a page: it isn't locked, and is invalid once the front page is.
+// Whether the back hand may take a page: it isn't locked, nor valid once the front hand has made its page invalid.
 fn may_take(page: Page, place: Place, locked: &[Page], front: Option<Page>) -> bool
     ensures { (slots : List Slot)
-        → result ≡ (not (is_among page locked.now) && (is_front page front || not (is_valid (state_shown slots place)))) }
+        → result ≡ (not (is_among page locked.now)
+        && (is_front page front || not (is_valid (state_shown slots place)))) }
 {
     !is_among(page, locked) && is_open(page, place, front)
 }
 
 // Whether the back hand takes a page along: it is dirty in a frame off the free list, and may be taken.
-fn is_taken(
-    core: &CoreMap,
-    page: Page,
-    place: Place,
-    locked: &[Page],
-    front: Option<Page>,
-) -> bool
+fn is_taken(core: &CoreMap, page: Page, place: Place, locked: &[Page], front: Option<Page>) -> bool
     ensures { (p : Placement) → p.free ≡ core.now.free → state_of p page ≡ state_shown core.now.slots place
         → ShowsMark core.now.slots place (is_dirty p page) → Expires p locked.now front
         → result ≡ goes_along (expire p locked.now) locked.now page }
@@ -233,7 +228,8 @@ impl Search<'_, '_, '_> {
         requires of_space { IsSome (place_in self.now.space.now self.now.page) }
         requires some { 1 ≤ most }
         ensures { (p : Placement) → IsShownBy p self.now
-            → run_both (joins p self.now.kin self.now.page) (number_of self.now.page) most ≡ record { lo = result.0; n = result.1 } }
+            → run_both (joins p self.now.kin self.now.page) (number_of self.now.page) most
+            ≡ record { lo = result.0; n = result.1 } }
     {
         let v = number_of(self.page);
         let above = self.above(v, most - 1);
@@ -246,7 +242,8 @@ impl Search<'_, '_, '_> {
         requires of_space { IsSome (place_in self.now.space.now self.now.page) }
         requires some { 1 ≤ most }
         ensures { (p : Placement) → IsShownBy p self.now
-            → run_up (joins p self.now.kin self.now.page) (number_of self.now.page) most ≡ record { lo = number_of self.now.page; n = result } }
+            → run_up (joins p self.now.kin self.now.page) (number_of self.now.page) most
+            ≡ record { lo = number_of self.now.page; n = result } }
     {
         1 + self.above(number_of(self.page), most - 1)
     }

@@ -13,4 +13,4 @@ returns-in-Data c = λ p h. elim c.in-Data.is [
 pub returns-in-Text : goal.returns-in-Text
 returns-in-Text c = λ p h.
     text_from_swap p c.args.page c.in-Text.image c.in-Text.v c.args.spare c.min-in-Text.result c.up.result c.in-Text.is c.min-in-Text.ensures
-        (c.up.ensures p (record { page = named c.args.space.now c.args.page c.requires.of_space; space = h; front = tt }))
+    (c.up.ensures p (record { page = named c.args.space.now c.args.page c.requires.of_space; space = h; front = tt }))
