@@ -8,7 +8,7 @@ use Rattle.core_map.specs.declared.slot.Slot.{Slot}
 use Rattle.core_map.specs.declared.slot.Slot.TheVariants.{Free, Resident, Away}
 use Rattle.core_map.specs.Slots.{slot_at}
 
--- the frame's token is in a transfer
+-- the core map hasn't the frame's token, since it is in a transfer
 abbrev pub is_away : Slot → Bool
 is_away (Free token page) = false
 is_away (Resident token page dirty) = false
@@ -28,8 +28,8 @@ state_shown slots places.Swap = OnSwap
 state_shown slots (places.Frame f true changed) = Valid f
 state_shown slots (places.Frame f false changed) = idle_state f (is_away (slot_at slots f)) changed
 
--- a valid page is in a frame off the free list, whose mark says whether the page is dirty; and so does the mark of any
--- other frame that is off the list
+-- by the slot of its frame, whether it is valid, and whether it is dirty: a valid page is in a resident frame, and the
+-- mark of a resident frame says whether its page is dirty
 abbrev pub MarkShown : Slot → Bool → Bool → Type 0
 MarkShown (Free token page) valid dirty = valid ≡ false
 MarkShown (Resident token page mark) valid dirty = mark ≡ dirty

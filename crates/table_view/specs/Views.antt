@@ -20,8 +20,8 @@ abbrev pub ShowsPage : Placement → List Slot → Page → Option Place → Typ
 ShowsPage p slots q None = IsThere p q → ⊥
 ShowsPage p slots q (Some place) = IsThere p q × (state_of p q ≡ state_shown slots place) × ShowsMark slots place (is_dirty p q)
 
--- The core map and the entries of a space show a placement: the free list, and each page of the space. Spaces that share
--- a text show the same of it.
+-- The core map and the entries of a space show a placement: the free list, and each page of the space, its image's text
+-- with it.
 pub record ShowsSpace (p : Placement) (core : Frames) (s : Places) : Type 0 where
   pub free : p.free ≡ core.free
   pub pages : (q : Page) → IsNamedBy s q → ShowsPage p core.slots q (place_in s q)
