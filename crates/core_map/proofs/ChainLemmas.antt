@@ -188,7 +188,8 @@ leads_end links a [] p l = subst (λ (k : ℕ). 0 < times k (a ∷ [])) l (omega
 leads_end links a (x ∷ xs) p l = omega (arith, leads_end links x xs p l.1, times_tail p a (x ∷ xs))
 
 -- a chain without one of its frames
-pub unlink : (links : List ℕ) (a : ℕ) (passed : List ℕ) (p f : ℕ) (zs : List ℕ) → Leads links a passed p → Way links f zs → ((k : ℕ) → times k (a ∷ passed) + times k zs ≤ 1) → p < length links → Way (set links p (slice_index links f)) a (passed ++ zs)
+pub unlink : (links : List ℕ) (a : ℕ) (passed : List ℕ) (p f : ℕ) (zs : List ℕ) → Leads links a passed p → Way links f zs → ((k : ℕ) → times k (a ∷ passed) + times k zs ≤ 1) → p < length links
+    → Way (set links p (slice_index links f)) a (passed ++ zs)
 unlink links a [] p f zs l w apart low =
     let here : slice_index (set links p (slice_index links f)) a ≡ slice_index links f = subst (λ (k : ℕ). slice_index (set links p (slice_index links f)) k ≡ slice_index links f) (sym l) (get_or-set_same links p (slice_index links f) 0 low) in
     way_agree links (set links p (slice_index links f)) f a zs here
@@ -205,7 +206,8 @@ key_other : (keys : Keys) (f g : ℕ) (o : Option TextKey) → g ≢ f → key_a
 key_other keys f g o ne = get_or-set_other keys f g o None ne
 
 -- chain b after frame f came to the front of the chain of its key
-add_chain : (n : ℕ) (links : List ℕ) (keys : Keys) (f first start : ℕ) (key : TextKey) → IsIndexed n links keys → 0 < f → f < length keys → key_at keys f ≡ None → bucket_of n key < n → start ≡ length keys + bucket_of n key → first ≡ slice_index links start → (b : ℕ) → b < n → IsChain n (set (set links f first) start f) (set keys f (Some key)) b
+add_chain : (n : ℕ) (links : List ℕ) (keys : Keys) (f first start : ℕ) (key : TextKey) → IsIndexed n links keys → 0 < f → f < length keys → key_at keys f ≡ None → bucket_of n key < n
+    → start ≡ length keys + bucket_of n key → first ≡ slice_index links start → (b : ℕ) → b < n → IsChain n (set (set links f first) start f) (set keys f (Some key)) b
 add_chain n links keys f first start key i positive low free bucket_low es ef b b_low =
     let old = i.chains b b_low in
     let new = set (set links f first) start f in
@@ -247,7 +249,8 @@ add_chain n links keys f first start key i positive low free bucket_low es ef b 
       }
     ]
 
-pub add_indexed : (n : ℕ) (links : List ℕ) (keys : Keys) (f first start : ℕ) (key : TextKey) → IsIndexed n links keys → 0 < f → f < length keys → key_at keys f ≡ None → bucket_of n key < n → start ≡ length keys + bucket_of n key → first ≡ slice_index links start → IsIndexed n (set (set links f first) start f) (set keys f (Some key))
+pub add_indexed : (n : ℕ) (links : List ℕ) (keys : Keys) (f first start : ℕ) (key : TextKey) → IsIndexed n links keys → 0 < f → f < length keys → key_at keys f ≡ None → bucket_of n key < n
+    → start ≡ length keys + bucket_of n key → first ≡ slice_index links start → IsIndexed n (set (set links f first) start f) (set keys f (Some key))
 add_indexed n links keys f first start key i positive low free bucket_low es ef = record {
   has_none = omega (arith, i.has_none, length-set keys f (Some key));
   small = omega (arith, i.small, length-set keys f (Some key));
@@ -273,7 +276,8 @@ on_way n links keys f start key i e bucket_low es =
     }
 
 -- the chain of f is what stands before it, f, and what stands after it
-chain_at : (n : ℕ) (links : List ℕ) (keys : Keys) (f p start : ℕ) (key : TextKey) → (i : IsIndexed n links keys) → f ≢ 0 → (low : bucket_of n key < n) → start ≡ length keys + bucket_of n key → (w : IsBefore links start f p) → (zs : List ℕ) × ((i.chains (bucket_of n key) low).chain ≡ w.passed ++ f ∷ zs) × Way links f zs
+chain_at : (n : ℕ) (links : List ℕ) (keys : Keys) (f p start : ℕ) (key : TextKey) → (i : IsIndexed n links keys) → f ≢ 0 → (low : bucket_of n key < n) → start ≡ length keys + bucket_of n key
+    → (w : IsBefore links start f p) → (zs : List ℕ) × ((i.chains (bucket_of n key) low).chain ≡ w.passed ++ f ∷ zs) × Way links f zs
 chain_at n links keys f p start key i positive low es w =
     let c = i.chains (bucket_of n key) low in
     let way : Way links start c.chain = subst (λ (k : ℕ). Way links k c.chain) (sym es) c.way in
@@ -284,7 +288,8 @@ chain_at n links keys f p start key i positive low es w =
     ]
 
 -- chain b after frame f left the chain of its key
-remove_chain : (n : ℕ) (links : List ℕ) (keys : Keys) (f p after start : ℕ) (key : TextKey) → IsIndexed n links keys → key_at keys f ≡ Some key → (low : bucket_of n key < n) → start ≡ length keys + bucket_of n key → IsBefore links start f p → p < length links → after ≡ slice_index links f → f < length keys → f ≢ 0 → (b : ℕ) → b < n → IsChain n (set links p after) (set keys f None) b
+remove_chain : (n : ℕ) (links : List ℕ) (keys : Keys) (f p after start : ℕ) (key : TextKey) → IsIndexed n links keys → key_at keys f ≡ Some key → (low : bucket_of n key < n)
+    → start ≡ length keys + bucket_of n key → IsBefore links start f p → p < length links → after ≡ slice_index links f → f < length keys → f ≢ 0 → (b : ℕ) → b < n → IsChain n (set links p after) (set keys f None) b
 remove_chain n links keys f p after start key i e low es w p_low ea f_low f_ne b b_low =
     let own = i.chains (bucket_of n key) low in
     let old = i.chains b b_low in
@@ -345,7 +350,8 @@ keyed_below keys f key e = elim (cases_lt f (length keys)) [
   | inr past ↦ absurd (none-some key (sym (key_past keys f past) ∙ e))
 ]
 
-pub remove_indexed : (n : ℕ) (links : List ℕ) (keys : Keys) (f p after start : ℕ) (key : TextKey) → IsIndexed n links keys → key_at keys f ≡ Some key → bucket_of n key < n → start ≡ length keys + bucket_of n key → IsBefore links start f p → p < length links → after ≡ slice_index links f → IsIndexed n (set links p after) (set keys f None)
+pub remove_indexed : (n : ℕ) (links : List ℕ) (keys : Keys) (f p after start : ℕ) (key : TextKey) → IsIndexed n links keys → key_at keys f ≡ Some key → bucket_of n key < n
+    → start ≡ length keys + bucket_of n key → IsBefore links start f p → p < length links → after ≡ slice_index links f → IsIndexed n (set links p after) (set keys f None)
 remove_indexed n links keys f p after start key i e low es w p_low ea =
     let f_low = keyed_below keys f key e in
     let f_ne : f ≢ 0 = λ z. none-some key (sym i.none ∙ ap (key_at keys) (sym z) ∙ e) in

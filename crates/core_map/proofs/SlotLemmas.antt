@@ -63,7 +63,8 @@ pub slot_read : (slots : List Slot) (f : ℕ) (x : Slot) → f < length slots �
 slot_read slots f x low e = get_or_read slots f x low e Away
 
 -- a change of one slot, and of how often its frame stands in the free list
-pub sound_change : (free new : List ℕ) (slots : List Slot) (f : ℕ) (s : Slot) → IsSound free slots → 0 < f → f < length slots → number_of s f ≡ f → IsWhole s → ((g : ℕ) → g ≢ f → times g new ≡ times g free) → times f new ≡ listings s → ((p : Page) → page_of s ≡ Some p → (g : ℕ) → g ≢ f → page_of (slot_at slots g) ≢ Some p) → IsSound new (set slots f s)
+pub sound_change : (free new : List ℕ) (slots : List Slot) (f : ℕ) (s : Slot) → IsSound free slots → 0 < f → f < length slots → number_of s f ≡ f → IsWhole s
+    → ((g : ℕ) → g ≢ f → times g new ≡ times g free) → times f new ≡ listings s → ((p : Page) → page_of s ≡ Some p → (g : ℕ) → g ≢ f → page_of (slot_at slots g) ≢ Some p) → IsSound new (set slots f s)
 sound_change free new slots f s sound positive low number whole others here fresh = record {
   has_none = omega (arith, sound.has_none, length-set slots f s);
   small = omega (arith, sound.small, length-set slots f s);
@@ -114,7 +115,8 @@ pub unlisted : (free : List ℕ) (slots : List Slot) (f : ℕ) → IsSound free 
 unlisted free slots f sound e = sound.listed f ∙ ap listings e
 
 -- a frame that was away comes to the tail of the list
-pub sound_tail : (free : List ℕ) (slots : List Slot) (f : ℕ) (s : Slot) → IsSound free slots → 0 < f → f < length slots → slot_at slots f ≡ Away → number_of s f ≡ f → IsWhole s → is_free s ≡ true → ((p : Page) → page_of s ≡ Some p → (g : ℕ) → g ≢ f → page_of (slot_at slots g) ≢ Some p) → IsSound (free ++ f ∷ []) (set slots f s)
+pub sound_tail : (free : List ℕ) (slots : List Slot) (f : ℕ) (s : Slot) → IsSound free slots → 0 < f → f < length slots → slot_at slots f ≡ Away → number_of s f ≡ f → IsWhole s → is_free s ≡ true
+    → ((p : Page) → page_of s ≡ Some p → (g : ℕ) → g ≢ f → page_of (slot_at slots g) ≢ Some p) → IsSound (free ++ f ∷ []) (set slots f s)
 sound_tail free slots f s sound positive low away number whole frees fresh =
     let off : times f free ≡ 0 = unlisted free slots f sound away in
     let one = listings_free s frees in
@@ -124,7 +126,8 @@ sound_tail free slots f s sound positive low away number whole frees fresh =
     fresh
 
 -- a frame that was away comes to the head of the list
-pub sound_head : (free : List ℕ) (slots : List Slot) (f : ℕ) (s : Slot) → IsSound free slots → 0 < f → f < length slots → slot_at slots f ≡ Away → number_of s f ≡ f → IsWhole s → is_free s ≡ true → page_of s ≡ None → IsSound (f ∷ free) (set slots f s)
+pub sound_head : (free : List ℕ) (slots : List Slot) (f : ℕ) (s : Slot) → IsSound free slots → 0 < f → f < length slots → slot_at slots f ≡ Away → number_of s f ≡ f → IsWhole s → is_free s ≡ true
+    → page_of s ≡ None → IsSound (f ∷ free) (set slots f s)
 sound_head free slots f s sound positive low away number whole frees none =
     let off : times f free ≡ 0 = unlisted free slots f sound away in
     let one = listings_free s frees in
@@ -143,7 +146,8 @@ sound_without free slots f sound frees =
     (no_page slots f Away refl)
 
 -- a free frame moves to the head of the list
-pub sound_forget : (free : List ℕ) (slots : List Slot) (f : ℕ) (s : Slot) → IsSound free slots → is_free (slot_at slots f) ≡ true → number_of s f ≡ f → IsWhole s → is_free s ≡ true → page_of s ≡ None → IsSound (f ∷ without f free) (set slots f s)
+pub sound_forget : (free : List ℕ) (slots : List Slot) (f : ℕ) (s : Slot) → IsSound free slots → is_free (slot_at slots f) ≡ true → number_of s f ≡ f → IsWhole s → is_free s ≡ true → page_of s ≡ None
+    → IsSound (f ∷ without f free) (set slots f s)
 sound_forget free slots f s sound frees number whole frees_new none =
     let positive : 0 < f = free_above_zero free slots f sound frees in
     let one = listings_free s frees_new in
@@ -163,7 +167,8 @@ sound_taken free rest slots f sound e =
     (no_page slots f Away refl)
 
 -- a slot changes, and its frame stays on or off the list
-pub sound_same : (free : List ℕ) (slots : List Slot) (f : ℕ) (s : Slot) → IsSound free slots → 0 < f → f < length slots → number_of s f ≡ f → IsWhole s → listings s ≡ listings (slot_at slots f) → ((p : Page) → page_of s ≡ Some p → (g : ℕ) → g ≢ f → page_of (slot_at slots g) ≢ Some p) → IsSound free (set slots f s)
+pub sound_same : (free : List ℕ) (slots : List Slot) (f : ℕ) (s : Slot) → IsSound free slots → 0 < f → f < length slots → number_of s f ≡ f → IsWhole s → listings s ≡ listings (slot_at slots f)
+    → ((p : Page) → page_of s ≡ Some p → (g : ℕ) → g ≢ f → page_of (slot_at slots g) ≢ Some p) → IsSound free (set slots f s)
 sound_same free slots f s sound positive low number whole listing fresh =
     sound_change free free slots f s sound positive low number whole (λ g ne. refl) (sound.listed f ∙ sym listing) fresh
 
@@ -172,7 +177,8 @@ resident_above_zero free slots zero sound res = absurd (false≢true (sym (ap is
 resident_above_zero free slots (suc f) sound res = omega arith
 
 -- a resident slot keeps its token's number and its page
-pub sound_resident : (free : List ℕ) (slots : List Slot) (f : ℕ) (s : Slot) → IsSound free slots → is_resident (slot_at slots f) ≡ true → is_resident s ≡ true → IsWhole s → number_of s f ≡ number_of (slot_at slots f) f → page_of s ≡ page_of (slot_at slots f) → IsSound free (set slots f s)
+pub sound_resident : (free : List ℕ) (slots : List Slot) (f : ℕ) (s : Slot) → IsSound free slots → is_resident (slot_at slots f) ≡ true → is_resident s ≡ true → IsWhole s
+    → number_of s f ≡ number_of (slot_at slots f) f → page_of s ≡ page_of (slot_at slots f) → IsSound free (set slots f s)
 sound_resident free slots f s sound res new whole number page =
     let was = resident_parts (slot_at slots f) res in
     let is = resident_parts s new in

@@ -204,7 +204,8 @@ unless_calm false p sid w h c = give_up_calm p sid w h c
 
 -- Each change.
 
-pub change_calm : (images : List Image) (p : Placement) (pid sid : ℕ) (borrowed : Bool) (next_sid at : ℕ) (change : Change) (w : Page) → TextShared (place_change images p pid sid borrowed next_sid at change) w → Calm p w → Calm (place_change images p pid sid borrowed next_sid at change) w
+pub change_calm : (images : List Image) (p : Placement) (pid sid : ℕ) (borrowed : Bool) (next_sid at : ℕ) (change : Change) (w : Page)
+    → TextShared (place_change images p pid sid borrowed next_sid at change) w → Calm p w → Calm (place_change images p pid sid borrowed next_sid at change) w
 change_calm images p pid sid borrowed next_sid at Keep w h c = c
 change_calm images p pid sid borrowed next_sid at (Resize d s) w h c = resize_calm p sid d s w c
 change_calm images p pid sid borrowed next_sid at (Fork child) w h c = fork_calm p sid next_sid w c
@@ -215,6 +216,7 @@ change_calm images p pid sid borrowed next_sid at (Reap child) w h c = c
 change_calm images p pid sid borrowed next_sid at Sleep w h c = c
 change_calm images p pid sid borrowed next_sid at (End status) w h c = unless_calm borrowed p sid w h c
 
-pub place_step_calm : (images : List Image) (flat : FlatState) (pid at : ℕ) (written : List Page) (change : Change) (p : Placement) (w : Page) → Untouched written w → TextShared (place_step images flat pid at written change p) w → Calm p w → Calm (place_step images flat pid at written change p) w
+pub place_step_calm : (images : List Image) (flat : FlatState) (pid at : ℕ) (written : List Page) (change : Change) (p : Placement) (w : Page) → Untouched written w
+    → TextShared (place_step images flat pid at written change p) w → Calm p w → Calm (place_step images flat pid at written change p) w
 place_step_calm images flat pid at written change p w u h c =
     change_calm images (touch_all p written) pid (space_of_process (process_of flat pid)) (is_borrower flat.processes pid) flat.next_sid at change w h (touch_all_calm written p w u c)

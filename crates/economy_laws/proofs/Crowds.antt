@@ -195,7 +195,8 @@ replied_room images F p call effect (Writes (byte ∷ more)) h = tt
 replied_room images F p call effect Waits h = tt
 replied_room images F p call effect (Exits status) h = tt
 
-behind_room : (images : List NamedImage) (F : FlatState) (p : Process) (s : Space) (refused : Bool) (effect : Effect) (o : Option ℤ) → RoomFor (apply_writes F p.pid (step_behind images F p s refused effect o).writes) (step_behind images F p s refused effect o).change
+behind_room : (images : List NamedImage) (F : FlatState) (p : Process) (s : Space) (refused : Bool) (effect : Effect) (o : Option ℤ)
+    → RoomFor (apply_writes F p.pid (step_behind images F p s refused effect o).writes) (step_behind images F p s refused effect o).change
 behind_room images F p s refused effect None = tt
 behind_room images F p s refused effect (Some number) = go (call_of number)
   where

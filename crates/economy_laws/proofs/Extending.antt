@@ -176,7 +176,8 @@ test_kept s d t a b spot g e f = (
   (λ q h. not_grown s d t a spot q g (spot_within s b spot g.paged e) (tested_read s spot q (sym (ap (page_tested s) e) ∙ h))),
 )
 
-read_on : (X : Type 0) (s : Space) (d t a b : ℕ) (next : ℕ → Program X) (spot : Spot) (v : ℕ) → Bigger s d t a → address_in s b ≡ spot → Found spot → byte_at s spot ≡ bytes.Is v → Reached X s d t a (next v) → Reached X s d t a (Reads b next)
+read_on : (X : Type 0) (s : Space) (d t a b : ℕ) (next : ℕ → Program X) (spot : Spot) (v : ℕ) → Bigger s d t a → address_in s b ≡ spot → Found spot → byte_at s spot ≡ bytes.Is v
+    → Reached X s d t a (next v) → Reached X s d t a (Reads b next)
 read_on X s d t a b next spot v g e f w k = record {
   before = ReadOf b ∷ k.before;
   last = k.last;

@@ -147,7 +147,8 @@ pub data Leaves (F G : FlatState) (pid : ℕ) : Type 0 where
   Fewer : ready_count G.processes + 1 ≡ ready_count F.processes → Leaves F G pid
 
 -- where a process's step leaves the flat machine, with its change
-pub stepped_by : (A : Inputs) (s : State) (u : Entry) (h : Stepped A s u) → IsRun A s → (after A s u).point.flat ≡ apply_change A.images (apply_writes s.point.flat h.pid (step_at A s.point h.pid).writes) h.pid (step_at A s.point h.pid).regs (step_at A s.point h.pid).change
+pub stepped_by : (A : Inputs) (s : State) (u : Entry) (h : Stepped A s u) → IsRun A s
+    → (after A s u).point.flat ≡ apply_change A.images (apply_writes s.point.flat h.pid (step_at A s.point h.pid).writes) h.pid (step_at A s.point h.pid).regs (step_at A s.point h.pid).change
 stepped_by A s u h r =
     let run : Runs A s h.pid h.now = h.runs in
     let w : Stepper s.point.flat h.pid = stepper s.point.flat h.pid (on_steps A s s.mark h.pid h.now run.on) in

@@ -125,13 +125,15 @@ first_left A t pid b few r c (Children q parent es e a) =
 pub few_touched : (A : Inputs) → FewTouched A
 few_touched A = λ s pid r. let f = run_few A s pid r in omega arith
 
-pub whole_stretch : (A : Inputs) (s t : State) (u : Entry) (us : List Entry) (pid : ℕ) → ImagesFit A.images → FewTouched A → AllGrown A → SleepStops A → IsRun A s → Follows A s (u ∷ us) t → begins_stretch u ≡ true → IsClosing A (after A s u) pid → NoneBegins us
+pub whole_stretch : (A : Inputs) (s t : State) (u : Entry) (us : List Entry) (pid : ℕ) → ImagesFit A.images → FewTouched A → AllGrown A → SleepStops A → IsRun A s → Follows A s (u ∷ us) t
+    → begins_stretch u ≡ true → IsClosing A (after A s u) pid → NoneBegins us
     → (added (is_hands u) us ≤ 218 + 8 * copies_of us) × (takings us ≤ 33 + copies_of us)
 whole_stretch A s t u us pid images few grows stops r f b c n =
     let r2 = unit_run A s u images r f.0 in
     stretch A us (after A s u) t pid (is_hands u) 218 33 images few grows stops r2 c f.1 n (first_left A (after A s u) pid (is_hands u) few r2 c (opens A s u f.0 b))
 
-pub stretch_entries : (A : Inputs) (s t : State) (u : Entry) (us journal : List Entry) (pid : ℕ) → ImagesFit A.images → FewTouched A → AllGrown A → SleepStops A → IsRun A s → Follows A s (u ∷ us) t → begins_stretch u ≡ true → IsClosing A (after A s u) pid → NoneBegins us
+pub stretch_entries : (A : Inputs) (s t : State) (u : Entry) (us journal : List Entry) (pid : ℕ) → ImagesFit A.images → FewTouched A → AllGrown A → SleepStops A → IsRun A s → Follows A s (u ∷ us) t
+    → begins_stretch u ≡ true → IsClosing A (after A s u) pid → NoneBegins us
     → length (appended journal (u ∷ us)) ≤ length journal + 219 + 8 * copies_of us
 stretch_entries A s t u us journal pid images few grows stops r f b c n =
     let k = whole_stretch A s t u us pid images few grows stops r f b c n in

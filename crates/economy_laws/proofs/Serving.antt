@@ -35,7 +35,8 @@ pub record Served (b : Bool) (us : List Entry) (r : Placement) (q : Page) (most 
   pub moves : moves_of us ≤ hands
 
 -- the end of a list of units
-none_served : (b : Bool) (p r : Placement) (q : Page) (most down flights takers hands : ℕ) → p ≡ r → length p.transfers ≤ most → (is_valid (state_of p q) ≡ true → length p.transfers + down ≤ flights) → Served b [] r q most down flights takers hands
+none_served : (b : Bool) (p r : Placement) (q : Page) (most down flights takers hands : ℕ) → p ≡ r → length p.transfers ≤ most → (is_valid (state_of p q) ≡ true → length p.transfers + down ≤ flights)
+    → Served b [] r q most down flights takers hands
 none_served b p r q most down flights takers hands e l k = record {
   few = subst (λ (x : Placement). 0 + length x.transfers ≤ most) e (omega (arith, l));
   rest = λ v. subst (λ (x : Placement). length x.transfers + down ≤ flights) e (k (subst (λ (x : Placement). is_valid (state_of x q) ≡ true) (sym e) v));
@@ -44,7 +45,8 @@ none_served b p r q most down flights takers hands e l k = record {
 }
 
 -- one unit that is no move of the hands, and then others
-more_served : (b : Bool) (u e : Entry) (es : List Entry) (r : Placement) (q : Page) (most down flights takers hands : ℕ) → e ≡ u → is_hands u ≡ false → moves u ≡ 0 → Served false es r q most down flights takers hands → Served b (e ∷ es) r q (1 + most) down flights (takes u + takers) hands
+more_served : (b : Bool) (u e : Entry) (es : List Entry) (r : Placement) (q : Page) (most down flights takers hands : ℕ) → e ≡ u → is_hands u ≡ false → moves u ≡ 0
+    → Served false es r q most down flights takers hands → Served b (e ∷ es) r q (1 + most) down flights (takes u + takers) hands
 more_served b u e es r q most down flights takers hands i n z s = subst (λ (x : Entry). Served b (x ∷ es) r q (1 + most) down flights (takes u + takers) hands) (sym i) (record {
   few = let a = adds_one b u n in let c = ap (λ (x : Bool). added x es) n in let d = s.few in omega arith;
   rest = s.rest;
@@ -53,7 +55,8 @@ more_served b u e es r q most down flights takers hands i n z s = subst (λ (x :
 })
 
 -- looser numbers
-looser : (b : Bool) (us : List Entry) (r : Placement) (q : Page) (most down flights takers hands most2 down2 flights2 takers2 hands2 : ℕ) → Served b us r q most down flights takers hands → most ≤ most2 → flights + down2 ≤ flights2 + down → takers ≤ takers2 → hands ≤ hands2 → Served b us r q most2 down2 flights2 takers2 hands2
+looser : (b : Bool) (us : List Entry) (r : Placement) (q : Page) (most down flights takers hands most2 down2 flights2 takers2 hands2 : ℕ) → Served b us r q most down flights takers hands
+    → most ≤ most2 → flights + down2 ≤ flights2 + down → takers ≤ takers2 → hands ≤ hands2 → Served b us r q most2 down2 flights2 takers2 hands2
 looser b us r q most down flights takers hands most2 down2 flights2 takers2 hands2 s l m n o = record {
   few = omega (arith, s.few);
   rest = λ v. omega (arith, s.rest v);
@@ -65,7 +68,8 @@ looser b us r q most down flights takers hands most2 down2 flights2 takers2 hand
 unit_at : (p : Placement) (q : Page) (now : Bool) (e : Entry) (s : PageState) → state_of p q ≡ s → serve_unit p q now ≡ Some e → (is_valid s ≡ false) × (e ≡ serve_entry_by p q s)
 unit_at p q now e s k h = let a = unit_is p q now e h in (ap is_valid (sym k) ∙ a.0, a.1 ∙ ap (serve_entry_by p q) k)
 
-step_at : (p : Placement) (locked : List Page) (q : Page) (now : Bool) (es : List Entry) (r : Placement) (s : PageState) → state_of p q ≡ s → Serves es (serve_step p locked q) locked q now r → Serves es (serve_by p locked q s) locked q now r
+step_at : (p : Placement) (locked : List Page) (q : Page) (now : Bool) (es : List Entry) (r : Placement) (s : PageState) → state_of p q ≡ s → Serves es (serve_step p locked q) locked q now r
+    → Serves es (serve_by p locked q s) locked q now r
 step_at p locked q now es r s k h = subst (λ (x : PageState). Serves es (serve_by p locked q x) locked q now r) k h
 
 -- A page that is valid, or still in its frame.
@@ -74,7 +78,8 @@ valid_none : (b : Bool) (us : List Entry) (p r : Placement) (locked : List Page)
 valid_none b [] p r locked q now v h = none_served b p r q (length p.transfers) 0 (length p.transfers) 0 0 h (omega arith) (λ k. omega arith)
 valid_none b (e ∷ es) p r locked q now v h = absurd (let a = unit_is p q now e h.0 in let k : true ≡ false = sym v ∙ a.0 in cc)
 
-landed_served : (b : Bool) (us : List Entry) (p r : Placement) (locked : List Page) (q : Page) (now : Bool) → IsThere p q → Landed (state_of p q) → Serves us p locked q now r → Served b us r q (length p.transfers + 1) 0 (length p.transfers) 0 0
+landed_served : (b : Bool) (us : List Entry) (p r : Placement) (locked : List Page) (q : Page) (now : Bool) → IsThere p q → Landed (state_of p q) → Serves us p locked q now r
+    → Served b us r q (length p.transfers + 1) 0 (length p.transfers) 0 0
 landed_served b [] p r locked q now there l h = none_served b p r q (length p.transfers + 1) 0 (length p.transfers) 0 0 h (omega arith) (λ k. omega arith)
 landed_served b (e ∷ es) p r locked q now there l h = go (state_of p q) refl l
   where
@@ -365,7 +370,8 @@ served_by b us p r locked q now o there h hands bound = go (state_of p q) refl
     go Unfilled k = frameless_served b us p r locked q now o there (ap frame_of k) h hands bound
     go OnSwap k = frameless_served b us p r locked q now o there (ap frame_of k) h hands bound
 
-pub served_short : (b : Bool) (us : List Entry) (p r : Placement) (locked : List Page) (q : Page) (now : Bool) → OwnsFrames p → IsThere p q → Serves us p locked q now r → Served b us r q (length p.transfers + 5) 0 (length p.transfers) 1 (length us)
+pub served_short : (b : Bool) (us : List Entry) (p r : Placement) (locked : List Page) (q : Page) (now : Bool) → OwnsFrames p → IsThere p q → Serves us p locked q now r
+    → Served b us r q (length p.transfers + 5) 0 (length p.transfers) 1 (length us)
 served_short b us p r locked q now o there h = served_by b us p r locked q now o there h (length us) (λ xs ys m e f.
     let k : Short b xs m (length p.transfers + 2) (length p.transfers) (length xs) = forced_short b xs p m locked o f in
     let a = k.moves in let c = ap length e in let d = length-append xs ys in omega arith)

@@ -381,7 +381,8 @@ open_last A s u pid r h e n = go (is_closed s.point.last) refl
     go false c = refl
 
 -- a state with the same pages, at which a process's next entry is counted
-waiting_left : (A : Inputs) (s : State) (u : Entry) (pid : ℕ) (b : Bool) (n m : ℕ) → s.place.due ≡ [] → is_out s.place pid ≡ false → IsClosing A s pid → wanted A s ≡ None → is_closed (Some u) ≡ true → length s.place.transfers ≤ n → Left A (noted s u) pid b n m
+waiting_left : (A : Inputs) (s : State) (u : Entry) (pid : ℕ) (b : Bool) (n m : ℕ) → s.place.due ≡ [] → is_out s.place pid ≡ false → IsClosing A s pid → wanted A s ≡ None → is_closed (Some u) ≡ true
+    → length s.place.transfers ≤ n → Left A (noted s u) pid b n m
 waiting_left A s u pid b n m d o c w k l = acting_left A (noted s u) pid b n m d (λ x. absurd (let z : true ≡ false = sym x ∙ o in cc))
     (wanted_is A (noted s u) pid (record { since = c.since; mark = c.mark; lines = c.lines }) d ∙ sym (wanted_is A s pid c d) ∙ w)
     (record { flights = l; some = λ z. absurd (let y : true ≡ false = sym k ∙ z in cc); takers = λ z. absurd (let y : true ≡ false = sym k ∙ z in cc) })
@@ -395,7 +396,8 @@ pub record Slept (A : Inputs) (s t : State) (pid : ℕ) : Type 0 where
 abbrev pub SleepStops : Inputs → Type 0
 SleepStops A = (s : State) (pid : ℕ) → IsRun A s → next_unit A s ≡ Some (entries.Sleeps pid) → Slept A s (after A s (entries.Sleeps pid)) pid
 
-act_next : (A : Inputs) (s : State) (u : Entry) (pid : ℕ) (b : Bool) (n m : ℕ) → FewTouched A → AllGrown A → SleepStops A → IsRun A s → IsClosing A s pid → IsRun A (after A s u) → IsClosing A (after A s u) pid → next_unit A s ≡ Some u → begins_stretch u ≡ false → Left A s pid b n m
+act_next : (A : Inputs) (s : State) (u : Entry) (pid : ℕ) (b : Bool) (n m : ℕ) → FewTouched A → AllGrown A → SleepStops A → IsRun A s → IsClosing A s pid → IsRun A (after A s u)
+    → IsClosing A (after A s u) pid → next_unit A s ≡ Some u → begins_stretch u ≡ false → Left A s pid b n m
     → Runs A s pid true → wanted A s ≡ None → act A s pid ≡ Some u → Next A s pid b u n m
 act_next A s u pid b n m few grows stops r c r2 c2 h nb l run w a = by (acted A s pid u a)
   where
@@ -502,7 +504,8 @@ act_next A s u pid b n m few grows stops r c r2 c2 h nb l run w a = by (acted A 
 
 -- Each unit.
 
-closes_next : (A : Inputs) (s : State) (u : Entry) (pid : ℕ) (b : Bool) (n m : ℕ) → FewTouched A → AllGrown A → SleepStops A → IsRun A s → IsClosing A s pid → IsRun A (after A s u) → IsClosing A (after A s u) pid → next_unit A s ≡ Some u → begins_stretch u ≡ false → Left A s pid b n m → Closes A s u pid → Next A s pid b u n m
+closes_next : (A : Inputs) (s : State) (u : Entry) (pid : ℕ) (b : Bool) (n m : ℕ) → FewTouched A → AllGrown A → SleepStops A → IsRun A s → IsClosing A s pid → IsRun A (after A s u)
+    → IsClosing A (after A s u) pid → next_unit A s ≡ Some u → begins_stretch u ≡ false → Left A s pid b n m → Closes A s u pid → Next A s pid b u n m
 closes_next A s u pid b n m few grows stops r c r2 c2 h nb l (Fill q ds d i) = start_next A s u pid b n m q ds few r r2 c2 l d i
 closes_next A s u pid b n m few grows stops r c r2 c2 h nb l (Bring q parent ds d i) = bring_next A s u pid b n m q parent ds r r2 l d i
 closes_next A s u pid b n m few grows stops r c r2 c2 h nb l (CopyIt q parent ds d v i) = copy_next A s u pid b n m q parent ds few r r2 c2 l d v i
@@ -510,7 +513,8 @@ closes_next A s u pid b n m few grows stops r c r2 c2 h nb l (Serve q run w i) =
 closes_next A s u pid b n m few grows stops r c r2 c2 h nb l (Act run w a) = act_next A s u pid b n m few grows stops r c r2 c2 h nb l run w a
 closes_next A s u pid b n m few grows stops r c r2 c2 h nb l (In d o i) = in_next A s u pid b n m few r2 c2 l d o i
 
-pub stretch : (A : Inputs) (us : List Entry) (s t : State) (pid : ℕ) (b : Bool) (n m : ℕ) → ImagesFit A.images → FewTouched A → AllGrown A → SleepStops A → IsRun A s → IsClosing A s pid → Follows A s us t → NoneBegins us → Left A s pid b n m
+pub stretch : (A : Inputs) (us : List Entry) (s t : State) (pid : ℕ) (b : Bool) (n m : ℕ) → ImagesFit A.images → FewTouched A → AllGrown A → SleepStops A → IsRun A s → IsClosing A s pid
+    → Follows A s us t → NoneBegins us → Left A s pid b n m
     → (added b us ≤ n + 8 * copies_of us) × (takings us ≤ m + copies_of us)
 stretch A [] s t pid b n m images few grows stops r c f z l = (omega arith, omega arith)
 stretch A (u ∷ us) s t pid b n m images few grows stops r c f z l =

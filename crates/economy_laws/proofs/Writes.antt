@@ -196,7 +196,8 @@ unit_calm A s u q r h n c = go (process_of_entry u) refl
     go (Some pid) e = flat_calm A s u q pid e (unmarked A s u q n) (shared A s u q r n) c
 
 -- From a state at which a page is calm, up to one at which a unit writes it, a unit makes that worth it.
-calm_worth : (A : Inputs) (us : List Entry) (s t : State) (w : Entry) (q : Page) → ImagesFit A.images → IsRun A s → Follows A s us t → next_unit A t ≡ Some w → Calm s.place q → is_among q (stored_pages t.place w) ≡ true → Happens (λ B x e. renews B x e q) A s us
+calm_worth : (A : Inputs) (us : List Entry) (s t : State) (w : Entry) (q : Page) → ImagesFit A.images → IsRun A s → Follows A s us t → next_unit A t ≡ Some w → Calm s.place q
+    → is_among q (stored_pages t.place w) ≡ true → Happens (λ B x e. renews B x e q) A s us
 calm_worth A [] s t w q images r f h c g = absurd (
     let d : Calm t.place q = subst (λ (x : State). Calm x.place q) f c in
     let k = stored_going t.place w q (owns A t (let x : IsRun A t = subst (IsRun A) f r in x.placed)) g in
@@ -212,6 +213,7 @@ stored_plain : (p : Placement) (u : Entry) (q : Page) → is_among q (stored_pag
 stored_plain p entries.Done q h = refl
 stored_plain p _ q h = absurd cc
 
-pub writes_worth : (A : Inputs) (s t : State) (u w : Entry) (us : List Entry) (q : Page) → ImagesFit A.images → IsRun A s → Follows A s (u ∷ us) t → next_unit A t ≡ Some w → is_among q (stored_pages s.place u) ≡ true → is_among q (stored_pages t.place w) ≡ true → Happens (λ B x e. renews B x e q) A (after A s u) us
+pub writes_worth : (A : Inputs) (s t : State) (u w : Entry) (us : List Entry) (q : Page) → ImagesFit A.images → IsRun A s → Follows A s (u ∷ us) t → next_unit A t ≡ Some w
+    → is_among q (stored_pages s.place u) ≡ true → is_among q (stored_pages t.place w) ≡ true → Happens (λ B x e. renews B x e q) A (after A s u) us
 writes_worth A s t u w us q images r f h a g = calm_worth A us (after A s u) t w q images (unit_run A s u images r f.0) f.1 h
     (subst (λ (p : Placement). Calm p q) (sym (plain_place A s u (stored_plain s.place u q a))) (stored_calm (locked A s) (place_at s u) s.place u q (owns A s r.placed) a)) g

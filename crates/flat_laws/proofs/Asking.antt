@@ -159,7 +159,8 @@ shared_same k flat image c n t = shared_by_held image flat.processes ∙ same_im
 further_same : (owner : Owner) (old new : List ℕ) → wanted owner (drop (length old) new) ≡ drop (length (wanted owner old)) (wanted owner new)
 further_same owner old new = sym (ap (λ (n : ℕ). drop n (wanted owner new)) (length-map old (one owner)) ∙ drop-map (one owner) (length old) new)
 
-pub text_same : (image n blocks : ℕ) (shared : Bool) (named : NamedImage) → (n ≡ 0 → shared ≡ false) → ((m : ℕ) → n ≡ suc m → shared ≡ true) → blocks ≡ 2 * text_pages_of named.image.facts → text_asked n image blocks ≡ text_wanted shared image named.image
+pub text_same : (image n blocks : ℕ) (shared : Bool) (named : NamedImage) → (n ≡ 0 → shared ≡ false) → ((m : ℕ) → n ≡ suc m → shared ≡ true) → blocks ≡ 2 * text_pages_of named.image.facts
+    → text_asked n image blocks ≡ text_wanted shared image named.image
 text_same image zero blocks true named none many e = absurd (let h = none refl in cc)
 text_same image zero blocks false named none many e = ap (λ (b : ℕ). wanted (owners.Text image) (text_pieces b)) e
 text_same image (suc n) blocks true named none many e = refl

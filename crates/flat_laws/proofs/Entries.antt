@@ -117,6 +117,7 @@ same_both : (wanted : Option Entry) (e f : Entry) → same_as wanted e ≡ true 
 same_both None e f h k = absurd cc
 same_both (Some wanted) e f h k = sym (entry_is wanted e h) ∙ entry_is wanted f k
 
-pub one_entry : (A : Inputs) (point p q : Point) (pid : ℕ) (e f : Entry) → process_of_entry e ≡ Some pid → process_of_entry f ≡ Some pid → is_refusal e ≡ false → is_refusal f ≡ false → flat_entry A point e ≡ Some p → flat_entry A point f ≡ Some q → e ≡ f
+pub one_entry : (A : Inputs) (point p q : Point) (pid : ℕ) (e f : Entry) → process_of_entry e ≡ Some pid → process_of_entry f ≡ Some pid → is_refusal e ≡ false → is_refusal f ≡ false
+    → flat_entry A point e ≡ Some p → flat_entry A point f ≡ Some q → e ≡ f
 one_entry A point p q pid e f of_e of_f plain_e plain_f h k =
     same_both (act A point pid) e f (comes A point p pid e of_e plain_e h).same (comes A point q pid f of_f plain_f k).same

@@ -67,10 +67,12 @@ writes_kept F of ws h = go (process_of F of) refl
 
 -- Steps.
 
-after_kept : (images : List NamedImage) (F : FlatState) (p : Process) (ws : List ByteWrite) (regs : Regs) (change : Change) → NamesChild (apply_writes F p.pid ws) change → IsNumbered F → IsNumbered (apply_change images (apply_writes F p.pid ws) p.pid regs change)
+after_kept : (images : List NamedImage) (F : FlatState) (p : Process) (ws : List ByteWrite) (regs : Regs) (change : Change) → NamesChild (apply_writes F p.pid ws) change → IsNumbered F
+    → IsNumbered (apply_change images (apply_writes F p.pid ws) p.pid regs change)
 after_kept images F p ws regs change fits h = change_kept images (apply_writes F p.pid ws) p.pid regs change fits (writes_kept F p.pid ws h)
 
-replied_kept : (images : List NamedImage) (F : FlatState) (p : Process) (call : SystemCall) (effect : Effect) (reply : Reply) → ReplyFits (apply_writes F p.pid effect.writes) reply → IsNumbered F → IsNumbered (replied_step images F p call effect reply).after
+replied_kept : (images : List NamedImage) (F : FlatState) (p : Process) (call : SystemCall) (effect : Effect) (reply : Reply) → ReplyFits (apply_writes F p.pid effect.writes) reply → IsNumbered F
+    → IsNumbered (replied_step images F p call effect reply).after
 replied_kept images F p call effect (replies.Fails error) fits h = after_kept images F p effect.writes _ Keep tt h
 replied_kept images F p call effect (replies.Does regs change) fits h = after_kept images F p effect.writes regs change fits h
 replied_kept images F p call effect (replies.Writes bytes) fits h = after_kept images F p effect.writes _ Keep tt h

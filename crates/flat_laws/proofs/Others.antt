@@ -51,13 +51,15 @@ orphaned_stays F of pid s h =
     found_mapped (without_parent of) (Rattle.std.specs.Prelude.filter (λ q. not (is_zombie_child of q)) F.processes) pid s (λ q. refl) (λ q. refl)
     (found_filtered (λ q. not (is_zombie_child of q)) F.processes pid s (λ q holds k. ap not (holder_is_none of q s holds)) h)
 
-entered_stays : (F : FlatState) (p : Process) (t : Space) (image : ℕ) (named : Option NamedImage) (top : List ℕ) (pid : ℕ) (s : Space) → p.pid ≢ pid → FoundHolding F.processes pid s → FoundHolding (entered F p t image named top).processes pid s
+entered_stays : (F : FlatState) (p : Process) (t : Space) (image : ℕ) (named : Option NamedImage) (top : List ℕ) (pid : ℕ) (s : Space) → p.pid ≢ pid → FoundHolding F.processes pid s
+    → FoundHolding (entered F p t image named top).processes pid s
 entered_stays F p t image None top pid s other h = h
 entered_stays F p t image (Some named) top pid s other h =
     found_returned p.pid t (with_process F record p { holding = Holds (space_with F.next_sid image named.image top) }).processes pid s
     (found_replaced F.processes (record p { holding = Holds (space_with F.next_sid image named.image top) }) pid s other h)
 
-changed_stays : (images : List NamedImage) (F : FlatState) (p : Process) (t : Space) (change : Change) (pid : ℕ) (s : Space) → NamesChild F change → p.pid ≢ pid → FoundHolding F.processes pid s → FoundHolding (changed images F p t change).processes pid s
+changed_stays : (images : List NamedImage) (F : FlatState) (p : Process) (t : Space) (change : Change) (pid : ℕ) (s : Space) → NamesChild F change → p.pid ≢ pid → FoundHolding F.processes pid s
+    → FoundHolding (changed images F p t change).processes pid s
 changed_stays images F p t Keep pid s fits other h = found_replaced F.processes p pid s other h
 changed_stays images F p t (Resize a b) pid s fits other h = found_replaced F.processes (record p { holding = Holds (resized t a b) }) pid s other h
 changed_stays images F p t (Fork child) pid s fits other h =
@@ -75,7 +77,8 @@ changed_stays images F p t (End status) pid s fits other h =
     (orphaned_stays (given_back (with_process F dead) p.pid t) p.pid pid s
     (found_returned p.pid t (with_process F dead).processes pid s (found_replaced F.processes dead pid s other h)))
 
-change_stays : (images : List NamedImage) (F : FlatState) (of : ℕ) (regs : Regs) (change : Change) (pid : ℕ) (s : Space) → NamesChild F change → of ≢ pid → FoundHolding F.processes pid s → FoundHolding (apply_change images F of regs change).processes pid s
+change_stays : (images : List NamedImage) (F : FlatState) (of : ℕ) (regs : Regs) (change : Change) (pid : ℕ) (s : Space) → NamesChild F change → of ≢ pid → FoundHolding F.processes pid s
+    → FoundHolding (apply_change images F of regs change).processes pid s
 unfolding apply_change
 change_stays images F of regs change pid s fits other h = go (process_of F of) refl
   where

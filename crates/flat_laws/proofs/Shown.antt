@@ -173,7 +173,8 @@ after_is : (A : Inputs) (F : FlatState) (p : Process) (s : Space) (effect : Effe
 after_is A F p s effect call ok is =
     ap (accesses_after A.images F p s) ok ∙ ap (accesses_behind A.images F p s effect) is.is_number ∙ ap (call_accesses A.images F p s effect) is.names
 
-pub reply_shown : (A : Inputs) (F : FlatState) (pid : ℕ) (p : Process) (s : Space) (effect : Effect) (call : SystemCall) → process_of F pid ≡ Some p → is_ready p ≡ true → p.holding ≡ Holds s → instruction_in s p.regs ≡ Ok effect → IsCallOf effect call
+pub reply_shown : (A : Inputs) (F : FlatState) (pid : ℕ) (p : Process) (s : Space) (effect : Effect) (call : SystemCall) → process_of F pid ≡ Some p → is_ready p ≡ true → p.holding ≡ Holds s
+    → instruction_in s p.regs ≡ Ok effect → IsCallOf effect call
     → run (shown (puts s effect.writes) (touched A F pid)) (reply_program A.images F p s effect call) ≡ run (answers_of (puts s effect.writes)) (reply_program A.images F p s effect call)
 unfolding step_accesses
 reply_shown A F pid p s effect call here ready holds ok is =

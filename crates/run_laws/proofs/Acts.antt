@@ -145,7 +145,8 @@ unfolding place_all
 none_found A hs found ws e h = ok_same hs found (ap (place_all A.swap_blocks hs) (sym e) ∙ h)
 
 -- what is held behind the entry
-pub held_is : (A : Inputs) (s : State) (pid : ℕ) (u : Entry) (q : Process) (t : Space) (found : Holdings) → Ends u → process_of_entry u ≡ Some pid → process_of s.point.flat pid ≡ Some q → q.holding ≡ Holds t → Suits (u ∷ []) (step_at A s.point pid).change
+pub held_is : (A : Inputs) (s : State) (pid : ℕ) (u : Entry) (q : Process) (t : Space) (found : Holdings) → Ends u → process_of_entry u ≡ Some pid → process_of s.point.flat pid ≡ Some q
+    → q.holding ≡ Holds t → Suits (u ∷ []) (step_at A s.point pid).change
     → place_all A.swap_blocks s.holdings (change_wanted A.images s.point.flat t (step_at A s.point pid).change) ≡ Ok found
     → held_entry A s.point u s.holdings ≡ given_up s.point.flat (step_at A s.point pid).after pid t (step_at A s.point pid).change found
 unfolding held_step
@@ -251,7 +252,8 @@ stepped_flat A s u h =
     let c : Completes A s.point h.pid u = completes A s.point h.pid u h.ends h.next in
     ap (λ (x : Point). x.flat) (r.point ∙ ap (behind s.point (step_at A s.point h.pid).after) c.due)
 
-pub stepped_form : (A : Inputs) (s : State) (u : Entry) (h : Stepped A s u) (x : Stepper s.point.flat h.pid) → IsNumbered s.point.flat → Formed A.images s.point.flat x.process x.space (is_refused s.point.last h.pid) (step_at A s.point h.pid)
+pub stepped_form : (A : Inputs) (s : State) (u : Entry) (h : Stepped A s u) (x : Stepper s.point.flat h.pid) → IsNumbered s.point.flat
+    → Formed A.images s.point.flat x.process x.space (is_refused s.point.last h.pid) (step_at A s.point h.pid)
 stepped_form A s u h x n = go (step_form A s.point.flat h.pid (is_refused s.point.last h.pid) x.process x.space n x.here x.holds)
   where
     c : Completes A s.point h.pid u
@@ -261,7 +263,8 @@ stepped_form A s u h x n = go (step_form A s.point.flat h.pid (is_refused s.poin
     go (Missed e) = absurd (c.some e)
     go (Came f) = f
 
-pub stepped_placed : (A : Inputs) (s : State) (u : Entry) → ImagesFit A.images → ExecsFit A → IsNumbered s.point.flat → LendsStand s.point.flat → (h : Stepped A s u) → Placed A s.point.flat s.place s.holdings → Placed A (after A s u).point.flat (after A s u).place (after A s u).holdings
+pub stepped_placed : (A : Inputs) (s : State) (u : Entry) → ImagesFit A.images → ExecsFit A → IsNumbered s.point.flat → LendsStand s.point.flat → (h : Stepped A s u)
+    → Placed A s.point.flat s.place s.holdings → Placed A (after A s u).point.flat (after A s u).place (after A s u).holdings
 stepped_placed A s u images execs numbers lenders h st =
     subst (λ (x : FlatState). Placed A x (after A s u).place (after A s u).holdings) (sym (stepped_flat A s u h))
     (subst (λ (x : Placement). Placed A step.after x (after A s u).holdings) (sym r.place)

@@ -145,7 +145,9 @@ served_few locked at p q l = state (state_of p q)
 -- Fills that are due.
 
 -- the fill of what is due first
-pub fill_allowed : (p : Placement) (d : Due) (ds : List Due) (e : Entry) → p.due ≡ d ∷ ds → DueStand p → EachOnce p.due → ((u : Entry) → u ≡ e → 0 < length p.free → CanEnter p (due_page d) → IsShared p (due_page d) → NotDue (due_after p.due (due_page d)) (due_page d) → state_of p (due_page d) ≡ Unfilled → filling_of p (due_page d) ≡ Zeros → IsAllowed p u) → IsAllowed p (fill_unit p e)
+pub fill_allowed : (p : Placement) (d : Due) (ds : List Due) (e : Entry) → p.due ≡ d ∷ ds → DueStand p → EachOnce p.due
+    → ((u : Entry) → u ≡ e → 0 < length p.free → CanEnter p (due_page d) → IsShared p (due_page d) → NotDue (due_after p.due (due_page d)) (due_page d) → state_of p (due_page d) ≡ Unfilled → filling_of p (due_page d) ≡ Zeros → IsAllowed p u)
+    → IsAllowed p (fill_unit p e)
 fill_allowed p d ds e h s once make = go p.free refl
   where
     due : IsDue p (due_page d) d

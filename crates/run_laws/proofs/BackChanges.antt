@@ -52,8 +52,10 @@ pub record Told (A : Inputs) (l : Kernel) (after : FlatState) : Type 0 where
   pub tables : SameTables l after
   pub stands : Stands A.images l after
 
-pub back_told : (A : Inputs) (k : Kernel) (flat : FlatState) (pid : ℕ) (regs : Regs) (e : Entry) (q m : Process) (s : Space) (change : Change) → GivesBack change → ImagesFit A.images → IsNumbered flat → process_of flat pid ≡ Some q → q.holding ≡ Holds s → IsLender flat pid s.sid m
-    → is_out k.place pid ≡ false → k.place.due ≡ [] → EntersImage A.images change → SameTables k flat → Stands A.images k flat → Told A (change_step (facts_of A.images) (pass_step k pid m.pid) pid regs e change) (apply_change A.images flat pid regs change)
+pub back_told : (A : Inputs) (k : Kernel) (flat : FlatState) (pid : ℕ) (regs : Regs) (e : Entry) (q m : Process) (s : Space) (change : Change) → GivesBack change → ImagesFit A.images → IsNumbered flat
+    → process_of flat pid ≡ Some q → q.holding ≡ Holds s → IsLender flat pid s.sid m
+    → is_out k.place pid ≡ false → k.place.due ≡ [] → EntersImage A.images change → SameTables k flat → Stands A.images k flat
+    → Told A (change_step (facts_of A.images) (pass_step k pid m.pid) pid regs e change) (apply_change A.images flat pid regs change)
 back_told A k flat pid regs e q m s (Exec number top) gb fit nums f h is out due (named, im, whole) t st =
     let i : ImageFits named = fit number named im in
     record { tables = exec_back_tables k A.images flat pid regs e number top named q m s nums f h is im i.«data» whole t; stands = exec_back_stands A.images k flat pid regs e number top named q m s t due f h is out im st }
@@ -71,7 +73,8 @@ lands_any A k pid sid e (Exec image top) l gb x = record { place = x.place; hold
 lands_any A k pid sid e (End status) l gb x = record { place = x.place; holdings = x.holdings; journal = x.journal }
 lands_any A k pid sid e _ l gb x = absurd gb
 
-pub back_lands : (A : Inputs) (k : Kernel) (flat : FlatState) (pid : ℕ) (regs : Regs) (e : Entry) (q m : Process) (s : Space) (change : Change) (a : Borrowing k flat pid q m s) → GivesBack change → Lands A k pid s.sid e change (change_step (facts_of A.images) (pass_step k pid m.pid) pid regs e change)
+pub back_lands : (A : Inputs) (k : Kernel) (flat : FlatState) (pid : ℕ) (regs : Regs) (e : Entry) (q m : Process) (s : Space) (change : Change) (a : Borrowing k flat pid q m s) → GivesBack change
+    → Lands A k pid s.sid e change (change_step (facts_of A.images) (pass_step k pid m.pid) pid regs e change)
 back_lands A k flat pid regs e q m s change a gb =
     let g : Stepping k flat pid q s = a.step in
     let k1 : Kernel = record k { processes = map (passes s.sid pid m.pid) k.processes } in
@@ -85,7 +88,8 @@ asks_same images k l pid (Exec image top) gb p n = ap (λ (x : Placement). Rattl
 asks_same images k l pid (End status) gb p n = refl
 asks_same images k l pid _ gb p n = absurd gb
 
-pub back_change : (A : Inputs) (flat : FlatState) (p : Placement) (hs found : Holdings) (pid : ℕ) (regs : Regs) (j : List Entry) (e : Entry) (q : Process) (s : Space) (change : Change) → Changing A flat p hs found pid q s change → LendsStand flat → is_borrower flat.processes pid ≡ true → GivesBack change
+pub back_change : (A : Inputs) (flat : FlatState) (p : Placement) (hs found : Holdings) (pid : ℕ) (regs : Regs) (j : List Entry) (e : Entry) (q : Process) (s : Space) (change : Change)
+    → Changing A flat p hs found pid q s change → LendsStand flat → is_borrower flat.processes pid ≡ true → GivesBack change
     → Placed A flat p hs
     → Placed A (apply_change A.images flat pid regs change) (place_change (facts_of A.images) p pid s.sid true flat.next_sid (length (append j e)) change) (given_up flat (apply_change A.images flat pid regs change) pid s change found)
 back_change A flat p hs found pid regs j e q s change c lend w gb st =

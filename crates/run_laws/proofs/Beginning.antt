@@ -65,7 +65,8 @@ assoc [] ys zs = refl
 assoc (x ∷ xs) ys zs = ap (λ (l : List Wanted). x ∷ l) (assoc xs ys zs)
 
 -- one process's pieces, as the flat state and as the placement has them
-first_same : (images : List NamedImage) (p : Placement) (earlier : List ℕ) (pid n : ℕ) (named : NamedImage) (rest : List Wanted) → image_numbered images n ≡ Some named → 2 * length (slots_of p (pages.Text n 0)) ≡ 2 * text_pages_of named.image.facts
+first_same : (images : List NamedImage) (p : Placement) (earlier : List ℕ) (pid n : ℕ) (named : NamedImage) (rest : List Wanted) → image_numbered images n ≡ Some named
+    → 2 * length (slots_of p (pages.Text n 0)) ≡ 2 * text_pages_of named.image.facts
     → first_wanted images (contains earlier n) pid n ++ rest
     ≡ text_asked (times n earlier) n (2 * length (slots_of p (pages.Text n 0))) ++ (wanted (owners.Data pid) (pieces (2 * data_pages_of named.image.facts)) ++ (wanted (owners.Stack pid) (pieces 2) ++ (wanted (owners.U pid) (u_pieces 2) ++ rest)))
 first_same images p earlier pid n named rest e size =
@@ -85,7 +86,8 @@ first_same images p earlier pid n named rest e size =
     u : List Wanted
     u = pieces_for (owners.U pid) 1
 
-first_joined : (A : Inputs) (p : Placement) (earlier : List ℕ) (pid : ℕ) (ns : List ℕ) (hs found : Holdings) → FirstThere A.images ns → ((n : ℕ) (named : NamedImage) → image_numbered A.images n ≡ Some named → 2 * length (slots_of p (pages.Text n 0)) ≡ 2 * text_pages_of named.image.facts)
+first_joined : (A : Inputs) (p : Placement) (earlier : List ℕ) (pid : ℕ) (ns : List ℕ) (hs found : Holdings) → FirstThere A.images ns
+    → ((n : ℕ) (named : NamedImage) → image_numbered A.images n ≡ Some named → 2 * length (slots_of p (pages.Text n 0)) ≡ 2 * text_pages_of named.image.facts)
     → first_held A earlier pid ns hs ≡ Ok found → place_all A.swap_blocks hs (start_asks p earlier pid (starting A.images ns)) ≡ Ok found
 unfolding first_held place_all
 first_joined A p earlier pid [] hs found there sizes h = ok h

@@ -80,7 +80,8 @@ filled A s k image read e x make = subst (λ (p : Placement). Couples A s k imag
     go [] l = forced A s k image read x k.place.transfers
     go (f ∷ fs) l = make (subst (λ (fr : List ℕ). 0 < length fr) (sym l) (omega arith))
 
-served : (A : Inputs) (s : State) (k : Kernel) (image : List ℕ) (read : List (List ℕ)) (u : Entry) (q : Page) (now : Bool) → StandsAt A s k image read → IsThere s.place q → NotDue s.place.due q → serve_unit s.place q now ≡ Some u → Couples A s k image read u
+served : (A : Inputs) (s : State) (k : Kernel) (image : List ℕ) (read : List (List ℕ)) (u : Entry) (q : Page) (now : Bool) → StandsAt A s k image read → IsThere s.place q → NotDue s.place.due q
+    → serve_unit s.place q now ≡ Some u → Couples A s k image read u
 served A s k image read u q now x there n h =
     let e = unit_is s.place q now u h in
     subst (Couples A s k image read) (sym e.1)
@@ -92,7 +93,8 @@ served A s k image read u q now x there n h =
 due_here : (A : Inputs) (s : State) (k : Kernel) (q : Page) (d : Due) (ds : List Due) → k.place ≡ s.place → Rattle.page_model.specs.Placement.due_page d ≡ q → s.place.due ≡ d ∷ ds → due_at k.place.due q ≡ Some d
 due_here A s k q d ds same i e = ap (λ (p : Placement). due_at p.due q) same ∙ ap (λ (l : List Due). due_at l q) e ∙ ap (due_at (d ∷ ds)) (sym i) ∙ first_due d ds
 
-pub kind_goes : (A : Inputs) (s : State) (k : Kernel) (image : List ℕ) (read : List (List ℕ)) (u : Entry) → StandsAt A s k image read → Stood A s → IsNumbered s.point.flat → TextsHeld A.images s.point.flat → Kind A s u → process_of_entry u ≡ None → Stays u → Couples A s k image read u
+pub kind_goes : (A : Inputs) (s : State) (k : Kernel) (image : List ℕ) (read : List (List ℕ)) (u : Entry) → StandsAt A s k image read → Stood A s → IsNumbered s.point.flat
+    → TextsHeld A.images s.point.flat → Kind A s u → process_of_entry u ≡ None → Stays u → Couples A s k image read u
 kind_goes A s k image read u x st nums texts (Fills q due e i) n y = subst (Couples A s k image read) (sym i) (filled A s k image read (entries.Zero q) x make)
   where
     make : 0 < length k.place.free → Couples A s k image read (entries.Zero q)

@@ -60,14 +60,16 @@ goes_done size k images image flat locked read x = let t = x.stands in record {
   tokens = landed_length k.place.transfers read k.frames;
 }
 
-pub goes_hand : (size : ℕ) (k : Kernel) (images : List NamedImage) (image : List ℕ) (flat : FlatState) (locked : List Page) (read : List (List ℕ)) → Machine size k images image flat read → Goes k images image flat locked read (entries.Hands 1)
+pub goes_hand : (size : ℕ) (k : Kernel) (images : List NamedImage) (image : List ℕ) (flat : FlatState) (locked : List Page) (read : List (List ℕ)) → Machine size k images image flat read
+    → Goes k images image flat locked read (entries.Hands 1)
 goes_hand size k images image flat locked read x = record {
   coupled = hand_coupled_step size k images image flat locked x.sound x.coupled;
   stands = hand_stands images k flat locked x.stands;
   tokens = refl;
 }
 
-pub goes_put : (size : ℕ) (k : Kernel) (images : List NamedImage) (image : List ℕ) (flat : FlatState) (locked : List Page) (read : List (List ℕ)) (q : Page) (n : ℕ) → Machine size k images image flat read → HasSeat k.place q → EachPage (HasSeat k.place) (pages_from q (number_of q) n)
+pub goes_put : (size : ℕ) (k : Kernel) (images : List NamedImage) (image : List ℕ) (flat : FlatState) (locked : List Page) (read : List (List ℕ)) (q : Page) (n : ℕ)
+    → Machine size k images image flat read → HasSeat k.place q → EachPage (HasSeat k.place) (pages_from q (number_of q) n)
     → Goes k images image flat locked read (entries.Put q n)
 goes_put size k images image flat locked read q n x h hs = record {
   coupled = push_coupled_step size k images image flat q n x.sound h hs x.coupled;
@@ -75,7 +77,8 @@ goes_put size k images image flat locked read q n x h hs = record {
   tokens = refl;
 }
 
-pub goes_start : (size : ℕ) (k : Kernel) (images : List NamedImage) (image : List ℕ) (flat : FlatState) (locked : List Page) (read : List (List ℕ)) (q r : Page) → Machine size k images image flat read → CanEnter k.place q → IsWritable q → 0 < length k.place.free
+pub goes_start : (size : ℕ) (k : Kernel) (images : List NamedImage) (image : List ℕ) (flat : FlatState) (locked : List Page) (read : List (List ℕ)) (q r : Page) → Machine size k images image flat read
+    → CanEnter k.place q → IsWritable q → 0 < length k.place.free
     → state_of k.place q ≡ Unfilled → due_at k.place.due q ≡ Some (Start r) → Goes k images image flat locked read (entries.Zero q)
 goes_start size k images image flat locked read q r x c w some e d = record {
   coupled = start_coupled size k images image flat q r x.sound c w some e d x.coupled;
@@ -83,7 +86,8 @@ goes_start size k images image flat locked read q r x c w some e d = record {
   tokens = first_length k.place.free k.frames (Rattle.kernel_model.specs.Kernel.start_bytes k.starts q);
 }
 
-pub goes_copy : (size : ℕ) (k : Kernel) (images : List NamedImage) (image : List ℕ) (flat : FlatState) (locked : List Page) (read : List (List ℕ)) (q r parent : Page) (f : ℕ) → Machine size k images image flat read → CanEnter k.place q → IsWritable q → 0 < length k.place.free
+pub goes_copy : (size : ℕ) (k : Kernel) (images : List NamedImage) (image : List ℕ) (flat : FlatState) (locked : List Page) (read : List (List ℕ)) (q r parent : Page) (f : ℕ)
+    → Machine size k images image flat read → CanEnter k.place q → IsWritable q → 0 < length k.place.free
     → state_of k.place q ≡ Unfilled → due_at k.place.due q ≡ Some (CopyOf r parent) → state_of k.place parent ≡ Valid f → Goes k images image flat locked read (entries.Copy q)
 goes_copy size k images image flat locked read q r parent f x c w some e d v = record {
   coupled = copy_coupled size k images image flat q r parent f x.sound c w some e d v x.coupled;
@@ -91,7 +95,8 @@ goes_copy size k images image flat locked read q r parent f x c w some e d v = r
   tokens = first_length k.place.free k.frames (Rattle.kernel_model.specs.Kernel.copied_bytes k (due_at k.place.due q));
 }
 
-pub serve_goes : (size : ℕ) (k : Kernel) (images : List NamedImage) (image : List ℕ) (flat : FlatState) (locked : List Page) (read : List (List ℕ)) (q : Page) → Machine size k images image flat read → IsThere k.place q → NotDue k.place.due q → is_valid (state_of k.place q) ≡ false
+pub serve_goes : (size : ℕ) (k : Kernel) (images : List NamedImage) (image : List ℕ) (flat : FlatState) (locked : List Page) (read : List (List ℕ)) (q : Page) → Machine size k images image flat read
+    → IsThere k.place q → NotDue k.place.due q → is_valid (state_of k.place q) ≡ false
     → Goes k images image flat locked read (serve_entry k.place q)
 serve_goes size k images image flat locked read q y there due nv = state (state_of k.place q) refl nv
   where

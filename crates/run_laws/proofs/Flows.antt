@@ -466,7 +466,8 @@ has_some [] h e = h
 has_some (x ∷ xs) h e = absurd cc
 
 -- an entry of the process's step
-step_waits : (A : Inputs) (s : State) (pid : ℕ) (now : Bool) (u : Entry) → Runs A s pid now → wanted A s ≡ None → next_of_step A s.point pid ≡ Some u → LastSays A (after A s u).point.flat (after A s u).point.last → WaitsBy A (after A s u) (after A s u).point.last
+step_waits : (A : Inputs) (s : State) (pid : ℕ) (now : Bool) (u : Entry) → Runs A s pid now → wanted A s ≡ None → next_of_step A s.point pid ≡ Some u
+    → LastSays A (after A s u).point.flat (after A s u).point.last → WaitsBy A (after A s u) (after A s u).point.last
 unfolding after
 step_waits A s pid now (entries.Out p bytes) r w h says =
     let o : IsOut A s.point pid p bytes = out_of A s.point pid p bytes h in

@@ -74,8 +74,10 @@ found_none A flat k image before x e = subst (λ (hs : Holdings). Sound A.swap_b
 
 -- Who keeps its space, or has one of its own.
 
-own_coupled : (A : Inputs) (k : Kernel) (flat : FlatState) (image : List ℕ) (before : Holdings) (pid : ℕ) (regs : Regs) (e : Entry) (q : Process) (s : Space) (b : Bool) (change : Change) → Changing A flat k.place before k.holdings pid q s change → is_borrower flat.processes pid ≡ b
-    → Own b change → SettlesFor k.place s.sid change → MayForget (facts_of A.images) k.place s.sid false k.next_sid change → Found A flat k image before → Coupled (keeps_step (facts_of A.images) k pid regs e change) A.images image (apply_change A.images flat pid regs change)
+own_coupled : (A : Inputs) (k : Kernel) (flat : FlatState) (image : List ℕ) (before : Holdings) (pid : ℕ) (regs : Regs) (e : Entry) (q : Process) (s : Space) (b : Bool) (change : Change)
+    → Changing A flat k.place before k.holdings pid q s change → is_borrower flat.processes pid ≡ b
+    → Own b change → SettlesFor k.place s.sid change → MayForget (facts_of A.images) k.place s.sid false k.next_sid change → Found A flat k image before
+    → Coupled (keeps_step (facts_of A.images) k pid regs e change) A.images image (apply_change A.images flat pid regs change)
 own_coupled A k flat image before pid regs e q s b Keep c w o z y x = keep_coupled k A.images image flat pid regs e q s c.numbers c.found_process c.holds c.resident x.coupled
 own_coupled A k flat image before pid regs e q s b (Resize d r) c w o z y x = let st : Stands A.images k flat = x.stands in resize_coupled_step k A.images image flat pid regs e d r q s c.numbers st.out c.clear c.found_process c.holds c.resident x.coupled
 own_coupled A k flat image before pid regs e q s b (Fork child) c w o z y x = let st : Stands A.images k flat = x.stands in
@@ -99,7 +101,8 @@ own_coupled A k flat image before pid regs e q s b (End status) c w o z y x =
     let ow : OneOwner A.swap_blocks (lives k.processes) k.place k.holdings = so.owner in
     end_coupled_step A.swap_blocks k A.images image flat pid regs e status q s so c.numbers st.out c.clear c.found_process c.holds (w ∙ end_false b status o) (settled_rests k.place s.sid ow.frames z) y x.coupled
 
-pub own_landed : (A : Inputs) (k : Kernel) (flat : FlatState) (image : List ℕ) (before : Holdings) (pid : ℕ) (regs : Regs) (e : Entry) (q : Process) (s : Space) (b : Bool) (change : Change) → Changing A flat k.place before k.holdings pid q s change → is_borrower flat.processes pid ≡ b
+pub own_landed : (A : Inputs) (k : Kernel) (flat : FlatState) (image : List ℕ) (before : Holdings) (pid : ℕ) (regs : Regs) (e : Entry) (q : Process) (s : Space) (b : Bool) (change : Change)
+    → Changing A flat k.place before k.holdings pid q s change → is_borrower flat.processes pid ≡ b
     → Own b change → SettlesFor k.place s.sid change → Found A flat k image before
     → Landed A (apply_change A.images flat pid regs change) k (keeps_step (facts_of A.images) k pid regs e change) image pid s.sid b e change (given_up flat (apply_change A.images flat pid regs change) pid s change k.holdings)
 own_landed A k flat image before pid regs e q s b change c w o settles x = record {
@@ -173,7 +176,8 @@ own_landed A k flat image before pid regs e q s b change c w o settles x = recor
 
 -- Who borrowed its space, and gives it back.
 
-back_coupled : (A : Inputs) (k : Kernel) (flat : FlatState) (image : List ℕ) (before : Holdings) (pid : ℕ) (regs : Regs) (e : Entry) (q m : Process) (s : Space) (change : Change) → Changing A flat k.place before k.holdings pid q s change → IsLender flat pid s.sid m → GivesBack change
+back_coupled : (A : Inputs) (k : Kernel) (flat : FlatState) (image : List ℕ) (before : Holdings) (pid : ℕ) (regs : Regs) (e : Entry) (q m : Process) (s : Space) (change : Change)
+    → Changing A flat k.place before k.holdings pid q s change → IsLender flat pid s.sid m → GivesBack change
     → Found A flat k image before → Coupled (change_step (facts_of A.images) (pass_step k pid m.pid) pid regs e change) A.images image (apply_change A.images flat pid regs change)
 back_coupled A k flat image before pid regs e q m s (Exec number top) c is gb x =
     let st : Stands A.images k flat = x.stands in
@@ -184,12 +188,14 @@ back_coupled A k flat image before pid regs e q m s (End status) c is gb x =
     end_back A.swap_blocks k A.images image flat pid regs e status q m s (found_none A flat k image before x c.pieces) c.numbers st.out c.clear c.found_process c.holds is x.coupled
 back_coupled A k flat image before pid regs e q m s _ c is gb x = absurd gb
 
-back_is : (A : Inputs) (k : Kernel) (pid n : ℕ) (regs : Regs) (e : Entry) (change : Change) → GivesBack change → lender_among k.processes pid ≡ n → back_step (facts_of A.images) k pid regs e change ≡ change_step (facts_of A.images) (pass_step k pid n) pid regs e change
+back_is : (A : Inputs) (k : Kernel) (pid n : ℕ) (regs : Regs) (e : Entry) (change : Change) → GivesBack change → lender_among k.processes pid ≡ n
+    → back_step (facts_of A.images) k pid regs e change ≡ change_step (facts_of A.images) (pass_step k pid n) pid regs e change
 back_is A k pid n regs e (Exec number top) gb i = ap (λ (m : ℕ). change_step (facts_of A.images) (pass_step k pid m) pid regs e (Exec number top)) i
 back_is A k pid n regs e (End status) gb i = ap (λ (m : ℕ). change_step (facts_of A.images) (pass_step k pid m) pid regs e (End status)) i
 back_is A k pid n regs e _ gb i = absurd gb
 
-pub back_landed : (A : Inputs) (k : Kernel) (flat : FlatState) (image : List ℕ) (before : Holdings) (pid : ℕ) (regs : Regs) (e : Entry) (q : Process) (s : Space) (change : Change) → Changing A flat k.place before k.holdings pid q s change → LendsStand flat → is_borrower flat.processes pid ≡ true → GivesBack change
+pub back_landed : (A : Inputs) (k : Kernel) (flat : FlatState) (image : List ℕ) (before : Holdings) (pid : ℕ) (regs : Regs) (e : Entry) (q : Process) (s : Space) (change : Change)
+    → Changing A flat k.place before k.holdings pid q s change → LendsStand flat → is_borrower flat.processes pid ≡ true → GivesBack change
     → Found A flat k image before
     → Landed A (apply_change A.images flat pid regs change) k (back_step (facts_of A.images) k pid regs e change) image pid s.sid true e change (given_up flat (apply_change A.images flat pid regs change) pid s change k.holdings)
 back_landed A k flat image before pid regs e q s change c lend w gb x =
@@ -256,7 +262,8 @@ back_landed A k flat image before pid regs e q s change c lend w gb x =
 
 -- Either, by whether the process borrowed.
 
-pub step_landed : (A : Inputs) (k : Kernel) (flat : FlatState) (image : List ℕ) (before : Holdings) (pid : ℕ) (regs : Regs) (e : Entry) (q : Process) (s : Space) (b : Bool) (change : Change) → Changing A flat k.place before k.holdings pid q s change → LendsStand flat → is_borrower flat.processes pid ≡ b
+pub step_landed : (A : Inputs) (k : Kernel) (flat : FlatState) (image : List ℕ) (before : Holdings) (pid : ℕ) (regs : Regs) (e : Entry) (q : Process) (s : Space) (b : Bool) (change : Change)
+    → Changing A flat k.place before k.holdings pid q s change → LendsStand flat → is_borrower flat.processes pid ≡ b
     → (Own b change → SettlesFor k.place s.sid change) → Found A flat k image before
     → Landed A (apply_change A.images flat pid regs change) k (passing_change b (facts_of A.images) k pid regs e change) image pid s.sid b e change (given_up flat (apply_change A.images flat pid regs change) pid s change k.holdings)
 step_landed A k flat image before pid regs e q s false change c lend w settles x = own_landed A k flat image before pid regs e q s false change c w (own_of change) (settles (own_of change)) x

@@ -229,7 +229,8 @@ page_room A flat k image u kp = go u
     go (entries.Put q n) = kp.room
     go (entries.Owners a b c d) = kp.room
 
-pub paged_behind : (A : Inputs) (s : State) (k : Kernel) (image : List ℕ) (read : List (List ℕ)) (u : Entry) → IsRun A s → StandsAt A s k image → AreRead (beside_kernel k A.images image s.point.flat) k.place.transfers read → Kind A s u → process_of_entry u ≡ None → Stays u
+pub paged_behind : (A : Inputs) (s : State) (k : Kernel) (image : List ℕ) (read : List (List ℕ)) (u : Entry) → IsRun A s → StandsAt A s k image
+    → AreRead (beside_kernel k A.images image s.point.flat) k.place.transfers read → Kind A s u → process_of_entry u ≡ None → Stays u
     → Behind A (after A s u) (page_step k (locked A s) read u) (page_image k image u)
 paged_behind A s k image read u r at are kind n y = record {
   place = lands.place ∙ ap (λ (p : Placement). place_entry (locked A s) (place_at s u) p u) at.place ∙ sym (plain_place A s u n);
@@ -280,7 +281,8 @@ said_is A s k image read _ y = absurd y
 
 -- A process comes in.
 
-in_behind : (A : Inputs) (s : State) (k : Kernel) (image : List ℕ) (pid : ℕ) → IsRun A s → StandsAt A s k image → is_out s.place pid ≡ true → Behind A (after A s (entries.SwapIn pid)) (in_step k pid (regs_in (stored_at image (block_in k.holdings (owners.U pid) 0)))) image
+in_behind : (A : Inputs) (s : State) (k : Kernel) (image : List ℕ) (pid : ℕ) → IsRun A s → StandsAt A s k image → is_out s.place pid ≡ true
+    → Behind A (after A s (entries.SwapIn pid)) (in_step k pid (regs_in (stored_at image (block_in k.holdings (owners.U pid) 0)))) image
 in_behind A s k image pid r at out = record {
   place = ap (λ (j : List Entry). place_entry [] (length (append j (entries.SwapIn pid))) k.place (entries.SwapIn pid)) at.journal ∙ ap (λ (p : Placement). place_entry [] (place_at s (entries.SwapIn pid)) p (entries.SwapIn pid)) at.place ∙ sym (plain_place A s (entries.SwapIn pid) refl);
   holdings = at.holdings ∙ sym (plain_holdings A s (entries.SwapIn pid) refl);
@@ -344,7 +346,8 @@ leaves k flat pid t h = go (process_of flat pid) refl h
     go None e z = absurd cc
     go (Some q) e z = holding q e q.holding refl z
 
-out_length : (size : ℕ) (k : Kernel) (image : List ℕ) (pid : ℕ) (p : Proc) (d t : ℕ) → Sound size k → 512 * size ≤ length image → AreRegs p.regs → lives k.processes pid ≡ true → length (store_at image (block_in k.holdings (owners.U pid) 0) (u_page p.regs d t)) ≡ length image
+out_length : (size : ℕ) (k : Kernel) (image : List ℕ) (pid : ℕ) (p : Proc) (d t : ℕ) → Sound size k → 512 * size ≤ length image → AreRegs p.regs → lives k.processes pid ≡ true
+    → length (store_at image (block_in k.holdings (owners.U pid) 0) (u_page p.regs d t)) ≡ length image
 out_length size k image pid p d t so li are alive =
     let o : OneOwner size (lives k.processes) k.place k.holdings = so.owner in
     let b : OwnsBlocks size (lives k.processes) k.place k.holdings = o.blocks in
@@ -354,7 +357,8 @@ out_length size k image pid p d t so li are alive =
     let i = w.within in
     ap (λ (y : Option ℕ). length (store_at image y (u_page p.regs d t))) x.1 ∙ length-put_blocks image (u_page p.regs d t) x.0 (omega arith) (u_length p.regs d t are)
 
-off_behind : (A : Inputs) (s : State) (k : Kernel) (image : List ℕ) (pid : ℕ) → IsRun A s → StandsAt A s k image → ((p : Proc) → proc_of k pid ≡ Some p → AreRegs p.regs) → is_out s.place pid ≡ false → holds_some (process_of s.point.flat pid) ≡ true
+off_behind : (A : Inputs) (s : State) (k : Kernel) (image : List ℕ) (pid : ℕ) → IsRun A s → StandsAt A s k image → ((p : Proc) → proc_of k pid ≡ Some p → AreRegs p.regs) → is_out s.place pid ≡ false
+    → holds_some (process_of s.point.flat pid) ≡ true
     → Behind A (after A s (entries.SwapOut pid)) (out_step k pid) (store_at image (block_in k.holdings (owners.U pid) 0) (u_bytes k (proc_of k pid)))
 off_behind A s k image pid r at given out h = subst (λ (o : Option Proc). Behind A (after A s (entries.SwapOut pid)) (out_step k pid) (store_at image (block_in k.holdings (owners.U pid) 0) (u_bytes k o))) (sym x.kept) (record {
   place = ap (λ (j : List Entry). place_entry [] (length (append j (entries.SwapOut pid))) k.place (entries.SwapOut pid)) at.journal ∙ ap (λ (p : Placement). place_entry [] (place_at s (entries.SwapOut pid)) p (entries.SwapOut pid)) at.place ∙ sym (plain_place A s (entries.SwapOut pid) refl);
@@ -402,7 +406,8 @@ off_behind A s k image pid r at given out h = subst (λ (o : Option Proc). Behin
 
 -- A process's step.
 
-stepped_is : (A : Inputs) (s : State) (k : Kernel) (image : List ℕ) (read : List (List ℕ)) (u : Entry) (pid : ℕ) (P : Kernel → List ℕ → Type 0) → Ends u → process_of_entry u ≡ Some pid → P (process_step A s k pid u) image → ((n : ℕ) → u ≡ entries.Ran pid n → P (ran_step A s k pid n) image)
+stepped_is : (A : Inputs) (s : State) (k : Kernel) (image : List ℕ) (read : List (List ℕ)) (u : Entry) (pid : ℕ) (P : Kernel → List ℕ → Type 0) → Ends u → process_of_entry u ≡ Some pid
+    → P (process_step A s k pid u) image → ((n : ℕ) → u ≡ entries.Ran pid n → P (ran_step A s k pid n) image)
     → P (unit_step A s k image read u) (unit_image k image u)
 stepped_is A s k image read (entries.Ran p n) pid P e o a b = subst (λ (x : ℕ). P (ran_step A s k x n) image) (sym (same_Some p pid o)) (b n (ap (λ (x : ℕ). entries.Ran x n) (same_Some p pid o)))
 stepped_is A s k image read (entries.Grew p n) pid P e o a b = subst (λ (x : ℕ). P (process_step A s k x (entries.Grew p n)) image) (sym (same_Some p pid o)) a
@@ -413,7 +418,8 @@ stepped_is A s k image read (entries.Out p bytes) pid P e o a b = absurd e
 stepped_is A s k image read (entries.Refused p) pid P e o a b = absurd e
 stepped_is A s k image read _ pid P e o a b = absurd cc
 
-reach_behind : (A : Inputs) (s : State) (u : Entry) (l : Kernel) (image : List ℕ) → 512 * A.swap_blocks ≤ length image → Placed A (after A s u).point.flat (after A s u).place (after A s u).holdings → OutRegs (after A s u).place (after A s u).point.flat → Reaches A s u l image
+reach_behind : (A : Inputs) (s : State) (u : Entry) (l : Kernel) (image : List ℕ) → 512 * A.swap_blocks ≤ length image → Placed A (after A s u).point.flat (after A s u).place (after A s u).holdings
+    → OutRegs (after A s u).place (after A s u).point.flat → Reaches A s u l image
     → StandsAt A (after A s u) l image
 reach_behind A s u l image room st outs x =
     let m : Mid A (after A s u).point.flat l image = x.mid in
@@ -426,7 +432,8 @@ reach_behind A s u l image room st outs x =
 
 -- All units.
 
-given_read : (A : Inputs) (s : State) (k : Kernel) (image : List ℕ) (read : List (List ℕ)) (u : Entry) → IsGiven A s k image read u → (u ≡ entries.Done → ⊥) ⊎ ((u ≡ entries.Done) × AreRead (beside_kernel k A.images image s.point.flat) k.place.transfers read)
+given_read : (A : Inputs) (s : State) (k : Kernel) (image : List ℕ) (read : List (List ℕ)) (u : Entry) → IsGiven A s k image read u
+    → (u ≡ entries.Done → ⊥) ⊎ ((u ≡ entries.Done) × AreRead (beside_kernel k A.images image s.point.flat) k.place.transfers read)
 given_read A s k image read entries.Done g = inr (refl, g)
 given_read A s k image read (entries.Event line) g = inl (λ e. cc)
 given_read A s k image read (entries.Turn p) g = inl (λ e. cc)

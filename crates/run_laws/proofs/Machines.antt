@@ -43,7 +43,8 @@ pub makes_follows : (A : Inputs) (us : List Entry) (s t : State) (k l : Kernel) 
 makes_follows A [] s t k l image behind m = m.0
 makes_follows A (u ∷ us) s t k l image behind m = (m.0, makes_follows A us (after A s u) t (unit_step A s k image m.1.0 u) l (unit_image k image u) behind m.1.2)
 
-pub start_keeps : (A : Inputs) (hs : Holdings) (frames : List (List ℕ)) (image : List ℕ) → CanRun A hs → length frames ≡ A.frames → 512 * A.swap_blocks ≤ length image → StandsAt A (start A hs) (start_kernel A (starting A.images A.first) hs frames) image
+pub start_keeps : (A : Inputs) (hs : Holdings) (frames : List (List ℕ)) (image : List ℕ) → CanRun A hs → length frames ≡ A.frames → 512 * A.swap_blocks ≤ length image
+    → StandsAt A (start A hs) (start_kernel A (starting A.images A.first) hs frames) image
 start_keeps A hs frames image c f room = stands_behind A (start A hs) (start_kernel A first hs frames) image r.placed (record {
   place = refl;
   holdings = refl;
@@ -84,7 +85,8 @@ hands_keep A s k image n x = unit_keeps A s k image [] (entries.Hands n) x tt
 pub put_keeps : (A : Inputs) (s : State) (k : Kernel) (image : List ℕ) (q : Page) (n : ℕ) → Next A s k image (entries.Put q n) → StandsAt A (after A s (entries.Put q n)) (push_step k q n) image
 put_keeps A s k image q n x = unit_keeps A s k image [] (entries.Put q n) x tt
 
-pub done_keeps : (A : Inputs) (s : State) (k : Kernel) (image : List ℕ) (read : List (List ℕ)) → Next A s k image entries.Done → AreRead (beside_kernel k A.images image s.point.flat) k.place.transfers read → StandsAt A (after A s entries.Done) (done_step k read) (image_after k image)
+pub done_keeps : (A : Inputs) (s : State) (k : Kernel) (image : List ℕ) (read : List (List ℕ)) → Next A s k image entries.Done
+    → AreRead (beside_kernel k A.images image s.point.flat) k.place.transfers read → StandsAt A (after A s entries.Done) (done_step k read) (image_after k image)
 done_keeps A s k image read x g = unit_keeps A s k image read entries.Done x g
 
 pub out_keeps : (A : Inputs) (s : State) (k : Kernel) (image : List ℕ) (pid : ℕ) (p : Proc) → Next A s k image (entries.SwapOut pid) → proc_of k pid ≡ Some p → AreRegs p.regs
@@ -92,7 +94,8 @@ pub out_keeps : (A : Inputs) (s : State) (k : Kernel) (image : List ℕ) (pid : 
 out_keeps A s k image pid p x e are = subst (λ (o : Option Proc). StandsAt A (after A s (entries.SwapOut pid)) (out_step k pid) (store_at image (block_in k.holdings (owners.U pid) 0) (u_bytes k o))) e
     (unit_keeps A s k image [] (entries.SwapOut pid) x (λ q f. subst (λ (y : Proc). AreRegs y.regs) (same_Some p q (sym e ∙ f)) are))
 
-pub in_keeps : (A : Inputs) (s : State) (k : Kernel) (image : List ℕ) (pid : ℕ) → Next A s k image (entries.SwapIn pid) → StandsAt A (after A s (entries.SwapIn pid)) (in_step k pid (regs_in (stored_at image (block_in k.holdings (owners.U pid) 0)))) image
+pub in_keeps : (A : Inputs) (s : State) (k : Kernel) (image : List ℕ) (pid : ℕ) → Next A s k image (entries.SwapIn pid)
+    → StandsAt A (after A s (entries.SwapIn pid)) (in_step k pid (regs_in (stored_at image (block_in k.holdings (owners.U pid) 0)))) image
 in_keeps A s k image pid x = unit_keeps A s k image [] (entries.SwapIn pid) x tt
 
 pub note_keeps : (A : Inputs) (s : State) (k : Kernel) (image : List ℕ) (u : Entry) → Next A s k image u → IsNote u → StandsAt A (after A s u) (note_step k u) image
@@ -114,7 +117,8 @@ step_keeps A s k image pid (entries.Ended p n) x c = subst (λ (y : ℕ). Stands
 step_keeps A s k image pid _ x c = absurd c
 
 -- in the middle of a step
-mid_keeps : (A : Inputs) (s : State) (k : Kernel) (image : List ℕ) (pid : ℕ) (u : Entry) → Next A s k image u → EndsStep pid u → Mid A (apply_writes s.point.flat pid (step_at A s.point pid).writes) (written_step A s k pid) image × Coupled (taken_step A s k pid) A.images image (apply_writes s.point.flat pid (step_at A s.point pid).writes)
+mid_keeps : (A : Inputs) (s : State) (k : Kernel) (image : List ℕ) (pid : ℕ) (u : Entry) → Next A s k image u → EndsStep pid u
+    → Mid A (apply_writes s.point.flat pid (step_at A s.point pid).writes) (written_step A s k pid) image × Coupled (taken_step A s k pid) A.images image (apply_writes s.point.flat pid (step_at A s.point pid).writes)
 mid_keeps A s k image pid (entries.Ran p n) x c = mid_stands A s k image (entries.Ran p n) pid x.images (execs_fit A) x.run x.at x.next tt (ap (λ (y : ℕ). Some y) c)
 mid_keeps A s k image pid (entries.Grew p n) x c = mid_stands A s k image (entries.Grew p n) pid x.images (execs_fit A) x.run x.at x.next tt (ap (λ (y : ℕ). Some y) c)
 mid_keeps A s k image pid (entries.Call p n r r0 r1) x c = mid_stands A s k image (entries.Call p n r r0 r1) pid x.images (execs_fit A) x.run x.at x.next tt (ap (λ (y : ℕ). Some y) c)
@@ -122,8 +126,10 @@ mid_keeps A s k image pid (entries.Sleeps p) x c = mid_stands A s k image (entri
 mid_keeps A s k image pid (entries.Ended p n) x c = mid_stands A s k image (entries.Ended p n) pid x.images (execs_fit A) x.run x.at x.next tt (ap (λ (y : ℕ). Some y) c)
 mid_keeps A s k image pid _ x c = absurd c
 
-pub written_keeps : (A : Inputs) (s : State) (k : Kernel) (image : List ℕ) (pid : ℕ) (u : Entry) → Next A s k image u → EndsStep pid u → Coupled (written_step A s k pid) A.images image (apply_writes s.point.flat pid (step_at A s.point pid).writes)
+pub written_keeps : (A : Inputs) (s : State) (k : Kernel) (image : List ℕ) (pid : ℕ) (u : Entry) → Next A s k image u → EndsStep pid u
+    → Coupled (written_step A s k pid) A.images image (apply_writes s.point.flat pid (step_at A s.point pid).writes)
 written_keeps A s k image pid u x c = let m : Mid A (apply_writes s.point.flat pid (step_at A s.point pid).writes) (written_step A s k pid) image = (mid_keeps A s k image pid u x c).0 in m.coupled
 
-pub taken_keeps : (A : Inputs) (s : State) (k : Kernel) (image : List ℕ) (pid : ℕ) (u : Entry) → Next A s k image u → EndsStep pid u → Coupled (taken_step A s k pid) A.images image (apply_writes s.point.flat pid (step_at A s.point pid).writes)
+pub taken_keeps : (A : Inputs) (s : State) (k : Kernel) (image : List ℕ) (pid : ℕ) (u : Entry) → Next A s k image u → EndsStep pid u
+    → Coupled (taken_step A s k pid) A.images image (apply_writes s.point.flat pid (step_at A s.point pid).writes)
 taken_keeps A s k image pid u x c = (mid_keeps A s k image pid u x c).1

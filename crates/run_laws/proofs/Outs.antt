@@ -60,7 +60,8 @@ out_holder p flat n o e = go (process_of flat n) refl (o n e)
     go (Some x) f z = holding x f x.holding refl z
 
 -- their registers stay
-pub regs_stay : (images : List NamedImage) (flat : FlatState) (p r : Placement) (pid : ℕ) (ws : List ByteWrite) (regs : Regs) (change : Change) → is_out p pid ≡ false → OutHold p flat → NamesChild (apply_writes flat pid ws) change → ((n : ℕ) → is_out r n ≡ true → is_out p n ≡ true) → OutRegs p flat
+pub regs_stay : (images : List NamedImage) (flat : FlatState) (p r : Placement) (pid : ℕ) (ws : List ByteWrite) (regs : Regs) (change : Change) → is_out p pid ≡ false → OutHold p flat
+    → NamesChild (apply_writes flat pid ws) change → ((n : ℕ) → is_out r n ≡ true → is_out p n ≡ true) → OutRegs p flat
     → OutRegs r (apply_change images (apply_writes flat pid ws) pid regs change)
 regs_stay images flat p r pid ws regs change inside o may was old n a e f =
     let x = out_holder p flat n o (was n e) in

@@ -84,8 +84,10 @@ pub end_false : (b : Bool) (status : ℕ) → Own b (End status) → b ≡ false
 end_false true status o = absurd o
 end_false false status o = refl
 
-pub own_told : (A : Inputs) (k : Kernel) (flat : FlatState) (pid : ℕ) (regs : Regs) (e : Entry) (q : Process) (s : Space) (b : Bool) (change : Change) → ImagesFit A.images → IsNumbered flat → process_of flat pid ≡ Some q → q.holding ≡ Holds s → is_borrower flat.processes pid ≡ b → Own b change
-    → is_out k.place pid ≡ false → k.place.due ≡ [] → NamesChild flat change → EntersImage A.images change → SameTables k flat → Stands A.images k flat → Told A (next_of (facts_of A.images) k pid regs e change) (apply_change A.images flat pid regs change)
+pub own_told : (A : Inputs) (k : Kernel) (flat : FlatState) (pid : ℕ) (regs : Regs) (e : Entry) (q : Process) (s : Space) (b : Bool) (change : Change) → ImagesFit A.images → IsNumbered flat
+    → process_of flat pid ≡ Some q → q.holding ≡ Holds s → is_borrower flat.processes pid ≡ b → Own b change
+    → is_out k.place pid ≡ false → k.place.due ≡ [] → NamesChild flat change → EntersImage A.images change → SameTables k flat → Stands A.images k flat
+    → Told A (next_of (facts_of A.images) k pid regs e change) (apply_change A.images flat pid regs change)
 own_told A k flat pid regs e q s b Keep fit nums f h w o out due m x t st = record { tables = keep_tables k A.images flat pid regs e q s nums f h t; stands = keep_stands A.images k flat pid regs e q s t f h out st }
 own_told A k flat pid regs e q s b (Resize d r) fit nums f h w o out due m x t st = record { tables = resize_tables k A.images flat pid regs e d r q s nums f h t; stands = resize_stands A.images k flat pid regs e d r q s t f h out st }
 own_told A k flat pid regs e q s b (Fork child) fit nums f h w o out due m x t st = subst (λ (c : ℕ). Told A (next_of (facts_of A.images) k pid regs e (Fork c)) (apply_change A.images flat pid regs (Fork c))) (sym m)
@@ -106,7 +108,8 @@ pub record Kept (A : Inputs) (l : Kernel) : Type 0 where
   pub sound : Sound A.swap_blocks l
   pub numbered : Numbered l
 
-pub own_kept : (A : Inputs) (k : Kernel) (flat : FlatState) (pid : ℕ) (regs : Regs) (e : Entry) (q : Process) (s : Space) (change : Change) → IsNumbered flat → process_of flat pid ≡ Some q → q.holding ≡ Holds s → SameTables k flat → NamesChild flat change
+pub own_kept : (A : Inputs) (k : Kernel) (flat : FlatState) (pid : ℕ) (regs : Regs) (e : Entry) (q : Process) (s : Space) (change : Change) → IsNumbered flat → process_of flat pid ≡ Some q
+    → q.holding ≡ Holds s → SameTables k flat → NamesChild flat change
     → Sound A.swap_blocks (change_step (facts_of A.images) k pid regs e change) → Numbered (change_step (facts_of A.images) k pid regs e change) → Kept A (next_of (facts_of A.images) k pid regs e change)
 own_kept A k flat pid regs e q s Keep nums f h t m so n = record { sound = so; numbered = n }
 own_kept A k flat pid regs e q s (Resize d r) nums f h t m so n = record { sound = so; numbered = n }
@@ -125,7 +128,8 @@ pub record Lands (A : Inputs) (k : Kernel) (pid sid : ℕ) (e : Entry) (change :
   pub holdings : l.holdings ≡ holdings_after k.holdings k.place l.place pid sid false change
   pub journal : l.journal ≡ append k.journal e
 
-pub next_lands : (A : Inputs) (k : Kernel) (pid sid : ℕ) (regs : Regs) (e : Entry) (change : Change) → Lands A k pid sid e change (change_step (facts_of A.images) k pid regs e change) → Lands A k pid sid e change (next_of (facts_of A.images) k pid regs e change)
+pub next_lands : (A : Inputs) (k : Kernel) (pid sid : ℕ) (regs : Regs) (e : Entry) (change : Change) → Lands A k pid sid e change (change_step (facts_of A.images) k pid regs e change)
+    → Lands A k pid sid e change (next_of (facts_of A.images) k pid regs e change)
 next_lands A k pid sid regs e Keep l = l
 next_lands A k pid sid regs e (Resize d r) l = l
 next_lands A k pid sid regs e (Fork child) l = l
@@ -135,7 +139,8 @@ next_lands A k pid sid regs e (Reap child) l = l
 next_lands A k pid sid regs e Sleep l = l
 next_lands A k pid sid regs e (End status) l = l
 
-pub own_lands : (A : Inputs) (k : Kernel) (flat : FlatState) (pid : ℕ) (regs : Regs) (e : Entry) (q : Process) (s : Space) (change : Change) → process_of flat pid ≡ Some q → q.holding ≡ Holds s → SameTables k flat → Lands A k pid s.sid e change (next_of (facts_of A.images) k pid regs e change)
+pub own_lands : (A : Inputs) (k : Kernel) (flat : FlatState) (pid : ℕ) (regs : Regs) (e : Entry) (q : Process) (s : Space) (change : Change) → process_of flat pid ≡ Some q → q.holding ≡ Holds s
+    → SameTables k flat → Lands A k pid s.sid e change (next_of (facts_of A.images) k pid regs e change)
 own_lands A k flat pid regs e q s change f h t =
     let g : Stepping k flat pid q s = stepping k flat pid q s t f h in
     next_lands A k pid s.sid regs e change
@@ -163,7 +168,8 @@ pub fit_some : (s : Space) (o : Option SpacePages) → Fits (Some s) o → o ≡
 fit_some s None f e = f
 fit_some s (Some x) f e = absurd cc
 
-pub own_change : (A : Inputs) (flat : FlatState) (p : Placement) (hs found : Holdings) (pid : ℕ) (regs : Regs) (j : List Entry) (e : Entry) (q : Process) (s : Space) (b : Bool) (change : Change) → Changing A flat p hs found pid q s change → is_borrower flat.processes pid ≡ b → Own b change
+pub own_change : (A : Inputs) (flat : FlatState) (p : Placement) (hs found : Holdings) (pid : ℕ) (regs : Regs) (j : List Entry) (e : Entry) (q : Process) (s : Space) (b : Bool) (change : Change)
+    → Changing A flat p hs found pid q s change → is_borrower flat.processes pid ≡ b → Own b change
     → SettlesFor p s.sid change → Placed A flat p hs
     → Placed A (apply_change A.images flat pid regs change) (place_change (facts_of A.images) p pid s.sid b flat.next_sid (length (append j e)) change) (given_up flat (apply_change A.images flat pid regs change) pid s change found)
 own_change A flat p hs found pid regs j e q s b change c w o settles st =

@@ -68,7 +68,8 @@ entry_sizes locked at p (entries.Ended pid status) = of_shape p p (shaped_self p
 entry_sizes locked at p (entries.Owners a b m h) = of_shape p p (shaped_self p)
 
 -- who is out behind a move of a residence was out before, or goes out by it
-moved_or : (b : Bool) (rs : List Residence) (pid at n : ℕ) → (residence_of (changed (λ (r : Residence). r.pid) pid (λ (r : Residence). record r { out = b; since = at }) rs) n).out ≡ true → ((residence_of rs n).out ≡ true) ⊎ ((pid ≡ n) × (b ≡ true))
+moved_or : (b : Bool) (rs : List Residence) (pid at n : ℕ) → (residence_of (changed (λ (r : Residence). r.pid) pid (λ (r : Residence). record r { out = b; since = at }) rs) n).out ≡ true
+    → ((residence_of rs n).out ≡ true) ⊎ ((pid ≡ n) × (b ≡ true))
 moved_or b [] pid at n h = inl h
 moved_or b (r ∷ rs) pid at n h = go (moved_or b rs pid at n) (r.pid == pid) refl (r.pid == n) refl h
   where
@@ -164,7 +165,8 @@ abbrev pub LeaverHolds : FlatState → Entry → Type 0
 LeaverHolds flat e = (n : ℕ) → Leaver e n → holds_some (process_of flat n) ≡ true
 
 -- a paging entry that may be made, behind which at most 16 transfers are in flight, leaves what stands
-pub entry_placed : (A : Inputs) (flat : FlatState) (locked : List Page) (at : ℕ) (p : Placement) (hs : Holdings) (e : Entry) → IsAllowed p e → length (place_entry locked at p e).transfers ≤ 16 → LeaverHolds flat e → Placed A flat p hs → Placed A flat (place_entry locked at p e) hs
+pub entry_placed : (A : Inputs) (flat : FlatState) (locked : List Page) (at : ℕ) (p : Placement) (hs : Holdings) (e : Entry) → IsAllowed p e → length (place_entry locked at p e).transfers ≤ 16
+    → LeaverHolds flat e → Placed A flat p hs → Placed A flat (place_entry locked at p e) hs
 entry_placed A flat locked at p hs e a l leaves s =
     let so : Sound A.swap_blocks (machine_of flat p hs) = s.sound in
     let o : OneOwner A.swap_blocks (lives (machine_of flat p hs).processes) p hs = so.owner in

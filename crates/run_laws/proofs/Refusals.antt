@@ -20,7 +20,8 @@ abbrev pub HasEntry : List Entry → Type 0
 HasEntry [] = ⊥
 HasEntry (e ∷ es) = Unit {0}
 
-does_entry : (images : List NamedImage) (F : FlatState) (p : Process) (call : SystemCall) (effect : Effect) (b : Bool) (regs : Regs) (change : Change) → HasEntry (replied_step images F p call effect (unless_refused b (Does regs change))).entries
+does_entry : (images : List NamedImage) (F : FlatState) (p : Process) (call : SystemCall) (effect : Effect) (b : Bool) (regs : Regs) (change : Change)
+    → HasEntry (replied_step images F p call effect (unless_refused b (Does regs change))).entries
 does_entry images F p call effect true regs change = tt
 does_entry images F p call effect false regs change = tt
 

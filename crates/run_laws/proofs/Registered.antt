@@ -73,7 +73,8 @@ found_filtered test (q ∷ qs) pid s g stays h = go (λ k. found_filtered test q
     go later false e (Behind k found) = later found
 
 -- what each process has, but its number and what it holds
-pub found_mapped : (f : Process → Process) (qs : List Process) (pid : ℕ) (s : Space) (g : Regs) → ((q : Process) → (f q).pid ≡ q.pid) → ((q : Process) → (f q).holding ≡ q.holding) → ((q : Process) → (f q).regs ≡ q.regs) → FoundRegs qs pid s g → FoundRegs (map f qs) pid s g
+pub found_mapped : (f : Process → Process) (qs : List Process) (pid : ℕ) (s : Space) (g : Regs) → ((q : Process) → (f q).pid ≡ q.pid) → ((q : Process) → (f q).holding ≡ q.holding)
+    → ((q : Process) → (f q).regs ≡ q.regs) → FoundRegs qs pid s g → FoundRegs (map f qs) pid s g
 found_mapped f [] pid s g number holding same h = absurd (let k = h.here in cc)
 found_mapped f (q ∷ qs) pid s g number holding same h = go (λ k. found_mapped f qs pid s g number holding same k) (first_of q qs pid s g h)
   where
@@ -113,13 +114,15 @@ orphaned_stays F of pid s g h =
     found_mapped (without_parent of) (Rattle.std.specs.Prelude.filter (λ q. not (is_zombie_child of q)) F.processes) pid s g (λ q. refl) (λ q. refl) (λ q. refl)
     (found_filtered (λ q. not (is_zombie_child of q)) F.processes pid s g (λ q holds k. ap not (holder_is_none of q s holds)) h)
 
-entered_stays : (F : FlatState) (p : Process) (t : Space) (image : ℕ) (named : Option NamedImage) (top : List ℕ) (pid : ℕ) (s : Space) (g : Regs) → p.pid ≢ pid → FoundRegs F.processes pid s g → FoundRegs (entered F p t image named top).processes pid s g
+entered_stays : (F : FlatState) (p : Process) (t : Space) (image : ℕ) (named : Option NamedImage) (top : List ℕ) (pid : ℕ) (s : Space) (g : Regs) → p.pid ≢ pid → FoundRegs F.processes pid s g
+    → FoundRegs (entered F p t image named top).processes pid s g
 entered_stays F p t image None top pid s g other h = h
 entered_stays F p t image (Some named) top pid s g other h =
     found_returned p.pid t (with_process F record p { holding = Holds (space_with F.next_sid image named.image top) }).processes pid s g
     (found_replaced F.processes (record p { holding = Holds (space_with F.next_sid image named.image top) }) pid s g other h)
 
-changed_stays : (images : List NamedImage) (F : FlatState) (p : Process) (t : Space) (change : Change) (pid : ℕ) (s : Space) (g : Regs) → NamesChild F change → p.pid ≢ pid → FoundRegs F.processes pid s g → FoundRegs (changed images F p t change).processes pid s g
+changed_stays : (images : List NamedImage) (F : FlatState) (p : Process) (t : Space) (change : Change) (pid : ℕ) (s : Space) (g : Regs) → NamesChild F change → p.pid ≢ pid
+    → FoundRegs F.processes pid s g → FoundRegs (changed images F p t change).processes pid s g
 changed_stays images F p t Keep pid s g fits other h = found_replaced F.processes p pid s g other h
 changed_stays images F p t (Resize a b) pid s g fits other h = found_replaced F.processes (record p { holding = Holds (resized t a b) }) pid s g other h
 changed_stays images F p t (Fork child) pid s g fits other h =
@@ -137,7 +140,8 @@ changed_stays images F p t (End status) pid s g fits other h =
     (orphaned_stays (given_back (with_process F dead) p.pid t) p.pid pid s g
     (found_returned p.pid t (with_process F dead).processes pid s g (found_replaced F.processes dead pid s g other h)))
 
-pub change_stays : (images : List NamedImage) (F : FlatState) (of : ℕ) (regs : Regs) (change : Change) (pid : ℕ) (s : Space) (g : Regs) → NamesChild F change → of ≢ pid → FoundRegs F.processes pid s g → FoundRegs (apply_change images F of regs change).processes pid s g
+pub change_stays : (images : List NamedImage) (F : FlatState) (of : ℕ) (regs : Regs) (change : Change) (pid : ℕ) (s : Space) (g : Regs) → NamesChild F change → of ≢ pid → FoundRegs F.processes pid s g
+    → FoundRegs (apply_change images F of regs change).processes pid s g
 unfolding apply_change
 change_stays images F of regs change pid s g fits other h = go (process_of F of) refl
   where

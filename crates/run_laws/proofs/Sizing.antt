@@ -87,7 +87,8 @@ left_sized : (b : Bool) (F : FlatState) (pid parent : ℕ) → FlatSized F → F
 left_sized true F pid parent h = record { spaces = each_left Sized (λ q. not (q.pid == pid)) F.processes h.spaces; count = let l = left_count (λ q. not (q.pid == pid)) F.processes in let c = h.count in omega arith }
 left_sized false F pid parent h = record { spaces = each_mapped Sized (awake parent) F.processes (λ q k. k) h.spaces; count = let e = map_count (awake parent) F.processes in let c = h.count in omega arith }
 
-more_sized : (F : FlatState) (ps : List Process) (p : Process) (n m : ℕ) → EachProcess Sized ps → length ps ≡ length F.processes → length F.processes < 64 → Sized p → FlatSized (record F { processes = ps ++ p ∷ []; next_pid = n; next_sid = m })
+more_sized : (F : FlatState) (ps : List Process) (p : Process) (n m : ℕ) → EachProcess Sized ps → length ps ≡ length F.processes → length F.processes < 64 → Sized p
+    → FlatSized (record F { processes = ps ++ p ∷ []; next_pid = n; next_sid = m })
 more_sized F ps p n m h e l s = record { spaces = each_last Sized ps p h s; count = let a = length-append ps (p ∷ []) in omega arith }
 
 images_sized : (A : Inputs) → InputsSized A → ImagesFit A.images → (number : ℕ) (named : NamedImage) → image_numbered A.images number ≡ Some named → length named.image.data ≤ 1024 * 4096
@@ -96,7 +97,8 @@ images_sized A sz fit number named e =
     let d : DataFits named.image = i.«data» in
     let l = d.size in let m = sz.images number named e in omega arith
 
-changed_sized : (A : Inputs) (F : FlatState) (p : Process) (s : Space) (change : Change) → InputsSized A → ImagesFit A.images → EntersImage A.images change → ChangeSized F change → p.holding ≡ Holds s → SpaceSized s → FlatSized F → FlatSized (changed A.images F p s change)
+changed_sized : (A : Inputs) (F : FlatState) (p : Process) (s : Space) (change : Change) → InputsSized A → ImagesFit A.images → EntersImage A.images change → ChangeSized F change → p.holding ≡ Holds s
+    → SpaceSized s → FlatSized F → FlatSized (changed A.images F p s change)
 changed_sized A F p s Keep sz fit x c h t e = with_sized F p e (subst HoldingSized (sym h) t)
 changed_sized A F p s (Resize d r) sz fit x c h t e = with_sized F (record p { holding = Holds (resized s d r) }) e (record {
   data_size = let l = length-resized_bytes d s.data_bytes in let k = c.0 in omega arith;
@@ -135,7 +137,8 @@ written_sized F p s ws t h = let z : SameSpace s (puts s ws) = puts_same ws s in
     with_sized F (record p { holding = Holds (puts s ws) }) h (record { data_size = let a = z.data_size in let b = t.data_size in omega arith; stack_size = let a = z.stack_size in let b = t.stack_size in omega arith })
 
 -- a change of a process, whichever it is
-change_sized : (A : Inputs) (F : FlatState) (pid : ℕ) (regs : Regs) (change : Change) → InputsSized A → ImagesFit A.images → EntersImage A.images change → ChangeSized F change → FlatSized F → FlatSized (apply_change A.images F pid regs change)
+change_sized : (A : Inputs) (F : FlatState) (pid : ℕ) (regs : Regs) (change : Change) → InputsSized A → ImagesFit A.images → EntersImage A.images change → ChangeSized F change → FlatSized F
+    → FlatSized (apply_change A.images F pid regs change)
 unfolding apply_change
 change_sized A F pid regs change sz fit x c h = go (process_of F pid) refl
   where
@@ -310,17 +313,20 @@ grown_few s regs a e =
 
 -- Steps.
 
-with_step : (A : Inputs) (F : FlatState) (pid : ℕ) (ws : List ByteWrite) (regs : Regs) (change : Change) → InputsSized A → ImagesFit A.images → EntersImage A.images change → ChangeSized (apply_writes F pid ws) change → FlatSized F → FlatSized (apply_change A.images (apply_writes F pid ws) pid regs change)
+with_step : (A : Inputs) (F : FlatState) (pid : ℕ) (ws : List ByteWrite) (regs : Regs) (change : Change) → InputsSized A → ImagesFit A.images → EntersImage A.images change
+    → ChangeSized (apply_writes F pid ws) change → FlatSized F → FlatSized (apply_change A.images (apply_writes F pid ws) pid regs change)
 with_step A F pid ws regs change sz fit x c h = change_sized A (apply_writes F pid ws) pid regs change sz fit x c (writes_sized F pid ws h)
 
-replied_sized : (A : Inputs) (F : FlatState) (p : Process) (call : SystemCall) (effect : Effect) (reply : Reply) → InputsSized A → ImagesFit A.images → EntersImage A.images (replied_step A.images F p call effect reply).change → ReplySized (apply_writes F p.pid effect.writes) reply → FlatSized F → FlatSized (replied_step A.images F p call effect reply).after
+replied_sized : (A : Inputs) (F : FlatState) (p : Process) (call : SystemCall) (effect : Effect) (reply : Reply) → InputsSized A → ImagesFit A.images
+    → EntersImage A.images (replied_step A.images F p call effect reply).change → ReplySized (apply_writes F p.pid effect.writes) reply → FlatSized F → FlatSized (replied_step A.images F p call effect reply).after
 replied_sized A F p call effect (Fails error) sz fit x c h = with_step A F p.pid effect.writes _ Keep sz fit tt tt h
 replied_sized A F p call effect (Does regs change) sz fit x c h = with_step A F p.pid effect.writes regs change sz fit x c h
 replied_sized A F p call effect (Writes bytes) sz fit x c h = with_step A F p.pid effect.writes _ Keep sz fit tt tt h
 replied_sized A F p call effect Waits sz fit x c h = with_step A F p.pid effect.writes p.regs Sleep sz fit tt tt h
 replied_sized A F p call effect (Exits status) sz fit x c h = with_step A F p.pid effect.writes p.regs (End status) sz fit tt tt h
 
-called_sized : (A : Inputs) (F : FlatState) (p : Process) (s : Space) (refused : Bool) (effect : Effect) (o : Option SystemCall) → InputsSized A → ImagesFit A.images → SpaceSized s → EntersImage A.images (called_step A.images F p s refused effect o).change → FlatSized F → FlatSized (called_step A.images F p s refused effect o).after
+called_sized : (A : Inputs) (F : FlatState) (p : Process) (s : Space) (refused : Bool) (effect : Effect) (o : Option SystemCall) → InputsSized A → ImagesFit A.images → SpaceSized s
+    → EntersImage A.images (called_step A.images F p s refused effect o).change → FlatSized F → FlatSized (called_step A.images F p s refused effect o).after
 called_sized A F p s refused effect None sz fit t x h = with_step A F p.pid effect.writes p.regs (End 12) sz fit tt tt h
 called_sized A F p s refused effect (Some call) sz fit t x h =
     let z : SameSpace s (puts s effect.writes) = puts_same effect.writes s in
@@ -330,11 +336,13 @@ called_sized A F p s refused effect (Some call) sz fit t x h =
     (run_sized (apply_writes F p.pid effect.writes) (answers_of (puts s effect.writes)) (reply_of A.images (apply_writes F p.pid effect.writes) (written_process p s effect.writes) (puts s effect.writes) call effect.regs)
     (all_sized A.images (apply_writes F p.pid effect.writes) (written_process p s effect.writes) (puts s effect.writes) call effect.regs t1))) h
 
-behind_sized : (A : Inputs) (F : FlatState) (p : Process) (s : Space) (refused : Bool) (effect : Effect) (o : Option ℤ) → InputsSized A → ImagesFit A.images → SpaceSized s → EntersImage A.images (step_behind A.images F p s refused effect o).change → FlatSized F → FlatSized (step_behind A.images F p s refused effect o).after
+behind_sized : (A : Inputs) (F : FlatState) (p : Process) (s : Space) (refused : Bool) (effect : Effect) (o : Option ℤ) → InputsSized A → ImagesFit A.images → SpaceSized s
+    → EntersImage A.images (step_behind A.images F p s refused effect o).change → FlatSized F → FlatSized (step_behind A.images F p s refused effect o).after
 behind_sized A F p s refused effect None sz fit t x h = with_step A F p.pid effect.writes effect.regs Keep sz fit tt tt h
 behind_sized A F p s refused effect (Some number) sz fit t x h = called_sized A F p s refused effect (call_of number) sz fit t x h
 
-of_sized : (A : Inputs) (F : FlatState) (p : Process) (s : Space) (refused : Bool) (r : Result Effect Refused) → instruction_in s p.regs ≡ r → InputsSized A → ImagesFit A.images → SpaceSized s → EntersImage A.images (step_of A.images F p s refused r).change → FlatSized F → FlatSized (step_of A.images F p s refused r).after
+of_sized : (A : Inputs) (F : FlatState) (p : Process) (s : Space) (refused : Bool) (r : Result Effect Refused) → instruction_in s p.regs ≡ r → InputsSized A → ImagesFit A.images → SpaceSized s
+    → EntersImage A.images (step_of A.images F p s refused r).change → FlatSized F → FlatSized (step_of A.images F p s refused r).after
 of_sized A F p s refused (Ok effect) e sz fit t x h = behind_sized A F p s refused effect effect.call sz fit t x h
 of_sized A F p s refused (Err (Miss address write)) e sz fit t x h = h
 of_sized A F p s true (Err (Below address)) e sz fit t x h = with_step A F p.pid [] p.regs (End 11) sz fit tt tt h

@@ -90,7 +90,8 @@ own_written true after s z hs a i = refl
 own_written false after s z hs a i = ap₂ (λ (n m : ℕ). without_text (is_shared after m) m (without_owner (owners.Stack n) (without_owner (owners.Data n) hs))) a i
 
 -- what is given back, by the flat states before and after the bytes
-pub given_written : (F G after : FlatState) (pid : ℕ) (s z : Space) (change : Change) (hs : Holdings) → z.sid ≡ s.sid → z.image ≡ s.image → is_borrower G.processes pid ≡ is_borrower F.processes pid → given_up G after pid z change hs ≡ given_up F after pid s change hs
+pub given_written : (F G after : FlatState) (pid : ℕ) (s z : Space) (change : Change) (hs : Holdings) → z.sid ≡ s.sid → z.image ≡ s.image → is_borrower G.processes pid ≡ is_borrower F.processes pid
+    → given_up G after pid z change hs ≡ given_up F after pid s change hs
 given_written F G after pid s z Keep hs a i b = refl
 given_written F G after pid s z (Resize d t) hs a i b = ap (λ (n : ℕ). with_pages (owners.Stack n) t (with_pages (owners.Data n) d hs)) a
 given_written F G after pid s z (Fork child) hs a i b = refl
@@ -185,7 +186,8 @@ pub record Making (A : Inputs) (flat : FlatState) (p : Placement) (hs found : Ho
   pub pieces : place_all A.swap_blocks hs (change_wanted A.images flat s change) ≡ Ok found
   pub settles : loses_pages s (is_borrower flat.processes pid) change ≡ true → is_settled p s.sid ≡ true
 
-pub step_placed : (A : Inputs) (flat : FlatState) (p : Placement) (hs found : Holdings) (pid : ℕ) (regs : Rattle.vm_facts.specs.declared.regs.Regs.Regs) (j : List Entry) (e : Entry) (q : Process) (s : Space) (ws : List ByteWrite) (written : List Page) (change : Change) → Making A flat p hs found pid q s ws change → Placed A flat p hs
+pub step_placed : (A : Inputs) (flat : FlatState) (p : Placement) (hs found : Holdings) (pid : ℕ) (regs : Rattle.vm_facts.specs.declared.regs.Regs.Regs) (j : List Entry) (e : Entry) (q : Process) (s : Space) (ws : List ByteWrite) (written : List Page) (change : Change)
+    → Making A flat p hs found pid q s ws change → Placed A flat p hs
     → Placed A (apply_change A.images (apply_writes flat pid ws) pid regs change) (place_step (facts_of A.images) flat pid (length (append j e)) written change p) (given_up flat (apply_change A.images (apply_writes flat pid ws) pid regs change) pid s change found)
 step_placed A flat p hs found pid regs j e q s ws written change m st =
     subst (λ (n : ℕ). Placed A after (place_change (facts_of A.images) p1 pid n (is_borrower flat.processes pid) flat.next_sid at change) (given_up flat after pid s change found)) (sym (ap space_of_process m.found_process ∙ ap space_of_holding m.holds))

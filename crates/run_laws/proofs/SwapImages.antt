@@ -284,7 +284,8 @@ swapped_same A hs us journal t image c f j =
     sym (ap (λ (h : Holdings). swapped_from A (start A h) (units_of journal) image) (ap (or_before []) c.pieces)
     ∙ ap (λ (vs : List Entry). swapped_from A (start A hs) vs image) (ap units_of (sym j) ∙ appended_units [] us (all_units A us (start A hs) t f)))
 
-pub run_swaps : (A : Inputs) (hs : Holdings) (us journal : List Entry) (t : State) (image : List ℕ) → CanRun A hs → Follows A (start A hs) us t → appended [] us ≡ journal → OutsFit A (start A hs) us → 512 * A.swap_blocks ≤ length image → HasSwapped A t (swapped A journal image)
+pub run_swaps : (A : Inputs) (hs : Holdings) (us journal : List Entry) (t : State) (image : List ℕ) → CanRun A hs → Follows A (start A hs) us t → appended [] us ≡ journal → OutsFit A (start A hs) us
+    → 512 * A.swap_blocks ≤ length image → HasSwapped A t (swapped A journal image)
 run_swaps A hs us journal t image c f j o room = subst (HasSwapped A t) (same ∙ swapped_same A hs us journal t image c f j) (on_swap A t m.machine m.behind (units_keep A us (start A hs) t k m.machine image m.behind c.images r at m.makes))
   where
     frames : List (List ℕ)

@@ -79,7 +79,8 @@ changed_texts images F p s (End status) x h t e =
 own_text : (images : List NamedImage) (F : FlatState) (pid : ℕ) (q : Process) (s : Space) → process_of F pid ≡ Some q → q.holding ≡ Holds s → TextsHeld images F → IsText images s
 own_text images F pid q s f h e = subst (HasText images) h (found_process (Text images) F.processes pid q e f)
 
-pub change_texts : (images : List NamedImage) (F : FlatState) (pid : ℕ) (regs : Regs) (change : Change) (q : Process) (s : Space) → process_of F pid ≡ Some q → q.holding ≡ Holds s → EntersImage images change → TextsHeld images F → TextsHeld images (apply_change images F pid regs change)
+pub change_texts : (images : List NamedImage) (F : FlatState) (pid : ℕ) (regs : Regs) (change : Change) (q : Process) (s : Space) → process_of F pid ≡ Some q → q.holding ≡ Holds s
+    → EntersImage images change → TextsHeld images F → TextsHeld images (apply_change images F pid regs change)
 change_texts images F pid regs change q s f h x e = subst (TextsHeld images) (sym (applied images F pid regs change q s f h)) (changed_texts images F (record q { regs = regs }) s change x h (own_text images F pid q s f h e) e)
 
 pub write_texts : (images : List NamedImage) (F : FlatState) (pid : ℕ) (ws : List ByteWrite) (q : Process) (s : Space) → process_of F pid ≡ Some q → q.holding ≡ Holds s → TextsHeld images F → TextsHeld images (apply_writes F pid ws)

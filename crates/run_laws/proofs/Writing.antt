@@ -127,7 +127,8 @@ out_same_holders p flat after e o n h = holders (process_of flat n) (process_of 
     holders (Some x) None z k = absurd cc
     holders (Some x) (Some y) z k = holding x.holding y.holding (ap (λ (o : Outline). o.life) (same_Some (outline_of x) (outline_of y) k)) z
 
-pub writes_placed : (A : Inputs) (flat : FlatState) (p : Placement) (hs : Holdings) (pid : ℕ) (ws : List ByteWrite) (q : Process) (s : Space) → IsNumbered flat → process_of flat pid ≡ Some q → q.holding ≡ Holds s → Placed A flat p hs → Placed A (apply_writes flat pid ws) p hs
+pub writes_placed : (A : Inputs) (flat : FlatState) (p : Placement) (hs : Holdings) (pid : ℕ) (ws : List ByteWrite) (q : Process) (s : Space) → IsNumbered flat → process_of flat pid ≡ Some q
+    → q.holding ≡ Holds s → Placed A flat p hs → Placed A (apply_writes flat pid ws) p hs
 unfolding apply_writes
 writes_placed A flat p hs pid ws q s nums f h st =
     subst (λ (o : Option Process). Placed A (wrote_if flat ws o) p hs) (sym f)

@@ -117,7 +117,8 @@ same_spot s t address h =
     ∙ ap (λ (n : ℕ). spot_at (length s.text_bytes) n (length t.stack_bytes) address) h.data_size
     ∙ ap (λ (n : ℕ). spot_at (length s.text_bytes) (length s.data_bytes) n address) h.stack_size
 
-pub write_one : (A : Inputs) (flat : FlatState) (k : Kernel) (image : List ℕ) (pid : ℕ) (q : Process) (t s : Space) (w : ByteWrite) → Mid A flat k image → k.place.due ≡ [] → IsNumbered flat → process_of flat pid ≡ Some q → q.holding ≡ Holds t → SameSpace s t
+pub write_one : (A : Inputs) (flat : FlatState) (k : Kernel) (image : List ℕ) (pid : ℕ) (q : Process) (t s : Space) (w : ByteWrite) → Mid A flat k image → k.place.due ≡ [] → IsNumbered flat
+    → process_of flat pid ≡ Some q → q.holding ≡ Holds t → SameSpace s t
     → IsValidAt k.place (page_tested s (address_in s w.address)) → WroteOne A (apply_writes flat pid (w ∷ [])) k (write_byte k s w) image (page_tested s (address_in s w.address))
 write_one A flat k image pid q t s w m due nums f h same valid = go (address_in s w.address) refl valid
   where
@@ -179,7 +180,8 @@ pub record WroteAll (A : Inputs) (flat : FlatState) (k l : Kernel) (image : List
 rest_both : (k l m : Kernel) → Rest k l → Rest l m → Rest k m
 rest_both k l m a b = record { holdings = b.holdings ∙ a.holdings; processes = b.processes ∙ a.processes; next_sid = b.next_sid ∙ a.next_sid; journal = b.journal ∙ a.journal; due = b.due ∙ a.due }
 
-touched_more : (p : Placement) (s : Space) (w : ByteWrite) (ws : List ByteWrite) → touch_all p (filter_map (λ (w : ByteWrite). page_tested s (address_in s w.address)) (w ∷ ws)) ≡ touch_all (touch_some p (page_tested s (address_in s w.address))) (filter_map (λ (w : ByteWrite). page_tested s (address_in s w.address)) ws)
+touched_more : (p : Placement) (s : Space) (w : ByteWrite) (ws : List ByteWrite)
+    → touch_all p (filter_map (λ (w : ByteWrite). page_tested s (address_in s w.address)) (w ∷ ws)) ≡ touch_all (touch_some p (page_tested s (address_in s w.address))) (filter_map (λ (w : ByteWrite). page_tested s (address_in s w.address)) ws)
 touched_more p s w ws = go (address_in s w.address) refl
   where
     go : (x : Spot) → address_in s w.address ≡ x → touch_all p (filter_map (λ (w : ByteWrite). page_tested s (address_in s w.address)) (w ∷ ws)) ≡ touch_all (touch_some p (page_tested s x)) (filter_map (λ (w : ByteWrite). page_tested s (address_in s w.address)) ws)
@@ -196,7 +198,8 @@ touched_states p (Some x) v = touch_states p x v
 same_both : (s t z : Space) → SameSpace s t → SameSpace t z → SameSpace s z
 same_both s t z a b = record { sid = b.sid ∙ a.sid; image = b.image ∙ a.image; text = b.text ∙ a.text; data_size = b.data_size ∙ a.data_size; stack_size = b.stack_size ∙ a.stack_size }
 
-pub write_all : (ws : List ByteWrite) (A : Inputs) (flat : FlatState) (k : Kernel) (image : List ℕ) (pid : ℕ) (q : Process) (t s : Space) → Mid A flat k image → k.place.due ≡ [] → IsNumbered flat → process_of flat pid ≡ Some q → q.holding ≡ Holds t → SameSpace s t
+pub write_all : (ws : List ByteWrite) (A : Inputs) (flat : FlatState) (k : Kernel) (image : List ℕ) (pid : ℕ) (q : Process) (t s : Space) → Mid A flat k image → k.place.due ≡ [] → IsNumbered flat
+    → process_of flat pid ≡ Some q → q.holding ≡ Holds t → SameSpace s t
     → AllWritable k.place s ws → WroteAll A (apply_writes flat pid ws) k (write_bytes k s ws) image (filter_map (λ (w : ByteWrite). page_tested s (address_in s w.address)) ws)
 write_all [] A flat k image pid q t s m due nums f h same a = record {
   mid = subst (λ (x : FlatState). Mid A x k image) (sym (no_writes flat pid q t f h)) m;

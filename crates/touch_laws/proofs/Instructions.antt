@@ -84,7 +84,8 @@ calls_alone memory name regs a b c effect number h calls = go (is_chmk name) ref
         let light : IsLight parts.0 = yields_ok memory IsLight (computation name regs a b c) parts.0 (computation_modest name regs a b c e).light parts.1 in
         absurd (none_some effect.call number (sym (ap (λ (x : Effect). x.call) (tested_same memory parts.0 effect parts.2)) ∙ light.call) calls)
 
-call_execution : (memory : Answers) (base : ℕ) (row : Row) (regs : Regs) (instr : Instr) (effect : Effect) (number : ℤ) → IsFetched instr → row_for instr.op ≡ Some row → run memory (execution row regs instr) ≡ Ok effect → effect.call ≡ Some number → Covered memory base 2 (execution row regs instr)
+call_execution : (memory : Answers) (base : ℕ) (row : Row) (regs : Regs) (instr : Instr) (effect : Effect) (number : ℤ) → IsFetched instr → row_for instr.op ≡ Some row
+    → run memory (execution row regs instr) ≡ Ok effect → effect.call ≡ Some number → Covered memory base 2 (execution row regs instr)
 unfolding execution
 call_execution memory base row regs instr effect number fetched listed h calls =
     let parts = ok_of_bind memory (evaluations row regs instr) (λ all. computation row.name all.0 all.1 all.2 all.3 >>= tested_effect) effect h in
@@ -94,7 +95,8 @@ call_execution memory base row regs instr effect number fetched listed h calls =
     (evaluation_covered memory base row regs instr filled.0 filled.1)
     (call_covered memory base row.name parts.0.0 parts.0.1 parts.0.2 parts.0.3 chmk)
 
-call_by : (memory : Answers) (base : ℕ) (row : Option Row) (regs : Regs) (instr : Instr) (effect : Effect) (number : ℤ) → IsFetched instr → row_for instr.op ≡ row → run memory (execution_by row regs instr) ≡ Ok effect → effect.call ≡ Some number → Covered memory base 2 (execution_by row regs instr)
+call_by : (memory : Answers) (base : ℕ) (row : Option Row) (regs : Regs) (instr : Instr) (effect : Effect) (number : ℤ) → IsFetched instr → row_for instr.op ≡ row
+    → run memory (execution_by row regs instr) ≡ Ok effect → effect.call ≡ Some number → Covered memory base 2 (execution_by row regs instr)
 unfolding execution_by
 call_by memory base None regs instr effect number fetched listed h calls = absurd cc
 call_by memory base (Some row) regs instr effect number fetched listed h calls =

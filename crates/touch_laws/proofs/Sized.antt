@@ -117,7 +117,8 @@ ended_sized F p s status h k =
     (sized_filter (λ q. not (is_zombie_child p.pid q)) _
     (sized_returned p.pid s (replaced F.processes record p { holding = Zombie status }) (sized_replaced F.processes (record p { holding = Zombie status }) h tt) k)))
 
-entered_sized : (images : List NamedImage) (F : FlatState) (p : Process) (s : Space) (number : ℕ) (o : Option NamedImage) (top : List ℕ) → ImagesWhole images → image_numbered images number ≡ o → AllSized F.processes → IsSized s → AllSized (entered F p s number o top).processes
+entered_sized : (images : List NamedImage) (F : FlatState) (p : Process) (s : Space) (number : ℕ) (o : Option NamedImage) (top : List ℕ) → ImagesWhole images → image_numbered images number ≡ o
+    → AllSized F.processes → IsSized s → AllSized (entered F p s number o top).processes
 entered_sized images F p s number None top w e h k = h
 entered_sized images F p s number (Some named) top w e h k =
     sized_returned p.pid s _ (sized_replaced F.processes _ h (loaded (w number named e))) k
@@ -125,7 +126,8 @@ entered_sized images F p s number (Some named) top w e h k =
     loaded : ImageWhole named → IsSized (record { sid = F.next_sid; image = number; text_bytes = named.image.text; data_bytes = named.image.data; stack_bytes = top })
     loaded fits = let a = fits.text in let b = fits.text_fits in let c = fits.data in let d = fits.data_fits in record { text = omega arith; text_fits = omega arith; «data» = omega arith; data_fits = omega arith }
 
-changed_sized : (images : List NamedImage) (F : FlatState) (p : Process) (s : Space) (change : Change) → ImagesWhole images → MayResize change → AllSized F.processes → p.holding ≡ Holds s → IsSized s → AllSized (changed images F p s change).processes
+changed_sized : (images : List NamedImage) (F : FlatState) (p : Process) (s : Space) (change : Change) → ImagesWhole images → MayResize change → AllSized F.processes → p.holding ≡ Holds s → IsSized s
+    → AllSized (changed images F p s change).processes
 changed_sized images F p s Keep w may h e k = sized_replaced F.processes p h (subst HasSize (sym e) k)
 changed_sized images F p s (Resize data_pages stack_pages) w may h e k = sized_replaced F.processes _ h (resized_sized s data_pages stack_pages may k)
 changed_sized images F p s (Fork child) w may h e k =
@@ -231,17 +233,20 @@ refused_resizes true (replies.Exits status) h = tt
 
 -- Steps.
 
-after_sized : (images : List NamedImage) (F : FlatState) (p : Process) (ws : List ByteWrite) (regs : Regs) (change : Change) → ImagesWhole images → MayResize change → AllSized F.processes → AllSized (apply_change images (apply_writes F p.pid ws) p.pid regs change).processes
+after_sized : (images : List NamedImage) (F : FlatState) (p : Process) (ws : List ByteWrite) (regs : Regs) (change : Change) → ImagesWhole images → MayResize change → AllSized F.processes
+    → AllSized (apply_change images (apply_writes F p.pid ws) p.pid regs change).processes
 after_sized images F p ws regs change w may h = change_sized images (apply_writes F p.pid ws) p.pid regs change w may (writes_sized F p.pid ws h)
 
-replied_sized : (images : List NamedImage) (F : FlatState) (p : Process) (call : SystemCall) (effect : Effect) (reply : Reply) → ImagesWhole images → ReplyResizes reply → AllSized F.processes → AllSized (replied_step images F p call effect reply).after.processes
+replied_sized : (images : List NamedImage) (F : FlatState) (p : Process) (call : SystemCall) (effect : Effect) (reply : Reply) → ImagesWhole images → ReplyResizes reply → AllSized F.processes
+    → AllSized (replied_step images F p call effect reply).after.processes
 replied_sized images F p call effect (replies.Fails error) w fits h = after_sized images F p effect.writes _ Keep w tt h
 replied_sized images F p call effect (replies.Does regs change) w fits h = after_sized images F p effect.writes regs change w fits h
 replied_sized images F p call effect (replies.Writes bytes) w fits h = after_sized images F p effect.writes _ Keep w tt h
 replied_sized images F p call effect replies.Waits w fits h = after_sized images F p effect.writes p.regs Sleep w tt h
 replied_sized images F p call effect (replies.Exits status) w fits h = after_sized images F p effect.writes p.regs (End status) w tt h
 
-called_sized : (images : List NamedImage) (F : FlatState) (p : Process) (t : Space) (refused : Bool) (effect : Effect) (call : Option SystemCall) → ImagesWhole images → AllSized F.processes → AllSized (called_step images F p t refused effect call).after.processes
+called_sized : (images : List NamedImage) (F : FlatState) (p : Process) (t : Space) (refused : Bool) (effect : Effect) (call : Option SystemCall) → ImagesWhole images → AllSized F.processes
+    → AllSized (called_step images F p t refused effect call).after.processes
 called_sized images F p t refused effect None w h = after_sized images F p effect.writes p.regs (End 12) w tt h
 called_sized images F p t refused effect (Some call) w h =
     replied_sized images F p call effect (reply_behind images F p t refused call effect) w
@@ -250,11 +255,13 @@ called_sized images F p t refused effect (Some call) w h =
     (all_resize images (apply_writes F p.pid effect.writes) (written_process p t effect.writes) (puts t effect.writes) call effect.regs)))
     h
 
-behind_sized : (images : List NamedImage) (F : FlatState) (p : Process) (t : Space) (refused : Bool) (effect : Effect) (number : Option ℤ) → ImagesWhole images → AllSized F.processes → AllSized (step_behind images F p t refused effect number).after.processes
+behind_sized : (images : List NamedImage) (F : FlatState) (p : Process) (t : Space) (refused : Bool) (effect : Effect) (number : Option ℤ) → ImagesWhole images → AllSized F.processes
+    → AllSized (step_behind images F p t refused effect number).after.processes
 behind_sized images F p t refused effect None w h = after_sized images F p effect.writes effect.regs Keep w tt h
 behind_sized images F p t refused effect (Some number) w h = called_sized images F p t refused effect (call_of number) w h
 
-of_sized : (images : List NamedImage) (F : FlatState) (p : Process) (t : Space) (refused : Bool) (result : Result Effect Refusal) → ImagesWhole images → IsSized t → AllSized F.processes → AllSized (step_of images F p t refused result).after.processes
+of_sized : (images : List NamedImage) (F : FlatState) (p : Process) (t : Space) (refused : Bool) (result : Result Effect Refusal) → ImagesWhole images → IsSized t → AllSized F.processes
+    → AllSized (step_of images F p t refused result).after.processes
 of_sized images F p t refused (Ok effect) w k h = behind_sized images F p t refused effect effect.call w h
 of_sized images F p t refused (Err (Miss a b)) w k h = h
 of_sized images F p t true (Err (Below a)) w k h = after_sized images F p [] p.regs (End 11) w tt h

@@ -158,7 +158,8 @@ kept_abandon slots rest spare slot k =
     }
 
 -- the transfers in some slots and then in others
-pub list_any-in_flight : (test : Transfer → Bool) (slots : List (Option Transfer)) (xs ys order : List ℕ) → xs ++ ys ≡ order → list_any test (in_flight slots order) ≡ (list_any test (in_flight slots xs) || list_any test (in_flight slots ys))
+pub list_any-in_flight : (test : Transfer → Bool) (slots : List (Option Transfer)) (xs ys order : List ℕ) → xs ++ ys ≡ order
+    → list_any test (in_flight slots order) ≡ (list_any test (in_flight slots xs) || list_any test (in_flight slots ys))
 list_any-in_flight test slots xs ys order e =
     ap (λ (all : List ℕ). list_any test (in_flight slots all)) (sym e)
     ∙ ap (list_any test) (in_flight-append slots xs ys)
@@ -220,11 +221,13 @@ order_room slots order spare rest slot k e = omega (arith, k.count, ap (λ (l : 
 pub begin_spare : (slots : List (Option Transfer)) (order spare rest : List ℕ) (slot : ℕ) → IsKept slots order spare → spare ≡ rest ++ slot ∷ [] → IsSpare slots order slot
 begin_spare slots order spare rest slot k e = is_spare slots order rest slot (subst (λ (l : List ℕ). IsKept slots order l) e k)
 
-pub begin_kept : (slots slots' : List (Option Transfer)) (order order' spare rest : List ℕ) (slot : ℕ) (t : Transfer) → HasSources t → IsKept slots order spare → spare ≡ rest ++ slot ∷ [] → slots' ≡ set slots slot (Some t) → order' ≡ order ++ slot ∷ [] → IsKept slots' order' rest
+pub begin_kept : (slots slots' : List (Option Transfer)) (order order' spare rest : List ℕ) (slot : ℕ) (t : Transfer) → HasSources t → IsKept slots order spare → spare ≡ rest ++ slot ∷ []
+    → slots' ≡ set slots slot (Some t) → order' ≡ order ++ slot ∷ [] → IsKept slots' order' rest
 begin_kept slots slots' order order' spare rest slot t sources k e now now_order =
     subst (λ (l : List (Option Transfer)). IsKept l order' rest) (sym now) (subst (λ (l : List ℕ). IsKept (set slots slot (Some t)) l rest) (sym now_order) (kept_begin slots order rest slot t sources (subst (λ (l : List ℕ). IsKept slots order l) e k)))
 
-pub begin_view : (slots slots' : List (Option Transfer)) (order order' spare rest : List ℕ) (slot : ℕ) (t : Transfer) → IsKept slots order spare → spare ≡ rest ++ slot ∷ [] → slots' ≡ set slots slot (Some t) → order' ≡ order ++ slot ∷ [] → in_flight slots' order' ≡ in_flight slots order ++ t ∷ []
+pub begin_view : (slots slots' : List (Option Transfer)) (order order' spare rest : List ℕ) (slot : ℕ) (t : Transfer) → IsKept slots order spare → spare ≡ rest ++ slot ∷ []
+    → slots' ≡ set slots slot (Some t) → order' ≡ order ++ slot ∷ [] → in_flight slots' order' ≡ in_flight slots order ++ t ∷ []
 begin_view slots slots' order order' spare rest slot t k e now now_order =
     let free = begin_spare slots order spare rest slot k e in
     ap₂ in_flight now now_order ∙ put_behind slots slot t order free.below free.unlisted
@@ -234,11 +237,13 @@ pub head_of : (xs : List ℕ) (x : ℕ) → Some x ≡ slice_get xs 0 → xs ≡
 head_of [] x e = absurd (none-some x (sym e))
 head_of (y ∷ ys) x e = ap (λ (n : ℕ). n ∷ ys) (sym (same_Some x y e))
 
-pub abandon_kept : (slots slots' : List (Option Transfer)) (order order' spare spare' : List ℕ) (slot : ℕ) → IsKept slots order spare → order ≡ slot ∷ order' → slots' ≡ set slots slot None → spare' ≡ spare ++ slot ∷ [] → IsKept slots' order' spare'
+pub abandon_kept : (slots slots' : List (Option Transfer)) (order order' spare spare' : List ℕ) (slot : ℕ) → IsKept slots order spare → order ≡ slot ∷ order' → slots' ≡ set slots slot None
+    → spare' ≡ spare ++ slot ∷ [] → IsKept slots' order' spare'
 abandon_kept slots slots' order order' spare spare' slot k e now now_spare =
     subst (λ (l : List (Option Transfer)). IsKept l order' spare') (sym now) (subst (λ (l : List ℕ). IsKept (set slots slot None) order' l) (sym now_spare) (kept_abandon slots order' spare slot (subst (λ (l : List ℕ). IsKept slots l spare) e k)))
 
-pub abandon_view : (slots slots' : List (Option Transfer)) (order order' spare : List ℕ) (slot : ℕ) (t : Transfer) → IsKept slots order spare → order ≡ slot ∷ order' → slots' ≡ set slots slot None → slot_at slots slot ≡ Some t → in_flight slots' order' ≡ drop 1 (in_flight slots order)
+pub abandon_view : (slots slots' : List (Option Transfer)) (order order' spare : List ℕ) (slot : ℕ) (t : Transfer) → IsKept slots order spare → order ≡ slot ∷ order' → slots' ≡ set slots slot None
+    → slot_at slots slot ≡ Some t → in_flight slots' order' ≡ drop 1 (in_flight slots order)
 abandon_view slots slots' order order' spare slot t k e now was =
     let old = is_oldest slots order' spare slot (subst (λ (l : List ℕ). IsKept slots l spare) e k) in
     ap (λ (l : List (Option Transfer)). in_flight l order') now

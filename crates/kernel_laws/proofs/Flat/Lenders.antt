@@ -94,7 +94,8 @@ pushed_lent ps p s e h l = lent_kept ps (ps ++ p ∷ []) l (λ x sid child f g. 
     forward sid child (Some z) i y = subst (IsWith sid) (i ∙ sym (pushed_found pid_of child ps p z i)) y
 
 -- A process lends its space to a new one.
-lends_lent : (ps : List Process) (q p c : Process) (s : Space) → numbered pid_of p.pid ps ≡ Some q → q.holding ≡ Holds s → p.holding ≡ Lends s.sid c.pid → numbered pid_of c.pid ps ≡ None → c.holding ≡ Holds s → Lent ps → Lent (replaced ps p ++ c ∷ [])
+lends_lent : (ps : List Process) (q p c : Process) (s : Space) → numbered pid_of p.pid ps ≡ Some q → q.holding ≡ Holds s → p.holding ≡ Lends s.sid c.pid → numbered pid_of c.pid ps ≡ None
+    → c.holding ≡ Holds s → Lent ps → Lent (replaced ps p ++ c ∷ [])
 lends_lent ps q p c s e h k new hc l = record { right = right; one = one }
   where
     qs : List Process
@@ -203,7 +204,8 @@ returned_cases (q ∷ ps) pid s d = elim (cases_Bool (lends_to pid q.holding)) [
 ]
 
 -- A process gives way to one that lends nothing, and its space goes back where it was lent.
-back_lent : (ps : List Process) (q p : Process) (s : Space) → AllDistinct (map pid_of ps) → numbered pid_of p.pid ps ≡ Some q → q.holding ≡ Holds s → ((sid child : ℕ) → p.holding ≢ Lends sid child) → Lent ps → Lent (returned p.pid s (replaced ps p))
+back_lent : (ps : List Process) (q p : Process) (s : Space) → AllDistinct (map pid_of ps) → numbered pid_of p.pid ps ≡ Some q → q.holding ≡ Holds s → ((sid child : ℕ) → p.holding ≢ Lends sid child)
+    → Lent ps → Lent (returned p.pid s (replaced ps p))
 back_lent ps q p s d e h none l = elim (returned_cases r0 p.pid s distinct) [
   | inl c ↦ subst Lent (sym c.0) (lent_kept ps r0 l (λ x sid child f g. record {
     before = x;
@@ -307,7 +309,8 @@ reaped_lent ps z child e h l = lent_kept ps (filter (λ (q : Process). not (q.pi
 
 -- The changes.
 
-pub changes_lent : (images : List NamedImage) (flat : FlatState) (pid : ℕ) (regs : Regs) (change : Change) (q : Process) (s : Space) → process_of flat pid ≡ Some q → q.holding ≡ Holds s → NamesChild flat change → IsNumbered flat → LendsStand flat → LendsStand (apply_change images flat pid regs change)
+pub changes_lent : (images : List NamedImage) (flat : FlatState) (pid : ℕ) (regs : Regs) (change : Change) (q : Process) (s : Space) → process_of flat pid ≡ Some q → q.holding ≡ Holds s
+    → NamesChild flat change → IsNumbered flat → LendsStand flat → LendsStand (apply_change images flat pid regs change)
 changes_lent images flat pid regs change q s e h m n st = subst LendsStand (sym (applied images flat pid regs change q s e h)) (go change m)
   where
     found : numbered pid_of q.pid flat.processes ≡ Some q
@@ -384,7 +387,8 @@ first_lender (q ∷ ps) pid d e = elim (cases_Bool (lends_to pid q.holding)) [
     rest (Zombie status) t y = y
 
 -- A process that borrowed its space has one lender, which lent it that.
-pub lender_found : (flat : FlatState) (pid : ℕ) (q : Process) (s : Space) → process_of flat pid ≡ Some q → q.holding ≡ Holds s → is_borrower flat.processes pid ≡ true → IsNumbered flat → LendsStand flat → (m : Process) × IsLender flat pid s.sid m
+pub lender_found : (flat : FlatState) (pid : ℕ) (q : Process) (s : Space) → process_of flat pid ≡ Some q → q.holding ≡ Holds s → is_borrower flat.processes pid ≡ true → IsNumbered flat
+    → LendsStand flat → (m : Process) × IsLender flat pid s.sid m
 lender_found flat pid q s e h b n st =
     let r = first_lender flat.processes pid n.pids b in
     let t : (sid : ℕ) × (r.0.holding ≡ Lends sid pid) = lender_is pid r.0.holding r.2 in

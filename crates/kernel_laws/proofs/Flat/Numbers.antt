@@ -185,7 +185,8 @@ map_pushed f [] x = refl
 map_pushed f (y ∷ xs) x = ap (λ l. f y ∷ l) (map_pushed f xs x)
 
 -- with a space of this number, which is absent
-pub one_more : (ps : List Process) (p : Process) (s : Space) (next ns ms : ℕ) → Tidy ps next ns → p.pid ≡ next → p.parent < p.pid → p.holding ≡ Holds s → IsAbsent s.sid (map sid_of (held ps)) → s.sid < ms → AllBelow ms (map sid_of (held ps)) → Tidy (ps ++ p ∷ []) (next + 1) ms
+pub one_more : (ps : List Process) (p : Process) (s : Space) (next ns ms : ℕ) → Tidy ps next ns → p.pid ≡ next → p.parent < p.pid → p.holding ≡ Holds s → IsAbsent s.sid (map sid_of (held ps))
+    → s.sid < ms → AllBelow ms (map sid_of (held ps)) → Tidy (ps ++ p ∷ []) (next + 1) ms
 one_more ps p s next ns ms t i l h a m b = record {
   pids = subst AllDistinct (sym (map_pushed pid_of ps p)) (pushed_distinct (map pid_of ps) p.pid t.pids (subst (λ (n : ℕ). IsAbsent n (map pid_of ps)) (sym i) (below_absent next (map pid_of ps) t.pids_below)));
   sids = subst AllDistinct (sym list) (pushed_distinct (map sid_of (held ps)) s.sid t.sids a);
@@ -293,7 +294,8 @@ own_below flat pid q s n e h = go (map sid_of (held flat.processes)) n.sids_belo
     ]
 
 -- a process that holds its space gives way to one that has none, and the space goes back where it was lent
-pub back_tidy : (flat : FlatState) (pid : ℕ) (q fp : Process) (s : Space) → IsNumbered flat → process_of flat pid ≡ Some q → q.holding ≡ Holds s → numbered pid_of fp.pid flat.processes ≡ Some q → fp.parent ≡ q.parent → fp.pid ≡ q.pid → space_held fp.holding ≡ []
+pub back_tidy : (flat : FlatState) (pid : ℕ) (q fp : Process) (s : Space) → IsNumbered flat → process_of flat pid ≡ Some q → q.holding ≡ Holds s → numbered pid_of fp.pid flat.processes ≡ Some q
+    → fp.parent ≡ q.parent → fp.pid ≡ q.pid → space_held fp.holding ≡ []
     → Tidy (returned q.pid s (replaced flat.processes fp)) flat.next_pid flat.next_sid
 back_tidy flat pid q fp s n e h f par i z = returned_tidy (replaced flat.processes fp) q.pid s flat.next_pid flat.next_sid
     (exchange flat.processes q fp flat.next_pid flat.next_sid flat.next_sid (tidy_of flat n) f par (loss flat.processes q fp s flat.next_sid h z))
@@ -306,7 +308,8 @@ writes_numbered flat pid ws q s e h n = subst IsNumbered (sym (ap (wrote_if flat
     (same_exchange flat.processes q (record q { holding = Holds (puts s ws) }) flat.next_sid (ap (λ (m : ℕ). m ∷ []) (puts_sid ws s) ∙ sym (ap (λ (x : Holding). map sid_of (space_held x)) h)))))
 
 -- a process with the same spaces
-same_numbered : (flat : FlatState) (q p : Process) → numbered pid_of p.pid flat.processes ≡ Some q → p.parent ≡ q.parent → map sid_of (space_held p.holding) ≡ map sid_of (space_held q.holding) → IsNumbered flat → IsNumbered (with_process flat p)
+same_numbered : (flat : FlatState) (q p : Process) → numbered pid_of p.pid flat.processes ≡ Some q → p.parent ≡ q.parent → map sid_of (space_held p.holding) ≡ map sid_of (space_held q.holding)
+    → IsNumbered flat → IsNumbered (with_process flat p)
 same_numbered flat q p e par h n = of_tidy (with_process flat p) (exchange flat.processes q p flat.next_pid flat.next_sid flat.next_sid (tidy_of flat n) e par (same_exchange flat.processes q p flat.next_sid h))
 
 -- a zombie goes
@@ -328,7 +331,8 @@ reaped flat child status z e h n = of_tidy (without_process flat child) (record 
         (λ x f t. let i : x.pid ≡ child = Rattle.std.proofs.lemmas.Bool.eqb-true x.pid child (off (x.pid == child) t) in
         ap (λ (y : Process). space_held y.holding) (same_Some x z (sym f ∙ ap (λ (m : ℕ). numbered pid_of m flat.processes) i ∙ sym (found_is flat.processes child) ∙ e)) ∙ ap space_held h)
 
-pub changes_numbered : (images : List NamedImage) (flat : FlatState) (pid : ℕ) (regs : Regs) (change : Change) (q : Process) (s : Space) → process_of flat pid ≡ Some q → q.holding ≡ Holds s → NamesChild flat change → IsNumbered flat → IsNumbered (apply_change images flat pid regs change)
+pub changes_numbered : (images : List NamedImage) (flat : FlatState) (pid : ℕ) (regs : Regs) (change : Change) (q : Process) (s : Space) → process_of flat pid ≡ Some q → q.holding ≡ Holds s
+    → NamesChild flat change → IsNumbered flat → IsNumbered (apply_change images flat pid regs change)
 changes_numbered images flat pid regs change q s e h m n = subst IsNumbered (sym (applied images flat pid regs change q s e h)) (go change m)
   where
     found : numbered pid_of q.pid flat.processes ≡ Some q

@@ -163,7 +163,8 @@ rests images k l pid sid b e change at clear parts can apart = subst Rests (sym 
 
 -- Who keeps its space, or has one of its own.
 
-own_stands : (images : List NamedImage) (k : Kernel) (flat : FlatState) (pid : ℕ) (regs : Regs) (e : Entry) (q : Process) (s : Space) (change : Change) → Acts k flat pid q s → k.place.due ≡ [] → NamesChild flat change → EntersImage images change → SameTables k flat → Stands images k flat
+own_stands : (images : List NamedImage) (k : Kernel) (flat : FlatState) (pid : ℕ) (regs : Regs) (e : Entry) (q : Process) (s : Space) (change : Change) → Acts k flat pid q s → k.place.due ≡ []
+    → NamesChild flat change → EntersImage images change → SameTables k flat → Stands images k flat
     → Stands images (keeps_step (facts_of images) k pid regs e change) (apply_change images flat pid regs change)
 own_stands images k flat pid regs e q s Keep a due m x t st = keep_stands images k flat pid regs e q s t a.here a.holds a.resident st
 own_stands images k flat pid regs e q s (Resize d r) a due m x t st = resize_stands images k flat pid regs e d r q s t a.here a.holds a.resident st
@@ -176,7 +177,8 @@ own_stands images k flat pid regs e q s (Reap child) a due (z, status, fz, hz) x
 own_stands images k flat pid regs e q s Sleep a due m x t st = sleep_stands images k flat pid regs e q s t a.here a.holds a.resident st
 own_stands images k flat pid regs e q s (End status) a due m x t st = end_stands images k flat pid regs e status q s t a.here a.holds st
 
-own_coupled : (size : ℕ) (images : List NamedImage) (k : Kernel) (before : Holdings) (image : List ℕ) (flat : FlatState) (pid : ℕ) (regs : Regs) (e : Entry) (q : Process) (s : Space) (b : Bool) (change : Change) → is_borrower flat.processes pid ≡ b → KeepsSpace b change
+own_coupled : (size : ℕ) (images : List NamedImage) (k : Kernel) (before : Holdings) (image : List ℕ) (flat : FlatState) (pid : ℕ) (regs : Regs) (e : Entry) (q : Process) (s : Space) (b : Bool) (change : Change)
+    → is_borrower flat.processes pid ≡ b → KeepsSpace b change
     → Prepared size images k before image flat → Names size images k before flat pid change → Acts k flat pid q s → SettlesFor k.place s.sid change → MayForget (facts_of images) k.place s.sid false k.next_sid change
     → Coupled (keeps_step (facts_of images) k pid regs e change) images image (apply_change images flat pid regs change)
 own_coupled size images k before image flat pid regs e q s b Keep w o x n a z y = keep_coupled k images image flat pid regs e q s x.numbers a.here a.holds a.resident x.coupled
@@ -237,7 +239,8 @@ record Passed (size : ℕ) (images : List NamedImage) (k : Kernel) (pid sid : �
   pub numbered : Numbered l
   pub lands : LandsAt images k pid sid b e change l
 
-own_passed : (size : ℕ) (images : List NamedImage) (k : Kernel) (flat : FlatState) (pid : ℕ) (regs : Regs) (e : Entry) (q : Process) (s : Space) (change : Change) → IsNumbered flat → process_of flat pid ≡ Some q → q.holding ≡ Holds s → SameTables k flat → NamesChild flat change
+own_passed : (size : ℕ) (images : List NamedImage) (k : Kernel) (flat : FlatState) (pid : ℕ) (regs : Regs) (e : Entry) (q : Process) (s : Space) (change : Change) → IsNumbered flat
+    → process_of flat pid ≡ Some q → q.holding ≡ Holds s → SameTables k flat → NamesChild flat change
     → Passed size images k pid s.sid false e change (change_step (facts_of images) k pid regs e change) → Passed size images k pid s.sid false e change (keeps_step (facts_of images) k pid regs e change)
 own_passed size images k flat pid regs e q s Keep nums f h t m x = x
 own_passed size images k flat pid regs e q s (Resize d r) nums f h t m x = x
@@ -255,7 +258,8 @@ own_passed size images k flat pid regs e q s (Reap child) nums f h t m x = x
 own_passed size images k flat pid regs e q s Sleep nums f h t m x = x
 own_passed size images k flat pid regs e q s (End status) nums f h t m x = x
 
-own_lands : (images : List NamedImage) (k : Kernel) (flat : FlatState) (pid : ℕ) (regs : Regs) (e : Entry) (q : Process) (s : Space) (change : Change) → Stepping k flat pid q s → LandsAt images k pid s.sid false e change (change_step (facts_of images) k pid regs e change)
+own_lands : (images : List NamedImage) (k : Kernel) (flat : FlatState) (pid : ℕ) (regs : Regs) (e : Entry) (q : Process) (s : Space) (change : Change) → Stepping k flat pid q s
+    → LandsAt images k pid s.sid false e change (change_step (facts_of images) k pid regs e change)
 own_lands images k flat pid regs e q s change g =
     subst (LandsAt images k pid s.sid false e change) (sym (step_is (facts_of images) k pid regs e change g.proc (HoldsSpace s.sid) g.kept g.life))
     (subst (λ (n : ℕ). LandsAt images k n s.sid false e change (by_life (facts_of images) k (record g.proc { regs = regs }) (HoldsSpace s.sid) e change)) g.pid_is (record { place = refl }))
@@ -274,7 +278,8 @@ record OwnAllows (images : List NamedImage) (k : Kernel) (sid : ℕ) (change : C
   pub forgets : MayForget (facts_of images) k.place sid false k.next_sid change
   pub apart : ApartFrom sid false k.next_sid change
 
-own_stood : (size : ℕ) (images : List NamedImage) (k : Kernel) (before : Holdings) (image : List ℕ) (flat : FlatState) (pid : ℕ) (regs : Regs) (e : Entry) (q : Process) (s : Space) (b : Bool) (change : Change) → is_borrower flat.processes pid ≡ b → KeepsSpace b change
+own_stood : (size : ℕ) (images : List NamedImage) (k : Kernel) (before : Holdings) (image : List ℕ) (flat : FlatState) (pid : ℕ) (regs : Regs) (e : Entry) (q : Process) (s : Space) (b : Bool) (change : Change)
+    → is_borrower flat.processes pid ≡ b → KeepsSpace b change
     → Prepared size images k before image flat → Names size images k before flat pid change → Acts k flat pid q s → ReadySpace k.place s.sid b change → HaveParts k.place.transfers
     → Stood size images image (apply_change images flat pid regs change) (keeps_step (facts_of images) k pid regs e change)
 own_stood size images k before image flat pid regs e q s b change w o x n a ready parts = record {
@@ -357,13 +362,15 @@ asks_same images k pid from to (Exec image top) gb = refl
 asks_same images k pid from to (End status) gb = refl
 asks_same images k pid from to _ gb = absurd gb
 
-back_stands : (images : List NamedImage) (k : Kernel) (flat : FlatState) (pid : ℕ) (regs : Regs) (e : Entry) (q m : Process) (s : Space) (change : Change) → GivesBack change → Acts k flat pid q s → IsLender flat pid s.sid m → k.place.due ≡ [] → EntersImage images change → SameTables k flat → Stands images k flat
+back_stands : (images : List NamedImage) (k : Kernel) (flat : FlatState) (pid : ℕ) (regs : Regs) (e : Entry) (q m : Process) (s : Space) (change : Change) → GivesBack change → Acts k flat pid q s
+    → IsLender flat pid s.sid m → k.place.due ≡ [] → EntersImage images change → SameTables k flat → Stands images k flat
     → Stands images (change_step (facts_of images) (pass_step k pid m.pid) pid regs e change) (apply_change images flat pid regs change)
 back_stands images k flat pid regs e q m s (Exec number top) gb a is due (named, im, whole) t st = exec_back_stands images k flat pid regs e number top named q m s t due a.here a.holds is a.resident im st
 back_stands images k flat pid regs e q m s (End status) gb a is due x t st = end_back_stands images k flat pid regs e status q m s t a.here a.holds is st
 back_stands images k flat pid regs e q m s _ gb a is due x t st = absurd gb
 
-back_coupled : (size : ℕ) (images : List NamedImage) (k : Kernel) (before : Holdings) (image : List ℕ) (flat : FlatState) (pid : ℕ) (regs : Regs) (e : Entry) (q m : Process) (s : Space) (change : Change) → GivesBack change → IsLender flat pid s.sid m
+back_coupled : (size : ℕ) (images : List NamedImage) (k : Kernel) (before : Holdings) (image : List ℕ) (flat : FlatState) (pid : ℕ) (regs : Regs) (e : Entry) (q m : Process) (s : Space) (change : Change)
+    → GivesBack change → IsLender flat pid s.sid m
     → Prepared size images k before image flat → Names size images k before flat pid change → Acts k flat pid q s
     → Coupled (change_step (facts_of images) (pass_step k pid m.pid) pid regs e change) images image (apply_change images flat pid regs change)
 back_coupled size images k before image flat pid regs e q m s (Exec number top) gb is x n a =
@@ -376,7 +383,8 @@ back_coupled size images k before image flat pid regs e q m s (End status) gb is
     end_back size k images image flat pid regs e status q m s so x.numbers st.out x.clear a.here a.holds is x.coupled
 back_coupled size images k before image flat pid regs e q m s _ gb is x n a = absurd gb
 
-back_is : (images : List NamedImage) (k : Kernel) (pid n : ℕ) (regs : Regs) (e : Entry) (change : Change) → GivesBack change → lender_among k.processes pid ≡ n → back_step (facts_of images) k pid regs e change ≡ change_step (facts_of images) (pass_step k pid n) pid regs e change
+back_is : (images : List NamedImage) (k : Kernel) (pid n : ℕ) (regs : Regs) (e : Entry) (change : Change) → GivesBack change → lender_among k.processes pid ≡ n
+    → back_step (facts_of images) k pid regs e change ≡ change_step (facts_of images) (pass_step k pid n) pid regs e change
 back_is images k pid n regs e (Exec number top) gb i = ap (λ (m : ℕ). change_step (facts_of images) (pass_step k pid m) pid regs e (Exec number top)) i
 back_is images k pid n regs e (End status) gb i = ap (λ (m : ℕ). change_step (facts_of images) (pass_step k pid m) pid regs e (End status)) i
 back_is images k pid n regs e _ gb i = absurd gb
@@ -387,7 +395,8 @@ lands_any images k pid sid e (Exec image top) l gb x = record { place = x.place 
 lands_any images k pid sid e (End status) l gb x = record { place = x.place }
 lands_any images k pid sid e _ l gb x = absurd gb
 
-back_lands : (images : List NamedImage) (k : Kernel) (flat : FlatState) (pid : ℕ) (regs : Regs) (e : Entry) (q m : Process) (s : Space) (change : Change) (a : Borrowing k flat pid q m s) → GivesBack change → LandsAt images k pid s.sid true e change (change_step (facts_of images) (pass_step k pid m.pid) pid regs e change)
+back_lands : (images : List NamedImage) (k : Kernel) (flat : FlatState) (pid : ℕ) (regs : Regs) (e : Entry) (q m : Process) (s : Space) (change : Change) (a : Borrowing k flat pid q m s)
+    → GivesBack change → LandsAt images k pid s.sid true e change (change_step (facts_of images) (pass_step k pid m.pid) pid regs e change)
 back_lands images k flat pid regs e q m s change a gb =
     let g : Stepping k flat pid q s = a.step in
     let k1 : Kernel = record k { processes = map (passes s.sid pid m.pid) k.processes } in
@@ -396,7 +405,8 @@ back_lands images k flat pid regs e q m s change a gb =
     (subst (LandsAt images k pid 0 true e change) (sym (step_is (facts_of images) k1 pid regs e change (record g.proc { life = New }) New (back_proc k flat pid q m s a) refl))
     (subst (λ (n : ℕ). LandsAt images k n 0 true e change (by_life (facts_of images) k1 (record g.proc { regs = regs; life = New }) New e change)) g.pid_is (record { place = refl }))))
 
-back_stood : (size : ℕ) (images : List NamedImage) (k : Kernel) (before : Holdings) (image : List ℕ) (flat : FlatState) (pid : ℕ) (regs : Regs) (e : Entry) (q m : Process) (s : Space) (change : Change) → GivesBack change → IsLender flat pid s.sid m
+back_stood : (size : ℕ) (images : List NamedImage) (k : Kernel) (before : Holdings) (image : List ℕ) (flat : FlatState) (pid : ℕ) (regs : Regs) (e : Entry) (q m : Process) (s : Space) (change : Change)
+    → GivesBack change → IsLender flat pid s.sid m
     → Prepared size images k before image flat → Names size images k before flat pid change → Acts k flat pid q s → HaveParts k.place.transfers
     → Stood size images image (apply_change images flat pid regs change) (back_step (facts_of images) k pid regs e change)
 back_stood size images k before image flat pid regs e q m s change gb is x n a parts =
@@ -462,7 +472,8 @@ back_stood size images k before image flat pid regs e q m s change gb is x n a p
 
 -- Either.
 
-either_stood : (size : ℕ) (images : List NamedImage) (k : Kernel) (before : Holdings) (image : List ℕ) (flat : FlatState) (pid : ℕ) (regs : Regs) (e : Entry) (q : Process) (s : Space) (b : Bool) (change : Change) → is_borrower flat.processes pid ≡ b → (b ≡ true → (m : Process) × IsLender flat pid s.sid m)
+either_stood : (size : ℕ) (images : List NamedImage) (k : Kernel) (before : Holdings) (image : List ℕ) (flat : FlatState) (pid : ℕ) (regs : Regs) (e : Entry) (q : Process) (s : Space) (b : Bool) (change : Change)
+    → is_borrower flat.processes pid ≡ b → (b ≡ true → (m : Process) × IsLender flat pid s.sid m)
     → Prepared size images k before image flat → Names size images k before flat pid change → Acts k flat pid q s → ReadySpace k.place s.sid b change → HaveParts k.place.transfers
     → Stood size images image (apply_change images flat pid regs change) (passing_change b (facts_of images) k pid regs e change)
 either_stood size images k before image flat pid regs e q s false change w lend x n a ready parts = own_stood size images k before image flat pid regs e q s false change w (own change) x n a ready parts
@@ -489,7 +500,8 @@ pub no_pieces : (size : ℕ) (hs : Holdings) → WereFound size hs hs
 unfolding place_all
 no_pieces size hs = record { pieces = []; placed = refl }
 
-pub change_kept : (size : ℕ) (images : List NamedImage) (m : KernelState) (pid : ℕ) (regs : Regs) (e : Entry) (change : Change) → ImagesFit images → Invariant size images m → MayComplete size images m pid change → Invariant size images (state_after images m (ChangeUnit pid regs e change))
+pub change_kept : (size : ℕ) (images : List NamedImage) (m : KernelState) (pid : ℕ) (regs : Regs) (e : Entry) (change : Change) → ImagesFit images → Invariant size images m
+    → MayComplete size images m pid change → Invariant size images (state_after images m (ChangeUnit pid regs e change))
 change_kept size images m pid regs e change fits i may = record {
   sound = stood.sound;
   numbered = stood.numbered;

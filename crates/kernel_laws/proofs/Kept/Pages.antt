@@ -43,10 +43,12 @@ use Rattle.kernel_laws.proofs.Stands.Steps.{note_stands, get_stands, reclaim_sta
 owned : (size : ℕ) (k : Kernel) → Sound size k → OwnsFrames k.place
 owned size k s = let o : OneOwner size (lives k.processes) k.place k.holdings = s.owner in o.frames
 
-dues_kept : (size : ℕ) (images : List NamedImage) (m : KernelState) (locked : List Page) (at : ℕ) (e : Entry) → Invariant size images m → CanPlace m.kernel.place e → LeavesDue m.kernel.place e → DueStand (place_entry locked at m.kernel.place e)
+dues_kept : (size : ℕ) (images : List NamedImage) (m : KernelState) (locked : List Page) (at : ℕ) (e : Entry) → Invariant size images m → CanPlace m.kernel.place e → LeavesDue m.kernel.place e
+    → DueStand (place_entry locked at m.kernel.place e)
 dues_kept size images m locked at e i c l = entry_due locked at m.kernel.place e (owned size m.kernel i.sound) c l i.dues
 
-parts_kept : (size : ℕ) (images : List NamedImage) (m : KernelState) (locked : List Page) (at : ℕ) (e : Entry) → Invariant size images m → CanPlace m.kernel.place e → CanBegin m.kernel.place e → HaveParts (Placement.transfers (place_entry locked at m.kernel.place e))
+parts_kept : (size : ℕ) (images : List NamedImage) (m : KernelState) (locked : List Page) (at : ℕ) (e : Entry) → Invariant size images m → CanPlace m.kernel.place e → CanBegin m.kernel.place e
+    → HaveParts (Placement.transfers (place_entry locked at m.kernel.place e))
 parts_kept size images m locked at e i c b = entry_parts locked at m.kernel.place e (owned size m.kernel i.sound) c b i.parts
 
 -- Fills.

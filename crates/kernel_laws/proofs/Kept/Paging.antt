@@ -32,7 +32,8 @@ use Rattle.page_laws.proofs.Swapper.PuttingOut.{unit_case, unit_can, unit_few}
 use Rattle.std.proofs.lemmas.Bool.{leb-false}
 use Rattle.page_laws.proofs.Swapper.PuttingOut as out
 
-pub read_allowed : (size : ℕ) (images : List NamedImage) (m : KernelState) (q : Page) → Invariant size images m → CanEnter m.kernel.place q → ReadsFrom m.kernel.place (source_for (state_of m.kernel.place q)) q q → NotDue m.kernel.place.due q → IsShared m.kernel.place q
+pub read_allowed : (size : ℕ) (images : List NamedImage) (m : KernelState) (q : Page) → Invariant size images m → CanEnter m.kernel.place q
+    → ReadsFrom m.kernel.place (source_for (state_of m.kernel.place q)) q q → NotDue m.kernel.place.due q → IsShared m.kernel.place q
     → 0 < length m.kernel.place.free → length m.kernel.place.transfers < 16 → MayGet m.kernel.place q (run_in m.kernel.place q).lo (run_in m.kernel.place q).n
 read_allowed size images m q i enter reads due shared some few =
     let k : Kernel = m.kernel in
@@ -76,7 +77,8 @@ not_again (d ∷ ds) q n = go (same_page (due_page d) q) refl n
     go false e k = ap (λ (b : Bool). cond b (Some d) (due_at ds q)) e ∙ k
 
 -- with no transfer in flight the hands may move
-pub force_allowed : (size : ℕ) (images : List NamedImage) (m : KernelState) (locked : List Page) (read : List (List ℕ)) → AreRead (beside_kernel m.kernel images m.image m.flat) m.kernel.place.transfers read → May size images m (unit_for locked read (force_entry m.kernel.place.transfers))
+pub force_allowed : (size : ℕ) (images : List NamedImage) (m : KernelState) (locked : List Page) (read : List (List ℕ))
+    → AreRead (beside_kernel m.kernel images m.image m.flat) m.kernel.place.transfers read → May size images m (unit_for locked read (force_entry m.kernel.place.transfers))
 force_allowed size images m locked read are = go m.kernel.place.transfers refl
   where
     p : Placement
@@ -86,7 +88,8 @@ force_allowed size images m locked read are = go m.kernel.place.transfers refl
     go [] e = let l = entry_count locked 0 p (entries.Hands 1) in let z = ap length e in omega (arith, l, z)
     go (t ∷ ts) e = are
 
-pub serve_allowed : (size : ℕ) (images : List NamedImage) (m : KernelState) (locked : List Page) (read : List (List ℕ)) (q : Page) (now : Bool) (e : Entry) → Invariant size images m → IsThere m.kernel.place q → IsShared m.kernel.place q → NotDue m.kernel.place.due q
+pub serve_allowed : (size : ℕ) (images : List NamedImage) (m : KernelState) (locked : List Page) (read : List (List ℕ)) (q : Page) (now : Bool) (e : Entry) → Invariant size images m
+    → IsThere m.kernel.place q → IsShared m.kernel.place q → NotDue m.kernel.place.due q
     → AreRead (beside_kernel m.kernel images m.image m.flat) m.kernel.place.transfers read → serve_unit m.kernel.place q now ≡ Some e → May size images m (unit_for locked read e)
 serve_allowed size images m locked read q now e i there shared due are h =
     let x : (is_valid (state_of p q) ≡ false) × (e ≡ serve_entry p q) = unit_is p q now e h in

@@ -24,7 +24,8 @@ use Rattle.kernel_laws.proofs.Kept.Changes.{change_kept}
 
 -- What a process does in an instruction.
 
-write_kept : (size : ℕ) (images : List NamedImage) (m : KernelState) (pid : ℕ) (w : ByteWrite) (q : Page) (f at : ℕ) → Invariant size images m → MayWriteByte m.kernel m.flat pid w q f at → Invariant size images (state_after images m (WriteUnit pid w q f at))
+write_kept : (size : ℕ) (images : List NamedImage) (m : KernelState) (pid : ℕ) (w : ByteWrite) (q : Page) (f at : ℕ) → Invariant size images m → MayWriteByte m.kernel m.flat pid w q f at
+    → Invariant size images (state_after images m (WriteUnit pid w q f at))
 write_kept size images m pid w q f at i may = let k : Kernel = m.kernel in let a : Acts k m.flat pid may.process may.space = may.acts in record {
   sound = write_sound size k q f at w.byte i.sound;
   numbered = write_numbered k q f at w.byte i.numbered;

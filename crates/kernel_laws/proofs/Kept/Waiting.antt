@@ -89,10 +89,12 @@ done_asks size images k read pid change so =
     let o : OneOwner size (lives k.processes) k.place k.holdings = so.owner in
     asks_steady (facts_of images) k.place (done k.place) _ k.next_sid change (done_steady k.place o.frames)
 
-pub finds_wait : (size : ℕ) (images : List NamedImage) (m : KernelState) (found : Holdings) (pid : ℕ) (change : Change) → Invariant size images m → place_all size m.kernel.holdings (asked (facts_of images) m.kernel pid change) ≡ Ok found → Waits size images (state_after images m (FindUnit found)) pid change
+pub finds_wait : (size : ℕ) (images : List NamedImage) (m : KernelState) (found : Holdings) (pid : ℕ) (change : Change) → Invariant size images m
+    → place_all size m.kernel.holdings (asked (facts_of images) m.kernel pid change) ≡ Ok found → Waits size images (state_after images m (FindUnit found)) pid change
 finds_wait size images m found pid change i e = record { invariant = find_kept size images m found i (record { pieces = asked (facts_of images) m.kernel pid change; placed = e }); pieces = e }
 
-pub dones_wait : (size : ℕ) (images : List NamedImage) (reads : List (List (List ℕ))) (m : KernelState) (pid : ℕ) (change : Change) → Waits size images m pid change → MayAll size images m (map DoneUnit reads) → Waits size images (states_after images m (map DoneUnit reads)) pid change
+pub dones_wait : (size : ℕ) (images : List NamedImage) (reads : List (List (List ℕ))) (m : KernelState) (pid : ℕ) (change : Change) → Waits size images m pid change
+    → MayAll size images m (map DoneUnit reads) → Waits size images (states_after images m (map DoneUnit reads)) pid change
 dones_wait size images [] m pid change w may = w
 dones_wait size images (read ∷ reads) m pid change w may =
     let i : Invariant size images m = w.invariant in

@@ -83,12 +83,14 @@ can_store size k images image flat x so fits c e =
     keeps_at k.place (beside_kernel k images image flat) x.page (Going x.frame) c.pages there e in
     record { block = block.0; found = block.1; whole = ap length here.0 ∙ memory_length k images flat x.page c.tables fits there }
 
-all_store : (size : ℕ) (k : Kernel) (images : List NamedImage) (image : List ℕ) (flat : FlatState) (xs : List Part) → Sound size k → TextFits images k.place → Coupled k images image flat → Each (IsMoving k.place) (map (moving Writes) xs) → AllStore k xs
+all_store : (size : ℕ) (k : Kernel) (images : List NamedImage) (image : List ℕ) (flat : FlatState) (xs : List Part) → Sound size k → TextFits images k.place → Coupled k images image flat
+    → Each (IsMoving k.place) (map (moving Writes) xs) → AllStore k xs
 all_store size k images image flat [] so fits c m = tt
 all_store size k images image flat (x ∷ xs) so fits c m = (can_store size k images image flat x so fits c m.0, all_store size k images image flat xs so fits c m.1)
 
 -- the pages that the oldest transfer writes have bytes and blocks
-pub oldest_store : (size : ℕ) (k : Kernel) (images : List NamedImage) (image : List ℕ) (flat : FlatState) (t : Transfer) (ts : List Transfer) → Sound size k → TextFits images k.place → Coupled k images image flat → k.place.transfers ≡ t ∷ ts → t.errand ≡ Writes → AllStore k t.parts
+pub oldest_store : (size : ℕ) (k : Kernel) (images : List NamedImage) (image : List ℕ) (flat : FlatState) (t : Transfer) (ts : List Transfer) → Sound size k → TextFits images k.place
+    → Coupled k images image flat → k.place.transfers ≡ t ∷ ts → t.errand ≡ Writes → AllStore k t.parts
 oldest_store size k images image flat t ts so fits c h e =
     let o : OneOwner size (lives k.processes) k.place k.holdings = so.owner in
     let f : OwnsFrames k.place = o.frames in
@@ -175,7 +177,8 @@ done_coupled_step size k images image flat read so fits l r c =
     (done_coupled k.place (beside_kernel k images image flat) (ended_bytes k images image flat k.place.transfers read) o.frames so.tokens a.0 c.pages)) c
 
 -- the image is as long as it was
-pub image_length : (size : ℕ) (k : Kernel) (images : List NamedImage) (image : List ℕ) (flat : FlatState) → Sound size k → TextFits images k.place → 512 * size ≤ length image → Coupled k images image flat → length (image_after k image) ≡ length image
+pub image_length : (size : ℕ) (k : Kernel) (images : List NamedImage) (image : List ℕ) (flat : FlatState) → Sound size k → TextFits images k.place → 512 * size ≤ length image
+    → Coupled k images image flat → length (image_after k image) ≡ length image
 image_length size k images image flat so fits l c = go k.place.transfers refl
   where
     o : OneOwner size (lives k.processes) k.place k.holdings

@@ -165,7 +165,8 @@ left_outlines true ks fs p status e = ap (map outline_kept) (sym (removed_with k
 left_outlines false ks fs p status e = woken_outlines (with_proc ks (record p { life = Ended status })) fs p.parent e
 
 pub ended_outlines : (ks : List Proc) (fs : List Process) (p old : Proc) (status : ℕ) → AllDistinct (map kept_pid ks) → numbered kept_pid p.pid ks ≡ Some old → old.parent ≢ p.pid → p.parent ≢ p.pid
-    → map outline_kept (with_proc ks (record p { life = Ended status })) ≡ map outline_of fs → map outline_kept (left_procs (p.parent == 0) (orphaned_procs ks p.pid) p status) ≡ map outline_of (left_flat (p.parent == 0) (orphans p.pid fs) p.pid p.parent)
+    → map outline_kept (with_proc ks (record p { life = Ended status })) ≡ map outline_of fs
+    → map outline_kept (left_procs (p.parent == 0) (orphaned_procs ks p.pid) p status) ≡ map outline_of (left_flat (p.parent == 0) (orphans p.pid fs) p.pid p.parent)
 ended_outlines ks fs p old status d f a b o =
     left_outlines (p.parent == 0) (orphaned_procs ks p.pid) (orphans p.pid fs) p status
     (ap (map outline_kept) (sym (orphan_with ks (record p { life = Ended status }) p.pid (not_own ks old p.pid p.pid d f a) b))
@@ -409,7 +410,8 @@ left_is true F pid parent = refl
 left_is false F pid parent = refl
 
 -- A process that holds its own space ends.
-pub end_coupled_step : (size : ℕ) (k : Kernel) (images : List NamedImage) (image : List ℕ) (flat : FlatState) (pid : ℕ) (regs : Regs) (e : Entry) (status : ℕ) (q : Process) (s : Space) → Sound size k → IsNumbered flat → OutHold k.place flat → k.place.due ≡ []
+pub end_coupled_step : (size : ℕ) (k : Kernel) (images : List NamedImage) (image : List ℕ) (flat : FlatState) (pid : ℕ) (regs : Regs) (e : Entry) (status : ℕ) (q : Process) (s : Space) → Sound size k
+    → IsNumbered flat → OutHold k.place flat → k.place.due ≡ []
     → process_of flat pid ≡ Some q → q.holding ≡ Holds s → is_borrower flat.processes pid ≡ false → IsSettled k.place s.sid → MayForget (facts_of images) k.place s.sid false k.next_sid (End status) → Coupled k images image flat
     → Coupled (change_step (facts_of images) k pid regs e (End status)) images image (apply_change images flat pid regs (End status))
 end_coupled_step size k images image flat pid regs e status q s so nums outs due f h own_space settled forget c =

@@ -93,7 +93,8 @@ pub record Entering (k : Kernel) (images : List NamedImage) (flat after : FlatSt
   pub other : (m : ℕ) → m ≢ next → (borrowed ≡ false → m ≢ sid) → numbered sid_of m (spaces_of after) ≡ numbered sid_of m (spaces_of flat)
   pub gone : borrowed ≡ false → numbered sid_of sid (spaces_of after) ≡ None
 
-pub exec_core : (k : Kernel) (images : List NamedImage) (image : List ℕ) (flat after : FlatState) (next sid number : ℕ) (borrowed : Bool) (named : NamedImage) (top : List ℕ) (ps : List Proc) (journal : List Entry) → Entering k images flat after next sid number borrowed named top
+pub exec_core : (k : Kernel) (images : List NamedImage) (image : List ℕ) (flat after : FlatState) (next sid number : ℕ) (borrowed : Bool) (named : NamedImage) (top : List ℕ) (ps : List Proc) (journal : List Entry)
+    → Entering k images flat after next sid number borrowed named top
     → AllFit flat k.place → CouplesPages k.place (beside_kernel k images image flat)
     → AllFit after (exec_kernel k next sid borrowed number (Some named.image.facts) top ps journal).place
     × CouplesPages (exec_kernel k next sid borrowed number (Some named.image.facts) top ps journal).place (beside_kernel (exec_kernel k next sid borrowed number (Some named.image.facts) top ps journal) images image after)
@@ -295,9 +296,12 @@ borrower_replaced (q ∷ ps) p pid h e = go (q.pid == p.pid) (borrower_replaced 
     go false ih = ap (λ (b : Bool). b || is_borrower (replaced ps p) pid) (rest (Rattle.flat_state.specs.Change.lends_to pid q.holding) (is_borrower ps pid) e).0 ∙ ih (rest (Rattle.flat_state.specs.Change.lends_to pid q.holding) (is_borrower ps pid) e).1
 
 -- A process that holds its own space enters an image.
-pub exec_coupled_step : (size : ℕ) (before : Holdings) (k : Kernel) (images : List NamedImage) (image : List ℕ) (flat : FlatState) (pid : ℕ) (regs : Regs) (e : Entry) (number : ℕ) (top : List ℕ) (named : NamedImage) (q : Process) (s : Space) → Sound size (record k { holdings = before }) → IsNumbered flat → OutHold k.place flat
-    → k.place.due ≡ [] → KeepsStarts k → process_of flat pid ≡ Some q → q.holding ≡ Holds s → is_borrower flat.processes pid ≡ false → is_out k.place pid ≡ false → IsSettled k.place s.sid → MayForget (facts_of images) k.place s.sid false k.next_sid (Exec number top)
-    → image_numbered images number ≡ Some named → DataFits named.image → length top ≡ 1024 → Coupled k images image flat → Coupled (change_step (facts_of images) k pid regs e (Exec number top)) images image (apply_change images flat pid regs (Exec number top))
+pub exec_coupled_step : (size : ℕ) (before : Holdings) (k : Kernel) (images : List NamedImage) (image : List ℕ) (flat : FlatState) (pid : ℕ) (regs : Regs) (e : Entry) (number : ℕ) (top : List ℕ) (named : NamedImage) (q : Process) (s : Space)
+    → Sound size (record k { holdings = before }) → IsNumbered flat → OutHold k.place flat
+    → k.place.due ≡ [] → KeepsStarts k → process_of flat pid ≡ Some q → q.holding ≡ Holds s → is_borrower flat.processes pid ≡ false → is_out k.place pid ≡ false → IsSettled k.place s.sid
+    → MayForget (facts_of images) k.place s.sid false k.next_sid (Exec number top)
+    → image_numbered images number ≡ Some named → DataFits named.image → length top ≡ 1024 → Coupled k images image flat
+    → Coupled (change_step (facts_of images) k pid regs e (Exec number top)) images image (apply_change images flat pid regs (Exec number top))
 exec_coupled_step size before k images image flat pid regs e number top named q s so nums outs due starts f h own_space out settled forget im fit whole c =
     subst (λ (x : Kernel). Coupled x images image (apply_change images flat pid regs (Exec number top))) (sym (step_is (facts_of images) k pid regs e (Exec number top) g.proc (HoldsSpace s.sid) g.kept g.life))
     (subst (Coupled (by_life (facts_of images) k (record g.proc { regs = regs }) (HoldsSpace s.sid) e (Exec number top)) images image) (sym (applied images flat pid regs (Exec number top) q s f h))

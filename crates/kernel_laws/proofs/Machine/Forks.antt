@@ -93,7 +93,8 @@ forked_kernel k p sid child next e = record k {
 }
 
 pub fork_coupled_step : (k : Kernel) (images : List NamedImage) (image : List ℕ) (flat : FlatState) (pid : ℕ) (regs : Regs) (e : Entry) (q : Process) (s : Space) → IsNumbered flat → OutHold k.place flat → k.place.due ≡ []
-    → process_of flat pid ≡ Some q → q.holding ≡ Holds s → is_out k.place pid ≡ false → Coupled k images image flat → Coupled (change_step (facts_of images) k pid regs e (Fork flat.next_pid)) images image (apply_change images flat pid regs (Fork flat.next_pid))
+    → process_of flat pid ≡ Some q → q.holding ≡ Holds s → is_out k.place pid ≡ false → Coupled k images image flat
+    → Coupled (change_step (facts_of images) k pid regs e (Fork flat.next_pid)) images image (apply_change images flat pid regs (Fork flat.next_pid))
 fork_coupled_step k images image flat pid regs e q s nums outs due f h out c =
     subst (λ (x : Kernel). Coupled x images image (apply_change images flat pid regs (Fork flat.next_pid))) (sym (step_is (facts_of images) k pid regs e (Fork flat.next_pid) g.proc (HoldsSpace s.sid) g.kept g.life))
     (subst (Coupled (by_life (facts_of images) k kp (HoldsSpace s.sid) e (Fork flat.next_pid)) images image) (sym (applied images flat pid regs (Fork flat.next_pid) q s f h))

@@ -133,7 +133,8 @@ pub record OtherBytes (p : Placement) (b c : Bytes) (w : Page) : Type 0 where
   pub memory : c.memory w ≡ b.memory w
   pub swap : (c.swap w ≡ b.swap w) ⊎ AsideText p w
 
-aside_keeps : (p : Placement) (b c : Bytes) (image v : ℕ) → CouplesPages p b → c.frames ≡ b.frames → c.memory (Text image v) ≡ b.memory (Text image v) → c.file (Text image v) ≡ c.memory (Text image v) → IsThere p (Text image v) → IsAside p (Text image v) → Keeps p c (Text image v)
+aside_keeps : (p : Placement) (b c : Bytes) (image v : ℕ) → CouplesPages p b → c.frames ≡ b.frames → c.memory (Text image v) ≡ b.memory (Text image v) → c.file (Text image v) ≡ c.memory (Text image v)
+    → IsThere p (Text image v) → IsAside p (Text image v) → Keeps p c (Text image v)
 aside_keeps p b c image v k f m t there a = elim a.rests [
   | inl e ↦ subst (KeepsBy p c (Text image v)) (sym e) (subst (λ (d : Option Due). KeepsUnfilled c (Text image v) d Rattle.page_model.specs.Pages.OfImage) (sym (k.text_due image v)) t, a.unsaved)
   | inr e ↦ (let i : IsInFrame b (is_dirty p (Text image v)) e.0 (Text image v) = keeps_at p b (Text image v) (Invalid e.0) k there e.1 in
@@ -170,7 +171,8 @@ other_coupled p b c k due f h text = changed_coupled p p b c k one text k.text_d
 -- Blocks.
 
 -- what isn't given back stays
-given_back_other : (hs : Holdings) (sid image left : ℕ) (owner : Owner) (v : ℕ) → owners.Data sid ≢ owner → owners.Stack sid ≢ owner → (left ≡ 0 → owners.Text image ≢ owner) → block_in (space_given_back hs sid image left) owner v ≡ block_in hs owner v
+given_back_other : (hs : Holdings) (sid image left : ℕ) (owner : Owner) (v : ℕ) → owners.Data sid ≢ owner → owners.Stack sid ≢ owner → (left ≡ 0 → owners.Text image ≢ owner)
+    → block_in (space_given_back hs sid image left) owner v ≡ block_in hs owner v
 given_back_other hs sid image left owner v d s t = go left t
   where
     spaces : block_in (kept (owners.Stack sid) 0 (kept (owners.Data sid) 0 hs)) owner v ≡ block_in hs owner v
@@ -190,7 +192,8 @@ text_owner : (a b : ℕ) → owners.Text a ≡ owners.Text b → a ≡ b
 text_owner a b e = cc
 
 -- each page that is there has the blocks that it had, or is text that nobody shares
-pub unless_blocks : (borrowed : Bool) (hs : Holdings) (p q : Placement) (sid image : ℕ) (w : Page) → Gone p q borrowed sid → TextAside q → IsThere q w → (block_of (given_back_unless borrowed hs sid image (sharers q image)) w ≡ block_of hs w) ⊎ AsideText q w
+pub unless_blocks : (borrowed : Bool) (hs : Holdings) (p q : Placement) (sid image : ℕ) (w : Page) → Gone p q borrowed sid → TextAside q → IsThere q w
+    → (block_of (given_back_unless borrowed hs sid image (sharers q image)) w ≡ block_of hs w) ⊎ AsideText q w
 unless_blocks true hs p q sid image w g a there = inl refl
 unless_blocks false hs p q sid image (Data m v) g a there = inl (given_back_other hs sid image (sharers q image) (owners.Data m) v (λ e. gone_data p q false sid m v g there refl (sym (data_owner sid m e))) (λ e. cc) (λ z e. cc))
 unless_blocks false hs p q sid image (Stack m v) g a there = inl (given_back_other hs sid image (sharers q image) (owners.Stack m) v (λ e. cc) (λ e. gone_stack p q false sid m v g there refl (sym (stack_owner sid m e))) (λ z e. cc))

@@ -67,5 +67,6 @@ pub facts_found : (images : List NamedImage) (number : ℕ) (named : NamedImage)
 facts_found images number named e = facts_same images number ∙ ap facts_in e
 
 -- something is so of an image that is there
-pub image_known : (images : List NamedImage) (number : ℕ) (named : NamedImage) (P : Option Image → Option NamedImage → Type 0) → image_numbered images number ≡ Some named → P (Some named.image.facts) (Some named) → P (facts_numbered (facts_of images) number) (image_numbered images number)
+pub image_known : (images : List NamedImage) (number : ℕ) (named : NamedImage) (P : Option Image → Option NamedImage → Type 0) → image_numbered images number ≡ Some named
+    → P (Some named.image.facts) (Some named) → P (facts_numbered (facts_of images) number) (image_numbered images number)
 image_known images number named P e h = subst (λ (o : Option Image). P o (image_numbered images number)) (sym (facts_found images number named e)) (subst (P (Some named.image.facts)) (sym e) h)

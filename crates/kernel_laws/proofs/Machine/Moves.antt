@@ -130,7 +130,8 @@ regs_kept k l image after true q kept sid u d s r =
     u refl ∙ r ∙ ap (λ (n : ℕ). u_page q.regs n (length (slots_of k.place (Stack sid 0)))) (sym d) ∙ ap (λ (n : ℕ). u_page q.regs (length (slots_of l.place (Data sid 0))) n) (sym s)
 
 -- A machine with the same processes, over an image that has the same u pages, with pages that are coupled.
-pub moved_coupled : (k l : Kernel) (images : List NamedImage) (image after : List ℕ) (flat : FlatState) → l.processes ≡ k.processes → l.next_pid ≡ k.next_pid → l.next_sid ≡ k.next_sid → ((pid : ℕ) → u_stored l after pid ≡ u_stored k image pid)
+pub moved_coupled : (k l : Kernel) (images : List NamedImage) (image after : List ℕ) (flat : FlatState) → l.processes ≡ k.processes → l.next_pid ≡ k.next_pid → l.next_sid ≡ k.next_sid
+    → ((pid : ℕ) → u_stored l after pid ≡ u_stored k image pid)
     → Shaped k.place l.place → CouplesPages l.place (beside_kernel l images after flat) → Coupled k images image flat → Coupled l images after flat
 moved_coupled k l images image after flat ps np ns u s pages c = record {
   tables = tables_kept k l flat (ap (λ (xs : List Proc). map outline_kept xs) ps) np ns s c.tables;
@@ -166,7 +167,8 @@ get_coupled_step size k images image flat q lo n so c r cp =
     (pages_from_apart q lo n) cp.pages) cp
 
 -- The read of a page with its run.
-pub read_coupled_step : (size : ℕ) (k : Kernel) (images : List NamedImage) (image : List ℕ) (flat : FlatState) (q : Page) → Sound size k → CanEnter k.place q → ReadsFrom k.place (source_for (state_of k.place q)) q q → Coupled k images image flat
+pub read_coupled_step : (size : ℕ) (k : Kernel) (images : List NamedImage) (image : List ℕ) (flat : FlatState) (q : Page) → Sound size k → CanEnter k.place q
+    → ReadsFrom k.place (source_for (state_of k.place q)) q q → Coupled k images image flat
     → Coupled (get_step k q (run_in k.place q).lo (run_in k.place q).n) images image flat
 read_coupled_step size k images image flat q so c r cp = get_coupled_step size k images image flat q (run_in k.place q).lo (run_in k.place q).n so (run_in_enters k.place q c) (run_in_reads k.place (beside_kernel k images image flat) q cp.pages r) cp
 

@@ -63,7 +63,8 @@ pub first_same : (x y : Outline) (xs ys : List Outline) → x ∷ xs ≡ y ∷ y
 first_same x y xs ys e = (cc, cc)
 
 -- both tables have the new process in the place of the old one
-pub with_replaced : (ks : List Proc) (fs : List Process) (p : Proc) (q : Process) → map outline_kept ks ≡ map outline_of fs → AllDistinct (map pid_of fs) → outline_kept p ≡ outline_of q → map outline_kept (with_proc ks p) ≡ map outline_of (replaced fs q)
+pub with_replaced : (ks : List Proc) (fs : List Process) (p : Proc) (q : Process) → map outline_kept ks ≡ map outline_of fs → AllDistinct (map pid_of fs) → outline_kept p ≡ outline_of q
+    → map outline_kept (with_proc ks p) ≡ map outline_of (replaced fs q)
 unfolding replaced
 with_replaced [] [] p q e d h = refl
 with_replaced [] (f ∷ fs) p q e d h = absurd cc
@@ -142,7 +143,8 @@ holds_there (p ∷ ps) n q s e h z = elim (cases_eq p.pid n) [
     second (Some x) r h = absurd cc
 
 -- two processes hold different spaces
-pub other_space : (flat : FlatState) (m n : ℕ) (p q : Process) (s t : Space) → IsNumbered flat → m ≢ n → numbered pid_of m flat.processes ≡ Some p → numbered pid_of n flat.processes ≡ Some q → p.holding ≡ Holds s → q.holding ≡ Holds t → t.sid ≢ s.sid
+pub other_space : (flat : FlatState) (m n : ℕ) (p q : Process) (s t : Space) → IsNumbered flat → m ≢ n → numbered pid_of m flat.processes ≡ Some p → numbered pid_of n flat.processes ≡ Some q
+    → p.holding ≡ Holds s → q.holding ≡ Holds t → t.sid ≢ s.sid
 other_space flat m n p q s t nums d ep eq hp hq same =
     let gone : Process = record p { holding = Zombie 0 } in
     let i : p.pid ≡ m = has_number pid_of m flat.processes p ep in
@@ -245,6 +247,7 @@ regs_carried k l images image after flat flat2 n c o r a b ea eb =
     (regs_at k images image flat c n x.0 y.0 x.1 y.1))
 
 -- a process that is in has its registers in its record
-pub regs_in_record : (l : Kernel) (after : List ℕ) (flat2 : FlatState) (n : ℕ) (fp : Process) (kp : Proc) → is_out l.place n ≡ false → numbered pid_of n flat2.processes ≡ Some fp → numbered kept_pid n l.processes ≡ Some kp → kp.regs ≡ fp.regs → RegsAt l after flat2 n
+pub regs_in_record : (l : Kernel) (after : List ℕ) (flat2 : FlatState) (n : ℕ) (fp : Process) (kp : Proc) → is_out l.place n ≡ false → numbered pid_of n flat2.processes ≡ Some fp
+    → numbered kept_pid n l.processes ≡ Some kp → kp.regs ≡ fp.regs → RegsAt l after flat2 n
 regs_in_record l after flat2 n fp kp out ef ek r a b ea eb = subst (λ (z : Bool). KeepsRegs l after z a b.regs (space_of_holding a.holding)) (sym out)
     (ap (λ (x : Proc). x.regs) (same_Some b kp (sym eb ∙ ek)) ∙ r ∙ ap (λ (x : Process). x.regs) (same_Some fp a (sym ef ∙ ea)))

@@ -142,7 +142,8 @@ pub record Back (k : Kernel) (flat : FlatState) (pid : ℕ) (q m fp : Process) (
   pub returned : returned q.pid s (replaced flat.processes fp) ≡ replaced (replaced flat.processes fp) (record m { holding = Holds s })
   pub outlines : map outline_kept (with_proc (map (passes s.sid pid m.pid) k.processes) kp) ≡ map outline_of (replaced (replaced flat.processes fp) (record m { holding = Holds s }))
 
-pub back : (k : Kernel) (flat : FlatState) (pid : ℕ) (q m fp : Process) (kp : Proc) (s : Space) → IsNumbered flat → SameTables k flat → IsLender flat pid s.sid m → (a : Borrowing k flat pid q m s) → fp.pid ≡ q.pid → lends_to q.pid fp.holding ≡ false
+pub back : (k : Kernel) (flat : FlatState) (pid : ℕ) (q m fp : Process) (kp : Proc) (s : Space) → IsNumbered flat → SameTables k flat → IsLender flat pid s.sid m → (a : Borrowing k flat pid q m s)
+    → fp.pid ≡ q.pid → lends_to q.pid fp.holding ≡ false
     → kp.pid ≡ a.step.proc.pid → outline_kept kp ≡ outline_of fp → Back k flat pid q m fp kp s
 back k flat pid q m fp kp s nums c is a fpid holds kpid o = record {
   distinct = distinct;
@@ -183,7 +184,8 @@ back k flat pid q m fp kp s nums c is a fpid holds kpid o = record {
     ]
 
 -- what the processes are once both gave way
-flat_both : (k : Kernel) (flat : FlatState) (pid : ℕ) (q m fp : Process) (s : Space) (n : ℕ) (a : Process) → Borrowing k flat pid q m s → numbered pid_of m.pid (replaced flat.processes fp) ≡ Some m → n ≢ fp.pid → numbered pid_of n (replaced (replaced flat.processes fp) (record m { holding = Holds s })) ≡ Some a
+flat_both : (k : Kernel) (flat : FlatState) (pid : ℕ) (q m fp : Process) (s : Space) (n : ℕ) (a : Process) → Borrowing k flat pid q m s → numbered pid_of m.pid (replaced flat.processes fp) ≡ Some m
+    → n ≢ fp.pid → numbered pid_of n (replaced (replaced flat.processes fp) (record m { holding = Holds s })) ≡ Some a
     → IsLender flat pid s.sid m → (x : Process) × (numbered pid_of n flat.processes ≡ Some x) × (a.regs ≡ x.regs) × (space_of_holding a.holding ≡ space_of_holding x.holding)
 flat_both k flat pid q m fp s n a g lf d e is = elim (cases_eq n m.pid) [
   | inl i ↦ (let same : (let y : Process = record m { holding = Holds s } in y) ≡ a =
@@ -199,7 +201,8 @@ kept_passed ks sid from to n b e =
     (m.0, m.1, ap (λ (x : Proc). x.regs) (sym m.2))
 
 -- A process that borrowed its space enters an image.
-pub exec_back : (size : ℕ) (before : Holdings) (k : Kernel) (images : List NamedImage) (image : List ℕ) (flat : FlatState) (pid : ℕ) (regs : Regs) (e : Entry) (number : ℕ) (top : List ℕ) (named : NamedImage) (q m : Process) (s : Space) → Sound size (record k { holdings = before }) → IsNumbered flat → OutHold k.place flat
+pub exec_back : (size : ℕ) (before : Holdings) (k : Kernel) (images : List NamedImage) (image : List ℕ) (flat : FlatState) (pid : ℕ) (regs : Regs) (e : Entry) (number : ℕ) (top : List ℕ) (named : NamedImage) (q m : Process) (s : Space)
+    → Sound size (record k { holdings = before }) → IsNumbered flat → OutHold k.place flat
     → k.place.due ≡ [] → KeepsStarts k → process_of flat pid ≡ Some q → q.holding ≡ Holds s → IsLender flat pid s.sid m → is_out k.place pid ≡ false → image_numbered images number ≡ Some named → DataFits named.image → length top ≡ 1024
     → Coupled k images image flat → Coupled (change_step (facts_of images) (pass_step k pid m.pid) pid regs e (Exec number top)) images image (apply_change images flat pid regs (Exec number top))
 exec_back size before k images image flat pid regs e number top named q m s so nums outs due starts f h is out im fit whole c =
@@ -313,7 +316,8 @@ exec_back size before k images image flat pid regs e number top named q m s so n
     ]
 
 -- A process that borrowed its space ends.
-pub end_back : (size : ℕ) (k : Kernel) (images : List NamedImage) (image : List ℕ) (flat : FlatState) (pid : ℕ) (regs : Regs) (e : Entry) (status : ℕ) (q m : Process) (s : Space) → Sound size k → IsNumbered flat → OutHold k.place flat → k.place.due ≡ []
+pub end_back : (size : ℕ) (k : Kernel) (images : List NamedImage) (image : List ℕ) (flat : FlatState) (pid : ℕ) (regs : Regs) (e : Entry) (status : ℕ) (q m : Process) (s : Space) → Sound size k
+    → IsNumbered flat → OutHold k.place flat → k.place.due ≡ []
     → process_of flat pid ≡ Some q → q.holding ≡ Holds s → IsLender flat pid s.sid m → Coupled k images image flat
     → Coupled (change_step (facts_of images) (pass_step k pid m.pid) pid regs e (End status)) images image (apply_change images flat pid regs (End status))
 end_back size k images image flat pid regs e status q m s so nums outs due f h is c =

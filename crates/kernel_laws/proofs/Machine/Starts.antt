@@ -108,7 +108,8 @@ page_whole : (name : List ℕ) → length (argument_area (name ∷ [])) ≤ 1024
 page_whole name l = length-append (replicate (1024 - length (argument_area (name ∷ []))) 0) (argument_area (name ∷ [])) ∙ (let z = length-replicate {A = ℕ} (1024 - length (argument_area (name ∷ []))) 0 in omega arith)
 
 -- The start of a run.
-pub start_coupled_all : (A : Inputs) (first : List Starting) (hs : Holdings) (frames : List (List ℕ)) (image : List ℕ) → AreStarting A.images A.first first → ImagesFit A.images → Coupled (start_kernel A first hs frames) A.images image (start_state A)
+pub start_coupled_all : (A : Inputs) (first : List Starting) (hs : Holdings) (frames : List (List ℕ)) (image : List ℕ) → AreStarting A.images A.first first → ImagesFit A.images
+    → Coupled (start_kernel A first hs frames) A.images image (start_state A)
 start_coupled_all A first hs frames image a fit = coupled_of k A.images image flat (tables_of k flat (start_outlines flat.processes) refl refl fits)
     (record { each = each; text = λ i v. refl; text_due = λ i v. due_stacks first 1 (Text i v) (λ sid e. cc) })
     (λ n q p eq ep. subst (λ (o : Bool). Rattle.kernel_model.specs.Coupled.KeepsRegs k image o q p.regs (Rattle.page_model.specs.Place.space_of_holding q.holding)) (sym (all_in first 1 n))

@@ -63,7 +63,8 @@ stay_coupled k images image flat q fp p kp journal d f g h o r out c = coupled_o
         same_regs n a b x = Rattle.kernel_laws.proofs.Machine.Moves.regs_kept k l image image (is_out k.place n) a b.regs (space_of_holding a.holding) (λ z. refl) refl refl x
 
 -- a process that holds nothing goes
-pub gone_coupled : (k : Kernel) (images : List NamedImage) (image : List ℕ) (flat : FlatState) (child : ℕ) (z : Process) → AllDistinct (map pid_of flat.processes) → numbered pid_of child flat.processes ≡ Some z → space_held z.holding ≡ [] → Coupled k images image flat
+pub gone_coupled : (k : Kernel) (images : List NamedImage) (image : List ℕ) (flat : FlatState) (child : ℕ) (z : Process) → AllDistinct (map pid_of flat.processes)
+    → numbered pid_of child flat.processes ≡ Some z → space_held z.holding ≡ [] → Coupled k images image flat
     → Coupled (record k { processes = without_proc k.processes child }) images image (without_process flat child)
 gone_coupled k images image flat child z d f h c = coupled_of l images image after
     (tables_of l after (removed_outlines k.processes flat.processes child t.processes) t.next_pid t.next_sid
@@ -102,7 +103,8 @@ pub outline_is : (a b c d : ℕ) (x y : Rattle.kernel_model.specs.Kernel.Life) (
 outline_is a b c d x y s t e f g h = cc
 
 -- An entry of a process that changes nothing else.
-pub keep_coupled : (k : Kernel) (images : List NamedImage) (image : List ℕ) (flat : FlatState) (pid : ℕ) (regs : Regs) (e : Entry) (q : Process) (s : Space) → IsNumbered flat → process_of flat pid ≡ Some q → q.holding ≡ Holds s → is_out k.place pid ≡ false
+pub keep_coupled : (k : Kernel) (images : List NamedImage) (image : List ℕ) (flat : FlatState) (pid : ℕ) (regs : Regs) (e : Entry) (q : Process) (s : Space) → IsNumbered flat
+    → process_of flat pid ≡ Some q → q.holding ≡ Holds s → is_out k.place pid ≡ false
     → Coupled k images image flat → Coupled (change_step (facts_of images) k pid regs e Keep) images image (apply_change images flat pid regs Keep)
 keep_coupled k images image flat pid regs e q s nums f h out c =
     let g : Stepping k flat pid q s = stepping k flat pid q s c.tables f h in
@@ -114,7 +116,8 @@ keep_coupled k images image flat pid regs e q s nums f h out c =
     (ap (is_out k.place) g.pid_was ∙ out) c))
 
 -- A process falls asleep.
-pub sleep_coupled : (k : Kernel) (images : List NamedImage) (image : List ℕ) (flat : FlatState) (pid : ℕ) (regs : Regs) (e : Entry) (q : Process) (s : Space) → IsNumbered flat → process_of flat pid ≡ Some q → q.holding ≡ Holds s → is_out k.place pid ≡ false
+pub sleep_coupled : (k : Kernel) (images : List NamedImage) (image : List ℕ) (flat : FlatState) (pid : ℕ) (regs : Regs) (e : Entry) (q : Process) (s : Space) → IsNumbered flat
+    → process_of flat pid ≡ Some q → q.holding ≡ Holds s → is_out k.place pid ≡ false
     → Coupled k images image flat → Coupled (change_step (facts_of images) k pid regs e Sleep) images image (apply_change images flat pid regs Sleep)
 sleep_coupled k images image flat pid regs e q s nums f h out c =
     let g : Stepping k flat pid q s = stepping k flat pid q s c.tables f h in
@@ -126,7 +129,8 @@ sleep_coupled k images image flat pid regs e q s nums f h out c =
     (ap (is_out k.place) g.pid_was ∙ out) c))
 
 -- A zombie child goes.
-pub reap_coupled : (k : Kernel) (images : List NamedImage) (image : List ℕ) (flat : FlatState) (pid : ℕ) (regs : Regs) (e : Entry) (child status : ℕ) (q z : Process) (s : Space) → IsNumbered flat → process_of flat pid ≡ Some q → q.holding ≡ Holds s → is_out k.place pid ≡ false
+pub reap_coupled : (k : Kernel) (images : List NamedImage) (image : List ℕ) (flat : FlatState) (pid : ℕ) (regs : Regs) (e : Entry) (child status : ℕ) (q z : Process) (s : Space) → IsNumbered flat
+    → process_of flat pid ≡ Some q → q.holding ≡ Holds s → is_out k.place pid ≡ false
     → process_of flat child ≡ Some z → z.holding ≡ Zombie status → Coupled k images image flat → Coupled (change_step (facts_of images) k pid regs e (Reap child)) images image (apply_change images flat pid regs (Reap child))
 reap_coupled k images image flat pid regs e child status q z s nums f h out fz hz c =
     let g : Stepping k flat pid q s = stepping k flat pid q s c.tables f h in

@@ -149,7 +149,8 @@ ran_coupled k images image flat pid regs e q s f h out c = subst (Coupled l imag
 
 -- Who is out.
 
-pub out_other : (rs : List Residence) (pid n : ℕ) (out : Bool) (at : ℕ) → n ≢ pid → (residence_of (Rattle.page_model.specs.Pages.changed (λ (r : Residence). r.pid) pid (λ (r : Residence). record r { out = out; since = at }) rs) n).out ≡ (residence_of rs n).out
+pub out_other : (rs : List Residence) (pid n : ℕ) (out : Bool) (at : ℕ) → n ≢ pid
+    → (residence_of (Rattle.page_model.specs.Pages.changed (λ (r : Residence). r.pid) pid (λ (r : Residence). record r { out = out; since = at }) rs) n).out ≡ (residence_of rs n).out
 out_other [] pid n out at d = refl
 out_other (r ∷ rs) pid n out at d = go (r.pid == pid) refl (out_other rs pid n out at d)
   where
@@ -279,7 +280,8 @@ u_found size k pid so alive =
     a.found (owners.U pid) 2 0 (w.u_held pid ∙ ap (λ (x : Bool). u_pieces (u_blocks x)) alive) (omega arith) (omega arith)
 
 -- A process goes out: its registers and the sizes of its space are in its u page.
-pub out_coupled : (size : ℕ) (k : Kernel) (images : List NamedImage) (image : List ℕ) (flat : FlatState) (pid : ℕ) (p : Proc) → Sound size k → 512 * size ≤ length image → numbered kept_pid pid k.processes ≡ Some p → has_life p.life ≡ true → AreRegs p.regs
+pub out_coupled : (size : ℕ) (k : Kernel) (images : List NamedImage) (image : List ℕ) (flat : FlatState) (pid : ℕ) (p : Proc) → Sound size k → 512 * size ≤ length image
+    → numbered kept_pid pid k.processes ≡ Some p → has_life p.life ≡ true → AreRegs p.regs
     → IsResident k.place pid → is_out k.place pid ≡ false → Coupled k images image flat
     → Coupled (out_step k pid) images (store_at image (block_in k.holdings (owners.U pid) 0) (u_page p.regs (length (slots_of k.place (Data (space_of_life p.life) 0))) (length (slots_of k.place (Stack (space_of_life p.life) 0))))) flat
 out_coupled size k images image flat pid p so li e alive are resides out c = subst (λ (i : List ℕ). Coupled l images i flat) (sym (ap (λ (o : Option ℕ). store_at image o bytes) block.1))
@@ -365,7 +367,8 @@ out_length size k image pid p d s so li e alive are =
     ap (λ (i : Option ℕ). length (store_at image i (u_page p.regs d s))) b.1 ∙ length-put_blocks image (u_page p.regs d s) b.0 (omega arith) (u_length p.regs d s are)
 
 -- Whatever the record has of a process that is out, the machine stands for the same.
-pub left_coupled : (k : Kernel) (images : List NamedImage) (image : List ℕ) (flat : FlatState) (pid : ℕ) (regs : Regs) → is_out k.place pid ≡ true → Coupled k images image flat → Coupled (record k { processes = map (with_regs pid regs) k.processes }) images image flat
+pub left_coupled : (k : Kernel) (images : List NamedImage) (image : List ℕ) (flat : FlatState) (pid : ℕ) (regs : Regs) → is_out k.place pid ≡ true → Coupled k images image flat
+    → Coupled (record k { processes = map (with_regs pid regs) k.processes }) images image flat
 left_coupled k images image flat pid regs out c = coupled_of l images image flat (tables_of l flat (regs_outlines pid regs k.processes ∙ t.processes) t.next_pid t.next_sid (all_fit k flat t)) c.pages regs_now
   where
     l : Kernel

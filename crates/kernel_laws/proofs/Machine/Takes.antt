@@ -89,7 +89,8 @@ unfolding u_page
 u_some regs d s e = let h = ap length e in let n = length-append (flat_map word_bytes (regs.r ++ codes_of regs ∷ d ∷ s ∷ [])) (replicate 948 0) in let z = length-replicate {A = ℕ} 948 0 in omega arith
 
 -- The pieces that are asked for find their places.
-pub takes_coupled : (size : ℕ) (k : Kernel) (images : List NamedImage) (image : List ℕ) (flat : FlatState) (ws : List Wanted) (new : Holdings) → TextFits images k.place → place_all size k.holdings ws ≡ Ok new → Coupled k images image flat → Coupled (record k { holdings = new }) images image flat
+pub takes_coupled : (size : ℕ) (k : Kernel) (images : List NamedImage) (image : List ℕ) (flat : FlatState) (ws : List Wanted) (new : Holdings) → TextFits images k.place
+    → place_all size k.holdings ws ≡ Ok new → Coupled k images image flat → Coupled (record k { holdings = new }) images image flat
 takes_coupled size k images image flat ws new fits e c = coupled_of l images image flat (record { processes = c.tables.processes; next_pid = c.tables.next_pid; next_sid = c.tables.next_sid; spaces = c.tables.spaces })
     (changed_coupled k.place k.place b (beside_kernel l images image flat) c.pages one c.pages.text c.pages.text_due) regs_now
   where

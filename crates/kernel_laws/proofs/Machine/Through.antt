@@ -45,7 +45,8 @@ use Rattle.kernel_laws.proofs.Machine.Returns.{passes, Borrowing, borrowing, bac
 use Rattle.kernel_laws.proofs.Machine.Images.{image_known}
 
 -- Growth and break.
-pub resize_tables : (k : Kernel) (images : List NamedImage) (flat : FlatState) (pid : ℕ) (regs : Regs) (e : Entry) (d t : ℕ) (q : Process) (s : Space) → IsNumbered flat → process_of flat pid ≡ Some q → q.holding ≡ Holds s → SameTables k flat
+pub resize_tables : (k : Kernel) (images : List NamedImage) (flat : FlatState) (pid : ℕ) (regs : Regs) (e : Entry) (d t : ℕ) (q : Process) (s : Space) → IsNumbered flat → process_of flat pid ≡ Some q
+    → q.holding ≡ Holds s → SameTables k flat
     → SameTables (change_step (facts_of images) k pid regs e (Resize d t)) (apply_change images flat pid regs (Resize d t))
 resize_tables k images flat pid regs e d t q s nums f h c =
     subst (λ (x : Kernel). SameTables x (apply_change images flat pid regs (Resize d t))) (sym (step_is (facts_of images) k pid regs e (Resize d t) g.proc (HoldsSpace s.sid) g.kept g.life))
@@ -311,7 +312,8 @@ pub record EntersTables (k : Kernel) (flat after : FlatState) (next sid number :
   pub gone : borrowed ≡ false → numbered sid_of sid (spaces_of after) ≡ None
 
 -- A new image, where the old space goes unless it was borrowed.
-enter_fits : (k : Kernel) (flat after : FlatState) (next sid number : ℕ) (borrowed : Bool) (named : NamedImage) (top : List ℕ) (ps : List Proc) (journal : List Entry) → EntersTables k flat after next sid number borrowed named top → AllFit flat k.place
+enter_fits : (k : Kernel) (flat after : FlatState) (next sid number : ℕ) (borrowed : Bool) (named : NamedImage) (top : List ℕ) (ps : List Proc) (journal : List Entry)
+    → EntersTables k flat after next sid number borrowed named top → AllFit flat k.place
     → AllFit after (exec_kernel k next sid borrowed number (Some named.image.facts) top ps journal).place
 enter_fits k flat after next sid number borrowed named top ps journal a all = fits
   where
@@ -371,7 +373,8 @@ enter_fits k flat after next sid number borrowed named top ps journal a all = fi
     ]
 
 -- Execve of a process that holds its own space.
-pub exec_tables : (k : Kernel) (images : List NamedImage) (flat : FlatState) (pid : ℕ) (regs : Regs) (e : Entry) (number : ℕ) (top : List ℕ) (named : NamedImage) (q : Process) (s : Space) → IsNumbered flat → process_of flat pid ≡ Some q → q.holding ≡ Holds s → is_borrower flat.processes pid ≡ false
+pub exec_tables : (k : Kernel) (images : List NamedImage) (flat : FlatState) (pid : ℕ) (regs : Regs) (e : Entry) (number : ℕ) (top : List ℕ) (named : NamedImage) (q : Process) (s : Space)
+    → IsNumbered flat → process_of flat pid ≡ Some q → q.holding ≡ Holds s → is_borrower flat.processes pid ≡ false
     → image_numbered images number ≡ Some named → DataFits named.image → length top ≡ 1024 → SameTables k flat → SameTables (change_step (facts_of images) k pid regs e (Exec number top)) (apply_change images flat pid regs (Exec number top))
 exec_tables k images flat pid regs e number top named q s nums f h own_space im fit whole c =
     subst (λ (x : Kernel). SameTables x (apply_change images flat pid regs (Exec number top))) (sym (step_is (facts_of images) k pid regs e (Exec number top) g.proc (HoldsSpace s.sid) g.kept g.life))
@@ -434,7 +437,8 @@ pub record LeavesTables (flat after : FlatState) (sid : ℕ) (borrowed : Bool) :
   pub gone : borrowed ≡ false → numbered sid_of sid (spaces_of after) ≡ None
 
 -- An end, where the space goes unless it was borrowed.
-leave_fits : (k : Kernel) (flat after : FlatState) (pid sid : ℕ) (borrowed : Bool) (ps : List Proc) (journal : List Entry) → LeavesTables flat after sid borrowed → AllFit flat k.place → AllFit after (end_kernel k pid sid borrowed ps journal).place
+leave_fits : (k : Kernel) (flat after : FlatState) (pid sid : ℕ) (borrowed : Bool) (ps : List Proc) (journal : List Entry) → LeavesTables flat after sid borrowed → AllFit flat k.place
+    → AllFit after (end_kernel k pid sid borrowed ps journal).place
 leave_fits k flat after pid sid borrowed ps journal a all = fits
   where
     l : Kernel
@@ -461,7 +465,8 @@ leave_fits k flat after pid sid borrowed ps journal a all = fits
     ]
 
 -- The end of a process that holds its own space.
-pub end_tables : (k : Kernel) (images : List NamedImage) (flat : FlatState) (pid : ℕ) (regs : Regs) (e : Entry) (status : ℕ) (q : Process) (s : Space) → IsNumbered flat → process_of flat pid ≡ Some q → q.holding ≡ Holds s → is_borrower flat.processes pid ≡ false → SameTables k flat
+pub end_tables : (k : Kernel) (images : List NamedImage) (flat : FlatState) (pid : ℕ) (regs : Regs) (e : Entry) (status : ℕ) (q : Process) (s : Space) → IsNumbered flat → process_of flat pid ≡ Some q
+    → q.holding ≡ Holds s → is_borrower flat.processes pid ≡ false → SameTables k flat
     → SameTables (change_step (facts_of images) k pid regs e (End status)) (apply_change images flat pid regs (End status))
 end_tables k images flat pid regs e status q s nums f h own_space c =
     subst (λ (x : Kernel). SameTables x (apply_change images flat pid regs (End status))) (sym (step_is (facts_of images) k pid regs e (End status) g.proc (HoldsSpace s.sid) g.kept g.life))
@@ -531,8 +536,10 @@ end_tables k images flat pid regs e status q s nums f h own_space c =
     }
 
 -- Execve of a borrower.
-pub exec_back_tables : (k : Kernel) (images : List NamedImage) (flat : FlatState) (pid : ℕ) (regs : Regs) (e : Entry) (number : ℕ) (top : List ℕ) (named : NamedImage) (q m : Process) (s : Space) → IsNumbered flat → process_of flat pid ≡ Some q → q.holding ≡ Holds s → IsLender flat pid s.sid m
-    → image_numbered images number ≡ Some named → DataFits named.image → length top ≡ 1024 → SameTables k flat → SameTables (change_step (facts_of images) (pass_step k pid m.pid) pid regs e (Exec number top)) (apply_change images flat pid regs (Exec number top))
+pub exec_back_tables : (k : Kernel) (images : List NamedImage) (flat : FlatState) (pid : ℕ) (regs : Regs) (e : Entry) (number : ℕ) (top : List ℕ) (named : NamedImage) (q m : Process) (s : Space)
+    → IsNumbered flat → process_of flat pid ≡ Some q → q.holding ≡ Holds s → IsLender flat pid s.sid m
+    → image_numbered images number ≡ Some named → DataFits named.image → length top ≡ 1024 → SameTables k flat
+    → SameTables (change_step (facts_of images) (pass_step k pid m.pid) pid regs e (Exec number top)) (apply_change images flat pid regs (Exec number top))
 exec_back_tables k images flat pid regs e number top named q m s nums f h is im fit whole c =
     subst (λ (x : Kernel). SameTables (change_step (facts_of images) x pid regs e (Exec number top)) (apply_change images flat pid regs (Exec number top))) (sym (back_kernel k flat pid q m s a))
     (subst (λ (x : Kernel). SameTables x (apply_change images flat pid regs (Exec number top))) (sym (step_is (facts_of images) k1 pid regs e (Exec number top) (record g.proc { life = New }) New (back_proc k flat pid q m s a) refl))
@@ -611,7 +618,8 @@ exec_back_tables k images flat pid regs e number top named q m s nums f h is im 
     }
 
 -- The end of a borrower.
-pub end_back_tables : (k : Kernel) (images : List NamedImage) (flat : FlatState) (pid : ℕ) (regs : Regs) (e : Entry) (status : ℕ) (q m : Process) (s : Space) → IsNumbered flat → process_of flat pid ≡ Some q → q.holding ≡ Holds s → IsLender flat pid s.sid m → SameTables k flat
+pub end_back_tables : (k : Kernel) (images : List NamedImage) (flat : FlatState) (pid : ℕ) (regs : Regs) (e : Entry) (status : ℕ) (q m : Process) (s : Space) → IsNumbered flat
+    → process_of flat pid ≡ Some q → q.holding ≡ Holds s → IsLender flat pid s.sid m → SameTables k flat
     → SameTables (change_step (facts_of images) (pass_step k pid m.pid) pid regs e (End status)) (apply_change images flat pid regs (End status))
 end_back_tables k images flat pid regs e status q m s nums f h is c =
     subst (λ (x : Kernel). SameTables (change_step (facts_of images) x pid regs e (End status)) (apply_change images flat pid regs (End status))) (sym (back_kernel k flat pid q m s a))
@@ -702,13 +710,15 @@ end_back_tables k images flat pid regs e status q m s nums f h is c =
     }
 
 -- One process gives way to another with the same holding.
-stay_tables : (k : Kernel) (flat : FlatState) (q fp : Process) (kp : Proc) (journal : List Entry) → AllDistinct (map pid_of flat.processes) → numbered pid_of fp.pid flat.processes ≡ Some q → fp.holding ≡ q.holding → outline_kept kp ≡ outline_of fp → SameTables k flat
+stay_tables : (k : Kernel) (flat : FlatState) (q fp : Process) (kp : Proc) (journal : List Entry) → AllDistinct (map pid_of flat.processes) → numbered pid_of fp.pid flat.processes ≡ Some q
+    → fp.holding ≡ q.holding → outline_kept kp ≡ outline_of fp → SameTables k flat
     → SameTables (record k { processes = with_proc k.processes kp; journal = journal }) (with_process flat fp)
 stay_tables k flat q fp kp journal d f h o t = tables_of (record k { processes = with_proc k.processes kp; journal = journal }) (with_process flat fp) (with_replaced k.processes flat.processes kp fp t.processes d o) t.next_pid t.next_sid
     (λ sid. subst (λ (xs : List Space). Fits (numbered sid_of sid xs) (numbered space_number sid k.place.spaces)) (sym (same_held flat.processes q fp f h)) (all_fit k flat t sid))
 
 -- An entry that changes nothing else.
-pub keep_tables : (k : Kernel) (images : List NamedImage) (flat : FlatState) (pid : ℕ) (regs : Regs) (e : Entry) (q : Process) (s : Space) → IsNumbered flat → process_of flat pid ≡ Some q → q.holding ≡ Holds s → SameTables k flat → SameTables (change_step (facts_of images) k pid regs e Keep) (apply_change images flat pid regs Keep)
+pub keep_tables : (k : Kernel) (images : List NamedImage) (flat : FlatState) (pid : ℕ) (regs : Regs) (e : Entry) (q : Process) (s : Space) → IsNumbered flat → process_of flat pid ≡ Some q
+    → q.holding ≡ Holds s → SameTables k flat → SameTables (change_step (facts_of images) k pid regs e Keep) (apply_change images flat pid regs Keep)
 keep_tables k images flat pid regs e q s nums f h c =
     let g : Stepping k flat pid q s = stepping k flat pid q s c f h in
     subst (λ (x : Kernel). SameTables x (apply_change images flat pid regs Keep)) (sym (step_is (facts_of images) k pid regs e Keep g.proc (HoldsSpace s.sid) g.kept g.life))
@@ -717,7 +727,8 @@ keep_tables k images flat pid regs e q s nums f h c =
     (outline_is g.proc.pid q.pid g.proc.parent q.parent g.proc.life (life_of q.holding) g.proc.asleep q.asleep (g.pid_is ∙ sym g.pid_was) g.parent (g.life ∙ sym (ap life_of h)) g.asleep) c))
 
 -- A process falls asleep.
-pub sleep_tables : (k : Kernel) (images : List NamedImage) (flat : FlatState) (pid : ℕ) (regs : Regs) (e : Entry) (q : Process) (s : Space) → IsNumbered flat → process_of flat pid ≡ Some q → q.holding ≡ Holds s → SameTables k flat → SameTables (change_step (facts_of images) k pid regs e Sleep) (apply_change images flat pid regs Sleep)
+pub sleep_tables : (k : Kernel) (images : List NamedImage) (flat : FlatState) (pid : ℕ) (regs : Regs) (e : Entry) (q : Process) (s : Space) → IsNumbered flat → process_of flat pid ≡ Some q
+    → q.holding ≡ Holds s → SameTables k flat → SameTables (change_step (facts_of images) k pid regs e Sleep) (apply_change images flat pid regs Sleep)
 sleep_tables k images flat pid regs e q s nums f h c =
     let g : Stepping k flat pid q s = stepping k flat pid q s c f h in
     subst (λ (x : Kernel). SameTables x (apply_change images flat pid regs Sleep)) (sym (step_is (facts_of images) k pid regs e Sleep g.proc (HoldsSpace s.sid) g.kept g.life))
@@ -726,7 +737,8 @@ sleep_tables k images flat pid regs e q s nums f h c =
     (outline_is g.proc.pid q.pid g.proc.parent q.parent g.proc.life (life_of q.holding) true true (g.pid_is ∙ sym g.pid_was) g.parent (g.life ∙ sym (ap life_of h)) refl) c))
 
 -- A zombie child goes.
-pub reap_tables : (k : Kernel) (images : List NamedImage) (flat : FlatState) (pid : ℕ) (regs : Regs) (e : Entry) (child status : ℕ) (q z : Process) (s : Space) → IsNumbered flat → process_of flat pid ≡ Some q → q.holding ≡ Holds s → process_of flat child ≡ Some z → z.holding ≡ Zombie status → SameTables k flat
+pub reap_tables : (k : Kernel) (images : List NamedImage) (flat : FlatState) (pid : ℕ) (regs : Regs) (e : Entry) (child status : ℕ) (q z : Process) (s : Space) → IsNumbered flat
+    → process_of flat pid ≡ Some q → q.holding ≡ Holds s → process_of flat child ≡ Some z → z.holding ≡ Zombie status → SameTables k flat
     → SameTables (change_step (facts_of images) k pid regs e (Reap child)) (apply_change images flat pid regs (Reap child))
 reap_tables k images flat pid regs e child status q z s nums f h fz hz c =
     let g : Stepping k flat pid q s = stepping k flat pid q s c f h in

@@ -123,7 +123,8 @@ unfolding apply_writes
 written flat pid w q s e h = ap (wrote_if flat (w ∷ [])) e ∙ ap (wrote_by flat q (w ∷ [])) h
 
 pub write_coupled : (size : ℕ) (k : Kernel) (images : List NamedImage) (image : List ℕ) (flat : FlatState) (pid : ℕ) (q : Process) (s : Space) (w : ByteWrite) (v : Page) (f at : ℕ) → Sound size k → k.place.due ≡ [] → IsNumbered flat
-    → process_of flat pid ≡ Some q → q.holding ≡ Holds s → IsByteOf s (address_in s w.address) v at → state_of k.place v ≡ Valid f → Coupled k images image flat → Coupled (write_step k v f at w.byte) images image (apply_writes flat pid (w ∷ []))
+    → process_of flat pid ≡ Some q → q.holding ≡ Holds s → IsByteOf s (address_in s w.address) v at → state_of k.place v ≡ Valid f → Coupled k images image flat
+    → Coupled (write_step k v f at w.byte) images image (apply_writes flat pid (w ∷ []))
 write_coupled size k images image flat pid q s w v f at so due nums fq hq is e c = subst (Coupled l images image) (sym (written flat pid w q s fq hq))
     (coupled_of l images image after (tables_of l after (t.processes ∙ sym (replaced_outlines flat.processes q p found (ap (λ (n : ℕ). outline n) i.sid ∙ sym (ap outline_held hq)))) t.next_pid t.next_sid fits)
     (alike_coupled (touch k.place v) c1 (beside_kernel l images image after)
@@ -249,7 +250,8 @@ unfolding apply_writes
 written_all flat pid ws q s e h = ap (wrote_if flat ws) e ∙ ap (wrote_by flat q ws) h
 
 -- Bytes are written one after another.
-pub writes_one : (flat : FlatState) (pid : ℕ) (w : ByteWrite) (ws : List ByteWrite) (q : Process) (s : Space) → process_of flat pid ≡ Some q → q.holding ≡ Holds s → apply_writes flat pid (w ∷ ws) ≡ apply_writes (apply_writes flat pid (w ∷ [])) pid ws
+pub writes_one : (flat : FlatState) (pid : ℕ) (w : ByteWrite) (ws : List ByteWrite) (q : Process) (s : Space) → process_of flat pid ≡ Some q → q.holding ≡ Holds s
+    → apply_writes flat pid (w ∷ ws) ≡ apply_writes (apply_writes flat pid (w ∷ [])) pid ws
 writes_one flat pid w ws q s e h =
     let p : Process = record q { holding = Holds (put s w) } in
     let r : Process = record q { holding = Holds (puts (put s w) ws) } in

@@ -148,7 +148,8 @@ both_needed k next (owners.Text image) t =
     let w = while_of (sharers k.place image + sharers next.place image) (2 * length (slots_of k.place (Text image 0))) in
     (w.0, both_while (sharers k.place image) (sharers next.place image) (2 * length (slots_of k.place (Text image 0))) (2 * length (slots_of next.place (Text image 0))) (ap (λ (n : ℕ). 2 * n) (t image)) ∙ w.1)
 
-pub found_taken : (size : ℕ) (k next : Kernel) (before : Holdings) (ws : List Wanted) → OwnsBlocks size (lives k.processes) k.place before → SameTexts k next → place_all size before ws ≡ Ok k.holdings → AsksFor k next ws → HasTaken size k next
+pub found_taken : (size : ℕ) (k next : Kernel) (before : Holdings) (ws : List Wanted) → OwnsBlocks size (lives k.processes) k.place before → SameTexts k next → place_all size before ws ≡ Ok k.holdings
+    → AsksFor k next ws → HasTaken size k next
 found_taken size k next before ws o t e a =
     let r : AreApart size k.holdings = found_apart size before k.holdings ws (record { pieces = o.book.pieces; apart = o.book.apart })
     (wanted_whole ws (λ owner. subst AllWhole (sym (a owner)) (drop_whole (length (needed k owner)) (needed next owner) (needed_whole next owner)))) e in

@@ -232,7 +232,8 @@ enter_texts : (p : Placement) (sid image : ℕ) (facts : Option Image) (i : ℕ)
 enter_texts p sid image None i = refl
 enter_texts p sid image (Some facts) i = refl
 
-pub change_texts : (images : List Image) (p : Placement) (pid sid : ℕ) (borrowed : Bool) (next at : ℕ) (change : Change) (i : ℕ) → length (slots_of (place_change images p pid sid borrowed next at change) (Text i 0)) ≡ length (slots_of p (Text i 0))
+pub change_texts : (images : List Image) (p : Placement) (pid sid : ℕ) (borrowed : Bool) (next at : ℕ) (change : Change) (i : ℕ)
+    → length (slots_of (place_change images p pid sid borrowed next at change) (Text i 0)) ≡ length (slots_of p (Text i 0))
 change_texts images p pid sid borrowed next at Keep i = refl
 change_texts images p pid sid borrowed next at (Resize d s) i = drop_all_length (dropped_pages p sid d s) p (Text i 0)
 change_texts images p pid sid borrowed next at (Fork child) i = refl

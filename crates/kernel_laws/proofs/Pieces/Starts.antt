@@ -170,7 +170,8 @@ text_later p earlier pid (a ∷ more) i l = parts p earlier pid a more (owners.T
 while_more : (n blocks : ℕ) → text_pieces blocks ≡ text_pieces_while (1 + n) blocks
 while_more n blocks = ap (λ (k : ℕ). text_pieces_while k blocks) (let z : suc n ≡ 1 + n = omega arith in z)
 
-text_all : (p : Placement) (earlier : List ℕ) (pid : ℕ) (first : List Starting) (i : ℕ) → times i earlier ≡ 0 → wanted_lengths (owners.Text i) (start_asks p earlier pid first) ≡ text_pieces_while (sharers_in i (spaces_from pid first)) (2 * length (slots_of p (Text i 0)))
+text_all : (p : Placement) (earlier : List ℕ) (pid : ℕ) (first : List Starting) (i : ℕ) → times i earlier ≡ 0
+    → wanted_lengths (owners.Text i) (start_asks p earlier pid first) ≡ text_pieces_while (sharers_in i (spaces_from pid first)) (2 * length (slots_of p (Text i 0)))
 text_all p earlier pid [] i z = refl
 text_all p earlier pid (a ∷ more) i z = parts p earlier pid a more (owners.Text i) ∙ go (a.image == i) refl (text_all p (a.image ∷ earlier) (pid + 1) more i)
   where
@@ -211,7 +212,8 @@ text_whole (suc n) pages = whole_from (text_pieces (2 * pages)) (λ i m e. piece
 
 -- Where the pieces of the first processes have found their places one after another, frames, blocks and text have their
 -- owners.
-pub start_found : (size : ℕ) (images : List Image) (first : List Starting) (frames : ℕ) (hs : Holdings) → place_all size [] (start_asks (start_placement images first frames) [] 1 first) ≡ Ok hs → OneOwner size (is_started 1 first) (start_placement images first frames) hs
+pub start_found : (size : ℕ) (images : List Image) (first : List Starting) (frames : ℕ) (hs : Holdings) → place_all size [] (start_asks (start_placement images first frames) [] 1 first) ≡ Ok hs
+    → OneOwner size (is_started 1 first) (start_placement images first frames) hs
 start_found size images first frames hs e = record {
   frames = start_owner images first frames;
   blocks = owns_from size (is_started 1 first) p hs

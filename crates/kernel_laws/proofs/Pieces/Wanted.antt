@@ -211,7 +211,8 @@ last_lives (q ∷ qs) c u h = go (q.pid == c.pid) u (λ k. last_lives qs c k h)
 
 -- Spaces that are there.
 
-absent_changed : (sid t : ℕ) (change : SpacePages → SpacePages) → ((s : SpacePages) → space_number (change s) ≡ space_number s) → (ss : List SpacePages) → numbered space_number sid (changed space_number t change ss) ≡ None → numbered space_number sid ss ≡ None
+absent_changed : (sid t : ℕ) (change : SpacePages → SpacePages) → ((s : SpacePages) → space_number (change s) ≡ space_number s) → (ss : List SpacePages)
+    → numbered space_number sid (changed space_number t change ss) ≡ None → numbered space_number sid ss ≡ None
 absent_changed sid t change k [] e = refl
 absent_changed sid t change k (s ∷ ss) e = go (space_number s == t) (space_number s == sid) refl e (absent_changed sid t change k ss)
   where
@@ -673,7 +674,8 @@ change_asked images k x e change a c m = go change c m
     go (End status) c m = nothing_asked k (change_by images k x e (End status)) (record { of_data = unless_most.of_data; of_stack = unless_most.of_stack; texts = unless_most.texts; sharing = unless_most.sharing }) (living (End status) m (λ n h. h))
 
 -- The pieces that are asked for are those that a change takes.
-pub asked_for : (images : List Image) (k : Kernel) (pid : ℕ) (regs : Regs) (e : Entry) (change : Change) → MayChange images k pid change → WantsThese k pid change → AsksFor k (change_step images k pid regs e change) (asked images k pid change)
+pub asked_for : (images : List Image) (k : Kernel) (pid : ℕ) (regs : Regs) (e : Entry) (change : Change) → MayChange images k pid change → WantsThese k pid change
+    → AsksFor k (change_step images k pid regs e change) (asked images k pid change)
 asked_for images k pid regs e change c w = go (find pid k.processes) refl c.can w.may
   where
     go : (o : Option Proc) → find pid k.processes ≡ o → CanChange k.place (space_of_life (life_of_proc o)) (gave_back (life_of_proc o)) k.next_sid change

@@ -77,7 +77,8 @@ one_more sid (s ∷ ss) d n = go (s.sid == sid) refl n (one_more sid ss d.1)
     go false e k ih = later (s.image == image_in (numbered space_number sid ss)) (sharers_in (image_in (numbered space_number sid ss)) ss) (sharers_in (image_in (numbered space_number sid ss)) (rest_of sid ss)) (ih k)
 
 -- a settled space has its text at rest where it is the last sharer
-settled_text : (p : Placement) (sid : ℕ) → OwnsFrames p → AllDistinct (map space_number p.spaces) → HasSpace p sid → is_settled p sid ≡ true → sharers_in (image_of p sid) (rest_of sid p.spaces) ≡ 0 → (v : ℕ) → AtRest (state_of p (Text (image_of p sid) v))
+settled_text : (p : Placement) (sid : ℕ) → OwnsFrames p → AllDistinct (map space_number p.spaces) → HasSpace p sid → is_settled p sid ≡ true → sharers_in (image_of p sid) (rest_of sid p.spaces) ≡ 0
+    → (v : ℕ) → AtRest (state_of p (Text (image_of p sid) v))
 settled_text p sid o d h e z v = unnamed_rests p (is_of_text (image_of p sid)) (Text (image_of p sid) v) o (eq-eqb (image_of p sid) (image_of p sid) refl) unnamed
   where
     last : sharers p (image_of p sid) ≡ 1
@@ -104,7 +105,8 @@ rest_more sid j (s ∷ ss) rs = go (s.sid == sid) (rest_more sid j ss rs)
     go false l = omega arith
 
 -- and so once a new space is there
-exec_forgets : (p : Placement) (next image sid : ℕ) (facts : Option Image) → OwnsFrames p → AllDistinct (map space_number p.spaces) → AllDistinct (map space_number (enter_image p next image facts).spaces) → HasSpace p sid → next ≢ sid → is_settled p sid ≡ true → CanForget (enter_image p next image facts) sid
+exec_forgets : (p : Placement) (next image sid : ℕ) (facts : Option Image) → OwnsFrames p → AllDistinct (map space_number p.spaces)
+    → AllDistinct (map space_number (enter_image p next image facts).spaces) → HasSpace p sid → next ≢ sid → is_settled p sid ≡ true → CanForget (enter_image p next image facts) sid
 exec_forgets p next image sid None o d f h n e = forgets p sid o d h e
 exec_forgets p next image sid (Some facts) o d f h n e = record {
   image = has_image sid q.spaces f;
@@ -201,5 +203,6 @@ first_below n (a ∷ more) = (
   subst (λ (k : ℕ). AllBelow k (map space_number (spaces_from (n + 1) more))) (let e : (n + 1) + length more ≡ n + suc (length more) = omega arith in e) (first_below (n + 1) more),
 )
 
-pub start_numbers : (images : List Image) (first : List Starting) (frames : ℕ) → AllDistinct (map space_number (start_placement images first frames).spaces) × AllBelow (1 + length first) (map space_number (start_placement images first frames).spaces)
+pub start_numbers : (images : List Image) (first : List Starting) (frames : ℕ)
+    → AllDistinct (map space_number (start_placement images first frames).spaces) × AllBelow (1 + length first) (map space_number (start_placement images first frames).spaces)
 start_numbers images first frames = (first_differ 1 first, first_below 1 first)

@@ -34,7 +34,8 @@ differs : (a b : ℕ) → a ≢ b → (a == b) ≡ false
 differs a b n = grind (arith, nat_tests)
 
 -- what is wanted is what each owner needs then
-begin_asked : (k : Kernel) (found : Holdings) (image : ℕ) (name : List ℕ) (facts : Image) → IsNew k.place k.next_pid → IsUnused k.processes k.next_pid → AsksFor k (begin_step k found image name facts) (begin_asks k.place k.next_pid image facts)
+begin_asked : (k : Kernel) (found : Holdings) (image : ℕ) (name : List ℕ) (facts : Image) → IsNew k.place k.next_pid → IsUnused k.processes k.next_pid
+    → AsksFor k (begin_step k found image name facts) (begin_asks k.place k.next_pid image facts)
 begin_asked k found image name facts new unused = by
   where
     pid : ℕ

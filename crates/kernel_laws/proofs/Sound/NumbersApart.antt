@@ -144,7 +144,8 @@ pub enter_fine : (n : ℕ) (p : Placement) (image : ℕ) (facts : Option Image) 
 enter_fine n p image None f = fine_more n (map space_number p.spaces) f
 enter_fine n p image (Some facts) f = add_fine n p (new_pages n image facts) refl f
 
-pub change_fine : (images : List Image) (p : Placement) (pid sid : ℕ) (borrowed : Bool) (n at : ℕ) (change : Change) → FineSpaces n p → FineSpaces (Rattle.kernel_model.specs.ChangeStep.sid_after n change) (place_change images p pid sid borrowed n at change)
+pub change_fine : (images : List Image) (p : Placement) (pid sid : ℕ) (borrowed : Bool) (n at : ℕ) (change : Change) → FineSpaces n p
+    → FineSpaces (Rattle.kernel_model.specs.ChangeStep.sid_after n change) (place_change images p pid sid borrowed n at change)
 change_fine images p pid sid borrowed n at Keep f = f
 change_fine images p pid sid borrowed n at (Resize d s) f = same_fine n p (resize p sid d s) (resize_numbers p sid d s) f
 change_fine images p pid sid borrowed n at (Fork child) f = add_fine n p (record {
@@ -188,7 +189,8 @@ left_fine : (n : ℕ) (gone : Bool) (ps : List Proc) (p : Proc) (status : ℕ) �
 left_fine n true ps p status f = without_fine n ps p.pid f
 left_fine n false ps p status f = map_fine n (λ (q : Proc). record q { asleep = cond (q.pid == p.parent) false q.asleep }) (with_proc ps record p { life = Ended status }) (λ q. refl) (with_fine n ps record p { life = Ended status } f)
 
-procs_fine : (n : ℕ) (ps : List Proc) (x : Proc) (next : ℕ) (k : Kernel) (change : Change) → k.next_pid ≡ n → TakesNext k change → Fine n (pids ps) → Fine (Rattle.kernel_model.specs.ChangeStep.pid_after n change) (pids (procs_after ps x next change))
+procs_fine : (n : ℕ) (ps : List Proc) (x : Proc) (next : ℕ) (k : Kernel) (change : Change) → k.next_pid ≡ n → TakesNext k change → Fine n (pids ps)
+    → Fine (Rattle.kernel_model.specs.ChangeStep.pid_after n change) (pids (procs_after ps x next change))
 procs_fine n ps x next k Keep e t f = with_fine n ps x f
 procs_fine n ps x next k (Resize d s) e t f = with_fine n ps x f
 procs_fine n ps x next k (Fork child) e t f = child_fine n (with_proc ps x) (child_proc x child (HoldsSpace next)) (t ∙ e) (with_fine n ps x f)

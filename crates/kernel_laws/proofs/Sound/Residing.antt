@@ -122,7 +122,8 @@ Lasting (End status) pid n = n ≢ pid
 Lasting change pid n = Unit {0}
 
 -- a child is a resident, and each other that lasts stays one
-change_resides : (images : List Image) (p : Placement) (pid sid : ℕ) (b : Bool) (next at : ℕ) (change : Change) (n : ℕ) → IsChild change n ⊎ (IsResident p n × Lasting change pid n) → IsResident (place_change images p pid sid b next at change) n
+change_resides : (images : List Image) (p : Placement) (pid sid : ℕ) (b : Bool) (next at : ℕ) (change : Change) (n : ℕ) → IsChild change n ⊎ (IsResident p n × Lasting change pid n)
+    → IsResident (place_change images p pid sid b next at change) n
 change_resides images p pid sid b next at Keep n (inl c) = absurd c
 change_resides images p pid sid b next at Keep n (inr h) = h.0
 change_resides images p pid sid b next at (Resize d s) n (inl c) = absurd c
@@ -181,7 +182,8 @@ lived ps x next n change a o e = elim (child_or change n) [
 ]
 
 -- each process that lives resides behind a change of one that lived before it
-pub change_reside : (images : List Image) (k : Kernel) (x : Proc) (e : Entry) (change : Change) → lives k.processes x.pid ≡ true → AllDistinct (map (λ (p : Proc). p.pid) k.processes) → EachResides k → EachResides (change_by images k x e change)
+pub change_reside : (images : List Image) (k : Kernel) (x : Proc) (e : Entry) (change : Change) → lives k.processes x.pid ≡ true → AllDistinct (map (λ (p : Proc). p.pid) k.processes) → EachResides k
+    → EachResides (change_by images k x e change)
 change_reside images k x e change a d r = λ n l. change_resides images k.place x.pid (space_of_life x.life) (gave_back x.life) k.next_sid (length (append k.journal e)) change n (elim (lived k.processes x k.next_sid n change a (one_each k.processes d) l) [
   | inl c ↦ inl c
   | inr h ↦ inr (r n h.0, h.1)

@@ -36,7 +36,8 @@ use Rattle.page_laws.proofs.Moves.Transfers.{entry_count}
 -- Entries.
 
 -- A paging entry, after which at most 16 transfers are in flight.
-pub entry_sound : (size : ℕ) (k : Kernel) (locked : List Page) (e : Entry) → Sound size k → CanPlace k.place e → EntryShared k.place e → length (Placement.transfers (place_entry locked (length (append k.journal e)) k.place e)) ≤ 16 → Sound size (plain_step k locked e)
+pub entry_sound : (size : ℕ) (k : Kernel) (locked : List Page) (e : Entry) → Sound size k → CanPlace k.place e → EntryShared k.place e
+    → length (Placement.transfers (place_entry locked (length (append k.journal e)) k.place e)) ≤ 16 → Sound size (plain_step k locked e)
 entry_sound size k locked e s c sh l =
     let o : OneOwner size (lives k.processes) k.place k.holdings = s.owner in
     let h = entry_keep locked (length (append k.journal e)) k.place e o.frames in

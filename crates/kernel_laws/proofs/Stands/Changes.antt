@@ -109,7 +109,8 @@ write_stands images k flat pid q s w v f at fq hq st = subst (Stands images (wri
 
 -- An entry of a process, by the process of the machine.
 by_step : (images : List NamedImage) (k : Kernel) (flat : FlatState) (pid : ℕ) (regs : Regs) (e : Entry) (change : Change) (q : Process) (s : Space) → SameTables k flat → process_of flat pid ≡ Some q → q.holding ≡ Holds s
-    → ((kp : Proc) → kp.pid ≡ pid → Stands images (by_life (facts_of images) k kp (HoldsSpace s.sid) e change) (changed images flat (record q { regs = regs }) s change)) → Stands images (change_step (facts_of images) k pid regs e change) (apply_change images flat pid regs change)
+    → ((kp : Proc) → kp.pid ≡ pid → Stands images (by_life (facts_of images) k kp (HoldsSpace s.sid) e change) (changed images flat (record q { regs = regs }) s change))
+    → Stands images (change_step (facts_of images) k pid regs e change) (apply_change images flat pid regs change)
 by_step images k flat pid regs e change q s t f h make =
     let g : Stepping k flat pid q s = stepping k flat pid q s t f h in
     subst (λ (x : Kernel). Stands images x (apply_change images flat pid regs change)) (sym (step_is (facts_of images) k pid regs e change g.proc (HoldsSpace s.sid) g.kept g.life))
@@ -120,12 +121,14 @@ pub keep_stands : (images : List NamedImage) (k : Kernel) (flat : FlatState) (pi
 keep_stands images k flat pid regs e q s t f h out st = by_step images k flat pid regs e Keep q s t f h (λ kp i.
     still_out images k (by_life (facts_of images) k kp (HoldsSpace s.sid) e Keep) flat (with_process flat (record q { regs = regs })) refl refl (λ i. refl) (one_out k.place flat (record q { regs = regs }) pid ((found_at flat pid q f).0) out) st)
 
-pub sleep_stands : (images : List NamedImage) (k : Kernel) (flat : FlatState) (pid : ℕ) (regs : Regs) (e : Entry) (q : Process) (s : Space) → SameTables k flat → process_of flat pid ≡ Some q → q.holding ≡ Holds s → is_out k.place pid ≡ false
+pub sleep_stands : (images : List NamedImage) (k : Kernel) (flat : FlatState) (pid : ℕ) (regs : Regs) (e : Entry) (q : Process) (s : Space) → SameTables k flat → process_of flat pid ≡ Some q
+    → q.holding ≡ Holds s → is_out k.place pid ≡ false
     → Stands images k flat → Stands images (change_step (facts_of images) k pid regs e Sleep) (apply_change images flat pid regs Sleep)
 sleep_stands images k flat pid regs e q s t f h out st = by_step images k flat pid regs e Sleep q s t f h (λ kp i.
     still_out images k (by_life (facts_of images) k kp (HoldsSpace s.sid) e Sleep) flat (with_process flat (record q { regs = regs; asleep = true })) refl refl (λ i. refl) (one_out k.place flat (record q { regs = regs; asleep = true }) pid ((found_at flat pid q f).0) out) st)
 
-pub reap_stands : (images : List NamedImage) (k : Kernel) (flat : FlatState) (pid : ℕ) (regs : Regs) (e : Entry) (child status : ℕ) (q z : Process) (s : Space) → SameTables k flat → process_of flat pid ≡ Some q → q.holding ≡ Holds s → is_out k.place pid ≡ false → process_of flat child ≡ Some z
+pub reap_stands : (images : List NamedImage) (k : Kernel) (flat : FlatState) (pid : ℕ) (regs : Regs) (e : Entry) (child status : ℕ) (q z : Process) (s : Space) → SameTables k flat
+    → process_of flat pid ≡ Some q → q.holding ≡ Holds s → is_out k.place pid ≡ false → process_of flat child ≡ Some z
     → z.holding ≡ Zombie status → Stands images k flat → Stands images (change_step (facts_of images) k pid regs e (Reap child)) (apply_change images flat pid regs (Reap child))
 reap_stands images k flat pid regs e child status q z s t f h out fz hz st = by_step images k flat pid regs e (Reap child) q s t f h (λ kp i.
     still_out images k (by_life (facts_of images) k kp (HoldsSpace s.sid) e (Reap child)) flat (with_process (without_process flat child) (record q { regs = regs })) refl refl (λ i. refl)
@@ -138,7 +141,8 @@ reap_stands images k flat pid regs e child status q z s t f h out fz hz st = by_
     dead : Held flat.processes child → ⊥
     dead y = let w : false ≡ true = sym (ap holds_some (sym (found_is flat.processes child) ∙ fz) ∙ ap holds_space hz) ∙ y in cc
 
-pub resize_stands : (images : List NamedImage) (k : Kernel) (flat : FlatState) (pid : ℕ) (regs : Regs) (e : Entry) (d t : ℕ) (q : Process) (s : Space) → SameTables k flat → process_of flat pid ≡ Some q → q.holding ≡ Holds s → is_out k.place pid ≡ false
+pub resize_stands : (images : List NamedImage) (k : Kernel) (flat : FlatState) (pid : ℕ) (regs : Regs) (e : Entry) (d t : ℕ) (q : Process) (s : Space) → SameTables k flat
+    → process_of flat pid ≡ Some q → q.holding ≡ Holds s → is_out k.place pid ≡ false
     → Stands images k flat → Stands images (change_step (facts_of images) k pid regs e (Resize d t)) (apply_change images flat pid regs (Resize d t))
 resize_stands images k flat pid regs e d t q s tb f h out st = by_step images k flat pid regs e (Resize d t) q s tb f h (λ kp i.
     let sh : Shaped k.place (drop_all k.place (dropped_pages k.place s.sid d t)) = drop_all_shaped (dropped_pages k.place s.sid d t) k.place in
@@ -150,7 +154,8 @@ resize_stands images k flat pid regs e d t q s tb f h out st = by_step images k 
 none_kept : (images : List NamedImage) (k : Kernel) (flat : FlatState) → k.place.due ≡ [] → Stands images k flat → (w : Page) → has_start k.starts w ≡ false
 none_kept images k flat due st w = st.starts w (ap (λ (ds : List Due). is_start (due_at ds w)) due)
 
-pub fork_stands : (images : List NamedImage) (k : Kernel) (flat : FlatState) (pid : ℕ) (regs : Regs) (e : Entry) (q : Process) (s : Space) → SameTables k flat → k.place.due ≡ [] → process_of flat pid ≡ Some q → q.holding ≡ Holds s → is_out k.place pid ≡ false
+pub fork_stands : (images : List NamedImage) (k : Kernel) (flat : FlatState) (pid : ℕ) (regs : Regs) (e : Entry) (q : Process) (s : Space) → SameTables k flat → k.place.due ≡ []
+    → process_of flat pid ≡ Some q → q.holding ≡ Holds s → is_out k.place pid ≡ false
     → Stands images k flat → Stands images (change_step (facts_of images) k pid regs e (Fork flat.next_pid)) (apply_change images flat pid regs (Fork flat.next_pid))
 fork_stands images k flat pid regs e q s t due f h out st = by_step images k flat pid regs e (Fork flat.next_pid) q s t f h (λ kp i. record {
   starts = λ w _. none_kept images k flat due st w;
@@ -230,7 +235,8 @@ has_pushed (x ∷ ss) s w e d = go (same_page x.page w) e (has_pushed ss s w)
     go true h ih = absurd cc
     go false h ih = ih h d
 
-exec_stands_core : (images : List NamedImage) (k : Kernel) (flat after : FlatState) (next sid number : ℕ) (borrowed : Bool) (named : NamedImage) (top : List ℕ) (ps : List Proc) (journal : List Entry) → k.place.due ≡ [] → Stands images k flat
+exec_stands_core : (images : List NamedImage) (k : Kernel) (flat after : FlatState) (next sid number : ℕ) (borrowed : Bool) (named : NamedImage) (top : List ℕ) (ps : List Proc) (journal : List Entry)
+    → k.place.due ≡ [] → Stands images k flat
     → ((n : ℕ) → is_out k.place n ≡ true → Held flat.processes n → Held after.processes n) → Stands images (exec_kernel k next sid borrowed number (Some named.image.facts) top ps journal) after
 exec_stands_core images k flat after next sid number borrowed named top ps journal due st h = record {
   starts = λ w e. has_pushed k.starts (record { page = Stack next 0; bytes = top }) w (none_kept images k flat due st w) (λ i. due_there w i e);
@@ -253,7 +259,8 @@ exec_stands_core images k flat after next sid number borrowed named top ps journ
         ∙ ap (λ (b : Bool). is_start (cond b (Some (Start (Stack next 0))) None)) (same_page_self (Stack next 0)) in
         let z : true ≡ false = sym a ∙ e in cc
 
-pub exec_stands : (images : List NamedImage) (k : Kernel) (flat : FlatState) (pid : ℕ) (regs : Regs) (e : Entry) (number : ℕ) (top : List ℕ) (named : NamedImage) (q : Process) (s : Space) → SameTables k flat → k.place.due ≡ [] → process_of flat pid ≡ Some q → q.holding ≡ Holds s
+pub exec_stands : (images : List NamedImage) (k : Kernel) (flat : FlatState) (pid : ℕ) (regs : Regs) (e : Entry) (number : ℕ) (top : List ℕ) (named : NamedImage) (q : Process) (s : Space)
+    → SameTables k flat → k.place.due ≡ [] → process_of flat pid ≡ Some q → q.holding ≡ Holds s
     → is_out k.place pid ≡ false → image_numbered images number ≡ Some named → Stands images k flat → Stands images (change_step (facts_of images) k pid regs e (Exec number top)) (apply_change images flat pid regs (Exec number top))
 exec_stands images k flat pid regs e number top named q s t due f h out im st = by_step images k flat pid regs e (Exec number top) q s t f h (λ kp i.
     image_known images number named (λ (f : Option Image) (o : Option NamedImage). Stands images (exec_kernel k k.next_sid s.sid false number f top (with_proc k.processes (record kp { life = HoldsSpace k.next_sid })) (append k.journal e)) (entered flat (record q { regs = regs }) s number o top)) im
@@ -261,7 +268,8 @@ exec_stands images k flat pid regs e number top named q s t due f h out im st = 
     (λ n o y. held_returned (replaced flat.processes (record q { regs = regs; holding = Holds (space_with flat.next_sid number named.image top) })) q.pid s n
     ((one_out k.place flat (record q { regs = regs; holding = Holds (space_with flat.next_sid number named.image top) }) pid ((found_at flat pid q f).0) out n o).1 y))))
 
-pub exec_back_stands : (images : List NamedImage) (k : Kernel) (flat : FlatState) (pid : ℕ) (regs : Regs) (e : Entry) (number : ℕ) (top : List ℕ) (named : NamedImage) (q m : Process) (s : Space) → SameTables k flat → k.place.due ≡ [] → process_of flat pid ≡ Some q
+pub exec_back_stands : (images : List NamedImage) (k : Kernel) (flat : FlatState) (pid : ℕ) (regs : Regs) (e : Entry) (number : ℕ) (top : List ℕ) (named : NamedImage) (q m : Process) (s : Space)
+    → SameTables k flat → k.place.due ≡ [] → process_of flat pid ≡ Some q
     → q.holding ≡ Holds s → IsLender flat pid s.sid m → is_out k.place pid ≡ false → image_numbered images number ≡ Some named → Stands images k flat
     → Stands images (change_step (facts_of images) (pass_step k pid m.pid) pid regs e (Exec number top)) (apply_change images flat pid regs (Exec number top))
 exec_back_stands images k flat pid regs e number top named q m s c due f h is out im st =
@@ -304,12 +312,14 @@ end_stands_core images k flat q regs s status pid sid borrowed ps journal i st =
     g : Gone k.place p1 borrowed sid
     g = gone_unless borrowed k.place sid
 
-pub end_stands : (images : List NamedImage) (k : Kernel) (flat : FlatState) (pid : ℕ) (regs : Regs) (e : Entry) (status : ℕ) (q : Process) (s : Space) → SameTables k flat → process_of flat pid ≡ Some q → q.holding ≡ Holds s → Stands images k flat
+pub end_stands : (images : List NamedImage) (k : Kernel) (flat : FlatState) (pid : ℕ) (regs : Regs) (e : Entry) (status : ℕ) (q : Process) (s : Space) → SameTables k flat
+    → process_of flat pid ≡ Some q → q.holding ≡ Holds s → Stands images k flat
     → Stands images (change_step (facts_of images) k pid regs e (End status)) (apply_change images flat pid regs (End status))
 end_stands images k flat pid regs e status q s t f h st = by_step images k flat pid regs e (End status) q s t f h (λ kp i.
     end_stands_core images k flat q regs s status kp.pid s.sid false (left_procs (kp.parent == 0) (orphaned_procs k.processes kp.pid) kp status) (append k.journal e) (i ∙ sym (found_at flat pid q f).0) st)
 
-pub end_back_stands : (images : List NamedImage) (k : Kernel) (flat : FlatState) (pid : ℕ) (regs : Regs) (e : Entry) (status : ℕ) (q m : Process) (s : Space) → SameTables k flat → process_of flat pid ≡ Some q → q.holding ≡ Holds s → IsLender flat pid s.sid m → Stands images k flat
+pub end_back_stands : (images : List NamedImage) (k : Kernel) (flat : FlatState) (pid : ℕ) (regs : Regs) (e : Entry) (status : ℕ) (q m : Process) (s : Space) → SameTables k flat
+    → process_of flat pid ≡ Some q → q.holding ≡ Holds s → IsLender flat pid s.sid m → Stands images k flat
     → Stands images (change_step (facts_of images) (pass_step k pid m.pid) pid regs e (End status)) (apply_change images flat pid regs (End status))
 end_back_stands images k flat pid regs e status q m s c f h is st =
     let a : Borrowing k flat pid q m s = borrowing k flat pid q m s c f h is in

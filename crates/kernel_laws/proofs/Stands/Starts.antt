@@ -105,7 +105,8 @@ start_lent A = record {
 
 -- What is kept is due.
 
-starts_due : (images : List NamedImage) (numbers : List ℕ) (first : List Starting) (n : ℕ) (w : Page) → AreStarting images numbers first → is_start (due_at (due_from n first) w) ≡ false → has_start (map start_of (held (start_processes images n numbers))) w ≡ false
+starts_due : (images : List NamedImage) (numbers : List ℕ) (first : List Starting) (n : ℕ) (w : Page) → AreStarting images numbers first → is_start (due_at (due_from n first) w) ≡ false
+    → has_start (map start_of (held (start_processes images n numbers))) w ≡ false
 starts_due images [] [] n w a e = refl
 starts_due images [] (y ∷ first) n w a e = absurd a
 starts_due images (x ∷ numbers) [] n w a e = absurd a

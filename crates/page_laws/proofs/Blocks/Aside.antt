@@ -140,7 +140,8 @@ pub places_found : (size : ℕ) (lives : ℕ → Bool) (p : Placement) (hs : Hol
 places_found size lives p hs q o e = has_blocks size lives p hs q o.blocks (needs_there p q e) (needs_shared p q o.aside e)
 
 -- the same sizes and sharers, the same holdings
-pub blocks_still : (size : ℕ) (lives : ℕ → Bool) (p q : Placement) (hs : Holdings) → ((w : Page) → length (slots_of q w) ≡ length (slots_of p w)) → ((image : ℕ) → sharers q image ≡ sharers p image) → OwnsBlocks size lives p hs → OwnsBlocks size lives q hs
+pub blocks_still : (size : ℕ) (lives : ℕ → Bool) (p q : Placement) (hs : Holdings) → ((w : Page) → length (slots_of q w) ≡ length (slots_of p w)) → ((image : ℕ) → sharers q image ≡ sharers p image)
+    → OwnsBlocks size lives p hs → OwnsBlocks size lives q hs
 blocks_still size lives p q hs s sh o = record {
   book = o.book;
   data_held = λ sid. o.data_held sid ∙ ap (λ (n : ℕ). pieces (2 * n)) (sym (s (Data sid 0)));

@@ -25,7 +25,8 @@ use Rattle.page_laws.proofs.Ownership.Changes.{dropped_pages}
 use Rattle.aout_image.specs.declared.Image.{Image}
 
 -- the same texts, what was free free, and no image shared less
-pub text_still : (p q : Placement) → ((image n : ℕ) → slot_of q (Text image n) ≡ slot_of p (Text image n)) → ((f : ℕ) → 0 < times f p.free → 0 < times f q.free) → ((image : ℕ) → sharers q image ≡ 0 → sharers p image ≡ 0) → TextAside p → TextAside q
+pub text_still : (p q : Placement) → ((image n : ℕ) → slot_of q (Text image n) ≡ slot_of p (Text image n)) → ((f : ℕ) → 0 < times f p.free → 0 < times f q.free)
+    → ((image : ℕ) → sharers q image ≡ 0 → sharers p image ≡ 0) → TextAside p → TextAside q
 text_still p q s fr sh a image n z =
     let was : IsAside p (Text image n) = a image n (sh image z) in
     record {
@@ -89,11 +90,13 @@ add_aside p x due a = text_still p (record p { spaces = p.spaces ++ x ∷ []; du
 
 -- A space that goes, and its text with the last sharer.
 
-image_changed_by : (sid image t : ℕ) (change : SpacePages → SpacePages) (b : Bool) (s : SpacePages) (ss rs : List SpacePages) → (change s).sid ≡ s.sid → (change s).image ≡ s.image → (s.sid ≡ sid → s.image ≡ image) → HasImage sid image ss → HasImage sid image rs → HasImage sid image (cond b (change s ∷ ss) (s ∷ rs))
+image_changed_by : (sid image t : ℕ) (change : SpacePages → SpacePages) (b : Bool) (s : SpacePages) (ss rs : List SpacePages) → (change s).sid ≡ s.sid → (change s).image ≡ s.image
+    → (s.sid ≡ sid → s.image ≡ image) → HasImage sid image ss → HasImage sid image rs → HasImage sid image (cond b (change s ∷ ss) (s ∷ rs))
 image_changed_by sid image t change true s ss rs a i h k g = ((λ e. i ∙ h (sym a ∙ e)), k)
 image_changed_by sid image t change false s ss rs a i h k g = (h, g)
 
-image_changed : (sid image t : ℕ) (change : SpacePages → SpacePages) → ((x : SpacePages) → (change x).sid ≡ x.sid) → ((x : SpacePages) → (change x).image ≡ x.image) → (ss : List SpacePages) → HasImage sid image ss → HasImage sid image (changed space_number t change ss)
+image_changed : (sid image t : ℕ) (change : SpacePages → SpacePages) → ((x : SpacePages) → (change x).sid ≡ x.sid) → ((x : SpacePages) → (change x).image ≡ x.image) → (ss : List SpacePages)
+    → HasImage sid image ss → HasImage sid image (changed space_number t change ss)
 image_changed sid image t change a i [] h = tt
 image_changed sid image t change a i (s ∷ ss) h = image_changed_by sid image t change (space_number s == t) s ss (changed space_number t change ss) (a s) (i s) h.0 h.1 (image_changed sid image t change a i ss h.1)
 
@@ -289,7 +292,8 @@ rest_changed_by : (sid j t : ℕ) (change : SpacePages → SpacePages) (b : Bool
 rest_changed_by sid j t change true s ss rs a i h = filtered_by sid j s (change s) (rest_of sid ss) (rest_of sid ss) a i refl
 rest_changed_by sid j t change false s ss rs a i h = filtered_by sid j s s (rest_of sid ss) (rest_of sid rs) refl refl h
 
-rest_changed : (sid j t : ℕ) (change : SpacePages → SpacePages) → ((x : SpacePages) → (change x).sid ≡ x.sid) → ((x : SpacePages) → (change x).image ≡ x.image) → (ss : List SpacePages) → sharers_in j (rest_of sid (changed space_number t change ss)) ≡ sharers_in j (rest_of sid ss)
+rest_changed : (sid j t : ℕ) (change : SpacePages → SpacePages) → ((x : SpacePages) → (change x).sid ≡ x.sid) → ((x : SpacePages) → (change x).image ≡ x.image) → (ss : List SpacePages)
+    → sharers_in j (rest_of sid (changed space_number t change ss)) ≡ sharers_in j (rest_of sid ss)
 rest_changed sid j t change a i [] = refl
 rest_changed sid j t change a i (s ∷ ss) = rest_changed_by sid j t change (space_number s == t) s ss (changed space_number t change ss) (a s) (i s) (rest_changed sid j t change a i ss)
 
@@ -339,7 +343,8 @@ enter_image_aside : (p : Placement) (sid image : ℕ) (facts : Option Image) →
 enter_image_aside p sid image None a = a
 enter_image_aside p sid image (Some facts) a = add_aside p (new_pages sid image facts) (enter_space p sid image facts).due a
 
-pub place_change_aside : (images : List Image) (p : Placement) (pid sid : ℕ) (borrowed : Bool) (next_sid at : ℕ) (change : Change) → TextAside p → MayForget images p sid borrowed next_sid change → TextAside (place_change images p pid sid borrowed next_sid at change)
+pub place_change_aside : (images : List Image) (p : Placement) (pid sid : ℕ) (borrowed : Bool) (next_sid at : ℕ) (change : Change) → TextAside p → MayForget images p sid borrowed next_sid change
+    → TextAside (place_change images p pid sid borrowed next_sid at change)
 place_change_aside images p pid sid borrowed next_sid at Keep a c = a
 place_change_aside images p pid sid borrowed next_sid at (Resize d s) a c = resize_aside p sid d s a
 place_change_aside images p pid sid borrowed next_sid at (Fork child) a c = λ i n z. let k = add_aside p (record {

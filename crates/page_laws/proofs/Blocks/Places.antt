@@ -49,7 +49,8 @@ pub stored_other : (image bytes : List ℕ) (x : ℕ) (o : Option ℕ) → 512 *
 stored_other image bytes x None l lb n = refl
 stored_other image bytes x (Some y) l lb n = blocks_at-put_blocks_other image bytes x y l lb (n y refl)
 
-pub store_other : (size : ℕ) (hs : Holdings) (image bytes : List ℕ) (q r : Page) (x : ℕ) → IsBook size hs → 512 * size ≤ length image → length bytes ≡ 1024 → block_of hs q ≡ Some x → r ≢ q → stored hs (store_at image (block_of hs q) bytes) r ≡ stored hs image r
+pub store_other : (size : ℕ) (hs : Holdings) (image bytes : List ℕ) (q r : Page) (x : ℕ) → IsBook size hs → 512 * size ≤ length image → length bytes ≡ 1024 → block_of hs q ≡ Some x → r ≢ q
+    → stored hs (store_at image (block_of hs q) bytes) r ≡ stored hs image r
 store_other size hs image bytes q r x book l lb e n =
     let w = page_within size hs q x book e in
     ap (λ (o : Option ℕ). stored_at (store_at image o bytes) (block_of hs r)) e

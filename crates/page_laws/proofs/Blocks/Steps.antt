@@ -57,7 +57,8 @@ shared_as p q (Data sid n) h s = tt
 shared_as p q (Stack sid n) h s = tt
 shared_as p q (Text image n) h s = subst (λ (k : ℕ). 0 < k) (sym (h image)) s
 
-get_all_aside : (qs : List Page) (p : Placement) (source : Source) (demanded : Page) → OwnsFrames p → EachPage (CanEnter p) qs → AllApart qs → IsOpen p.transfers (Reads source demanded) → TextAside p → EachPage (IsShared p) qs → TextAside (get_all p (Reads source demanded) qs)
+get_all_aside : (qs : List Page) (p : Placement) (source : Source) (demanded : Page) → OwnsFrames p → EachPage (CanEnter p) qs → AllApart qs → IsOpen p.transfers (Reads source demanded) → TextAside p
+    → EachPage (IsShared p) qs → TextAside (get_all p (Reads source demanded) qs)
 get_all_aside [] p source demanded o c d latest a s = a
 get_all_aside (v ∷ qs) p source demanded o c d latest a s =
     get_all_aside qs (get_one p (Reads source demanded) v) source demanded (get_owner p source demanded v o c.0 latest)

@@ -64,7 +64,8 @@ get_lasts p e v w o n = go p.free
       | inr h ↦ inr (ap frame_of (put_other_state (evict p f) v (Coming f) (mark_of p v) w n) ∙ h)
     ]
 
-get_all_lasts : (qs : List Page) (p : Placement) (source : Source) (demanded w : Page) → OwnsFrames p → EachPage (CanEnter p) qs → Rattle.page_model.specs.Conditions.AllApart qs → Rattle.page_laws.proofs.Lists.Parts.IsOpen p.transfers (Reads source demanded)
+get_all_lasts : (qs : List Page) (p : Placement) (source : Source) (demanded w : Page) → OwnsFrames p → EachPage (CanEnter p) qs → Rattle.page_model.specs.Conditions.AllApart qs
+    → Rattle.page_laws.proofs.Lists.Parts.IsOpen p.transfers (Reads source demanded)
     → EachPage (λ r. w ≢ r) qs → Lasts p (get_all p (Reads source demanded) qs) w
 get_all_lasts [] p source demanded w o c a latest n = inl refl
 get_all_lasts (v ∷ qs) p source demanded w o c a latest n = lasts_both p (get_one p (Reads source demanded) v) (get_all (get_one p (Reads source demanded) v) (Reads source demanded) qs) w
@@ -74,7 +75,8 @@ get_all_lasts (v ∷ qs) p source demanded w o c a latest n = lasts_both p (get_
     a.1 (Rattle.page_laws.proofs.Ownership.Runs.get_open_still p (Reads source demanded) v latest) n.1)
 
 -- The beginning of a read leaves each page that isn't of its run the same.
-pub get_run_same : (p : Placement) (source : Source) (demanded : Page) (qs : List Page) (b : Bytes) (w : Page) → OwnsFrames p → EachPage (CanEnter p) qs → Rattle.page_model.specs.Conditions.AllApart qs → EachPage (λ r. w ≢ r) qs → SamePage p (get_run p (Reads source demanded) qs) b b w
+pub get_run_same : (p : Placement) (source : Source) (demanded : Page) (qs : List Page) (b : Bytes) (w : Page) → OwnsFrames p → EachPage (CanEnter p) qs
+    → Rattle.page_model.specs.Conditions.AllApart qs → EachPage (λ r. w ≢ r) qs → SamePage p (get_run p (Reads source demanded) qs) b b w
 get_run_same p source demanded qs b w o c a n = lasts_same p (get_run p (Reads source demanded) qs) b w
     (get_all_lasts qs (begin p (Reads source demanded)) source demanded w (begin_owner p (Reads source demanded) o)
     (Rattle.page_laws.proofs.Lists.Runs.each_page_imp (CanEnter p) (CanEnter (begin p (Reads source demanded))) qs c (λ q h. record { there = h.there; frameless = h.frameless })) a
@@ -215,7 +217,8 @@ named_in p test q f (x ∷ ms) o t h m l = elim (cases_eq x.frame f) [
 ]
 
 -- a page in flight is named by a transfer
-flight_named : (p : Placement) (test : Page → Bool) (q : Page) (f : ℕ) → OwnsFrames p → test q ≡ true → frame_of (state_of p q) ≡ Some f → seats 0 (state_of p q) ≡ 0 → (state_of p q ≡ Invalid f → ⊥) → names_page test (parts_of p.transfers) ≡ true
+flight_named : (p : Placement) (test : Page → Bool) (q : Page) (f : ℕ) → OwnsFrames p → test q ≡ true → frame_of (state_of p q) ≡ Some f → seats 0 (state_of p q) ≡ 0 → (state_of p q ≡ Invalid f → ⊥)
+    → names_page test (parts_of p.transfers) ≡ true
 flight_named p test q f o t e z n = named_in p test q f (parts_of p.transfers) o t (o.names q f e) o.moves (elim (zero_or (times f p.free)) [
   | inl y ↦ (let a = once_at p q f o e in let b : seats (times f p.free) (state_of p q) ≡ 0 = ap (λ (k : ℕ). seats k (state_of p q)) y ∙ z in omega arith)
   | inr y ↦ absurd (n (let k : IsListed p f q = o.listed f q y (o.names q f e) in k.state))

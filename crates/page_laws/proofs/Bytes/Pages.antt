@@ -178,7 +178,8 @@ coming_keeps p b FromFile demanded v k there h =
     let u : KeepsUnfilled b v (due_at p.due v) (filling_of p v) × IsUnsaved v (mark_of p v) = keeps_at p b v Unfilled k there h.0 in
     (subst (λ (x : Filling). KeepsUnfilled b v None x) h.1 (subst (λ (d : Option Due). KeepsUnfilled b v d (filling_of p v)) h.2 u.0), from_file v (mark_of p v) demanded u.1 h.3)
 
-pub get_coupled : (p : Placement) (source : Source) (demanded v : Page) (b : Bytes) → OwnsFrames p → CanEnter p v → IsOpen p.transfers (Reads source demanded) → ReadsFrom p source demanded v → CouplesPages p b → CouplesPages (get_one p (Reads source demanded) v) b
+pub get_coupled : (p : Placement) (source : Source) (demanded v : Page) (b : Bytes) → OwnsFrames p → CanEnter p v → IsOpen p.transfers (Reads source demanded) → ReadsFrom p source demanded v
+    → CouplesPages p b → CouplesPages (get_one p (Reads source demanded) v) b
 get_coupled p source demanded v b o c latest h k = go p.free refl
   where
     go : (fr : List ℕ) → p.free ≡ fr → CouplesPages (get_at p (Reads source demanded) v fr) b
@@ -368,7 +369,8 @@ land_read_coupled p source demanded x rest b o l tokens k = go (same_page x.page
 
 -- A user write.
 
-pub touch_coupled : (p : Placement) (v : Page) (f : ℕ) (b c : Bytes) (bytes : List ℕ) → OwnsFrames p → state_of p v ≡ Valid f → IsWritable v → p.due ≡ [] → length b.frames ≡ length p.holds → WritesBoth b c v f bytes → CouplesPages p b → CouplesPages (touch p v) c
+pub touch_coupled : (p : Placement) (v : Page) (f : ℕ) (b c : Bytes) (bytes : List ℕ) → OwnsFrames p → state_of p v ≡ Valid f → IsWritable v → p.due ≡ [] → length b.frames ≡ length p.holds
+    → WritesBoth b c v f bytes → CouplesPages p b → CouplesPages (touch p v) c
 touch_coupled p v f b c bytes o e w due tokens wr k = go v w refl
   where
     frame : IsFrame p f

@@ -83,7 +83,8 @@ reading_still p source demanded v w o n r = record {
   from = reads_still p (Reads source demanded) source demanded v w o n r.enters r.from;
 }
 
-get_all_coupled : (qs : List Page) (p : Placement) (source : Source) (demanded : Page) (b : Bytes) → OwnsFrames p → EachPage (Reading p source demanded) qs → AllApart qs → IsOpen p.transfers (Reads source demanded) → CouplesPages p b → CouplesPages (get_all p (Reads source demanded) qs) b
+get_all_coupled : (qs : List Page) (p : Placement) (source : Source) (demanded : Page) (b : Bytes) → OwnsFrames p → EachPage (Reading p source demanded) qs → AllApart qs
+    → IsOpen p.transfers (Reads source demanded) → CouplesPages p b → CouplesPages (get_all p (Reads source demanded) qs) b
 get_all_coupled [] p source demanded b o c a latest k = k
 get_all_coupled (v ∷ qs) p source demanded b o c a latest k =
     let r : Reading p source demanded v = c.0 in
@@ -96,7 +97,8 @@ from_begin p e FromSwap demanded v h = h
 from_begin p e FromFile demanded v h = h
 
 -- The beginning of a read.
-pub get_run_coupled : (p : Placement) (source : Source) (demanded : Page) (qs : List Page) (b : Bytes) → OwnsFrames p → EachPage (Reading p source demanded) qs → AllApart qs → CouplesPages p b → CouplesPages (get_run p (Reads source demanded) qs) b
+pub get_run_coupled : (p : Placement) (source : Source) (demanded : Page) (qs : List Page) (b : Bytes) → OwnsFrames p → EachPage (Reading p source demanded) qs → AllApart qs → CouplesPages p b
+    → CouplesPages (get_run p (Reads source demanded) qs) b
 get_run_coupled p source demanded qs b o c a k =
     get_all_coupled qs (begin p (Reads source demanded)) source demanded b (begin_owner p (Reads source demanded) o)
     (each_page_imp (Reading p source demanded) (Reading (begin p (Reads source demanded)) source demanded) qs c
@@ -175,7 +177,8 @@ land_holds p source demanded x rest = go (Rattle.flat_state.specs.PageNames.same
     go true = refl
     go false = refl
 
-landed_reads : (xs : List Part) (p : Placement) (source : Source) (demanded : Page) (ts : List Transfer) (b : Bytes) → OwnsFrames p → p.transfers ≡ record { errand = Reads source demanded; parts = xs } ∷ ts → length b.frames ≡ length p.holds → CouplesPages p b
+landed_reads : (xs : List Part) (p : Placement) (source : Source) (demanded : Page) (ts : List Transfer) (b : Bytes) → OwnsFrames p
+    → p.transfers ≡ record { errand = Reads source demanded; parts = xs } ∷ ts → length b.frames ≡ length p.holds → CouplesPages p b
     → CouplesPages (land_all p (Reads source demanded) xs ts) (bytes_read b source xs)
 landed_reads [] p source demanded ts b o h tokens k = still_coupled p (record p { transfers = ts }) b (λ w. refl) refl (sym (ap parts_of h)) k
 landed_reads (x ∷ xs) p source demanded ts b o h tokens k =

@@ -138,7 +138,8 @@ exec_due true p next image sid (Some facts) e new a = enter_due p next image fac
 exec_due false p next image sid (Some facts) e new a = given_due (enter_space p next image facts) sid (λ q d h. start_others sid next q d (a refl) h) (enter_due p next image facts new)
 
 -- A change that comes while nothing is due.
-pub change_due : (images : List Image) (p : Placement) (pid sid : ℕ) (borrowed : Bool) (next at : ℕ) (change : Change) → p.due ≡ [] → CanChange p sid borrowed next change → ApartFrom sid borrowed next change → DueStand (place_change images p pid sid borrowed next at change)
+pub change_due : (images : List Image) (p : Placement) (pid sid : ℕ) (borrowed : Bool) (next at : ℕ) (change : Change) → p.due ≡ [] → CanChange p sid borrowed next change
+    → ApartFrom sid borrowed next change → DueStand (place_change images p pid sid borrowed next at change)
 change_due images p pid sid borrowed next at Keep e c a = none_due p e
 change_due images p pid sid borrowed next at (Resize d s) e c a = none_due (place_change images p pid sid borrowed next at (Resize d s)) ((drop_all_rest (dropped_pages p sid d s) p).1 ∙ e)
 change_due images p pid sid borrowed next at (Fork child) e c a = resident_due (fork_space p sid next) (place_change images p pid sid borrowed next at (Fork child)).residents (fork_due p sid next c)

@@ -138,7 +138,8 @@ get_all_fills D (v ∷ qs) p source demanded o c a latest n = fills_both D p (ge
     (each_page_both (CanEnter p) (λ r. r ≢ v) (CanEnter (get_one p (Reads source demanded) v)) qs c.1 a.0 (λ x h k. get_enters_still p (Reads source demanded) v x o k h))
     a.1 (get_open_still p (Reads source demanded) v latest) n.1)
 
-get_run_fills : (D : Page → Type 0) (p : Placement) (source : Source) (demanded : Page) (qs : List Page) → OwnsFrames p → EachPage (CanEnter p) qs → AllApart qs → EachPage (λ r. D r → ⊥) qs → KeepsFills D p (get_run p (Reads source demanded) qs)
+get_run_fills : (D : Page → Type 0) (p : Placement) (source : Source) (demanded : Page) (qs : List Page) → OwnsFrames p → EachPage (CanEnter p) qs → AllApart qs → EachPage (λ r. D r → ⊥) qs
+    → KeepsFills D p (get_run p (Reads source demanded) qs)
 get_run_fills D p source demanded qs o c a n =
     let t = get_all_fills D qs (begin p (Reads source demanded)) source demanded (begin_owner p (Reads source demanded) o)
     (each_page_imp (CanEnter p) (CanEnter (begin p (Reads source demanded))) qs c (λ q h. record { there = h.there; frameless = h.frameless })) a (begin_open p.transfers (Reads source demanded)) n in

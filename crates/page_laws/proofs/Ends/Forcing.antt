@@ -275,7 +275,8 @@ walk_back : (n d f : ℕ) → 0 < d → walk n (d - 1) (next_frame n f) ≡ walk
 walk_back n zero f l = absurd (omega arith)
 walk_back n (suc d) f l = ap (λ (k : ℕ). walk n k (next_frame n f)) (let h : suc d - 1 ≡ d = omega arith in h)
 
-shifted : (p q : Placement) (locked : List Page) (m d f : ℕ) → Passed p q locked p.front → 0 < m → 0 < d → walk (length p.holds) (d - 1) f ≡ p.front → reach p locked (m - 1) (d - 1) f < m - 1 → reach q locked m d f ≤ reach p locked (m - 1) (d - 1) f
+shifted : (p q : Placement) (locked : List Page) (m d f : ℕ) → Passed p q locked p.front → 0 < m → 0 < d → walk (length p.holds) (d - 1) f ≡ p.front → reach p locked (m - 1) (d - 1) f < m - 1
+    → reach q locked m d f ≤ reach p locked (m - 1) (d - 1) f
 shifted p q locked zero d f s lm ld e l = absurd (omega arith)
 shifted p q locked (suc m) zero f s lm ld e l = absurd (omega arith)
 shifted p q locked (suc m) (suc d) f s lm ld e l =

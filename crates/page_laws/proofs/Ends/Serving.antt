@@ -315,7 +315,8 @@ put_lands p v s m q was l there h = elim (page_cases q v) [
   ]
 ]
 
-land_lands : (p : Placement) (e : Errand) (x : Part) (rest : List Transfer) (q : Page) (was : PageState) → IsThere p q → ((state_of p q ≡ was) ⊎ Landed (state_of p q)) → (state_of (land p e x rest) q ≡ was) ⊎ Landed (state_of (land p e x rest) q)
+land_lands : (p : Placement) (e : Errand) (x : Part) (rest : List Transfer) (q : Page) (was : PageState) → IsThere p q → ((state_of p q ≡ was) ⊎ Landed (state_of p q))
+    → (state_of (land p e x rest) q ≡ was) ⊎ Landed (state_of (land p e x rest) q)
 land_lands p Writes x rest q was there h = put_lands p x.page (Invalid x.frame) (written_mark x.page) q was tt there h
 land_lands p (Reads source demanded) x rest q was there h = go (same_page x.page demanded)
   where
@@ -331,7 +332,8 @@ land_there p (Reads source demanded) x rest q there = go (same_page x.page deman
     go true = let h = put_length p x.page (Valid x.frame) (arrived_mark source x.page (mark_of p x.page)) q in omega arith
     go false = let h = put_length p x.page (Invalid x.frame) (mark_of p x.page) q in omega arith
 
-pub land_all_lands : (xs : List Part) (p : Placement) (e : Errand) (ts : List Transfer) (q : Page) (was : PageState) → IsThere p q → ((state_of p q ≡ was) ⊎ Landed (state_of p q)) → (state_of (land_all p e xs ts) q ≡ was) ⊎ Landed (state_of (land_all p e xs ts) q)
+pub land_all_lands : (xs : List Part) (p : Placement) (e : Errand) (ts : List Transfer) (q : Page) (was : PageState) → IsThere p q → ((state_of p q ≡ was) ⊎ Landed (state_of p q))
+    → (state_of (land_all p e xs ts) q ≡ was) ⊎ Landed (state_of (land_all p e xs ts) q)
 land_all_lands [] p e ts q was there h = h
 land_all_lands (x ∷ xs) p e ts q was there h = land_all_lands xs (land p e x (record { errand = e; parts = xs } ∷ ts)) e ts q was
     (land_there p e x (record { errand = e; parts = xs } ∷ ts) q there) (land_lands p e x (record { errand = e; parts = xs } ∷ ts) q was there h)
@@ -351,7 +353,8 @@ in_flight p q f o e n z t = elim (zero_or (times f p.free)) [
     zero_or m = grind arith
 
 -- the oldest transfer brings a page in flight nearer
-done_rank : (p : Placement) (locked : List Page) (q : Page) → IsThere p q → (p.transfers ≡ [] → ⊥) → ((r : Placement) (x : Filling) → rank_by r locked x (state_of p q) ≡ 2 + length r.transfers) → rank (done p) locked q < 2 + length p.transfers
+done_rank : (p : Placement) (locked : List Page) (q : Page) → IsThere p q → (p.transfers ≡ [] → ⊥) → ((r : Placement) (x : Filling) → rank_by r locked x (state_of p q) ≡ 2 + length r.transfers)
+    → rank (done p) locked q < 2 + length p.transfers
 done_rank p locked q there n is = go p.transfers refl
   where
     go : (ts : List Transfer) → p.transfers ≡ ts → rank (done_of p ts) locked q < 2 + length ts

@@ -75,7 +75,8 @@ get_spares p e v locked o c = go p.free refl
     go [] h = λ w i k. k
     go (f ∷ rest) h = enter_spares p v f (Coming f) (mark_of p v) (join_last p.transfers e (record { page = v; frame = f })) locked o (some_free p f rest h) c.frameless
 
-get_all_spares : (qs : List Page) (p : Placement) (source : Source) (demanded : Page) (locked : List Page) → OwnsFrames p → EachPage (CanEnter p) qs → AllApart qs → IsOpen p.transfers (Reads source demanded) → Spares p (get_all p (Reads source demanded) qs) locked
+get_all_spares : (qs : List Page) (p : Placement) (source : Source) (demanded : Page) (locked : List Page) → OwnsFrames p → EachPage (CanEnter p) qs → AllApart qs
+    → IsOpen p.transfers (Reads source demanded) → Spares p (get_all p (Reads source demanded) qs) locked
 get_all_spares [] p source demanded locked o c a latest = λ w i h. h
 get_all_spares (v ∷ qs) p source demanded locked o c a latest =
     spares_both p (get_one p (Reads source demanded) v) (get_all (get_one p (Reads source demanded) v) (Reads source demanded) qs) locked

@@ -74,7 +74,8 @@ enter_settled p next_sid image sid (Some facts) o n k = record {
   stack_rests = λ v. subst AtRest (sym ((Rattle.page_laws.proofs.Ownership.Changes.enter_alike p next_sid image facts n (Stack sid v)).0)) (k.stack_rests v);
 }
 
-pub place_change_owner : (images : List Image) (p : Placement) (pid sid : ℕ) (borrowed : Bool) (next_sid at : ℕ) (change : Change) → OwnsFrames p → CanChange p sid borrowed next_sid change → OwnsFrames (place_change images p pid sid borrowed next_sid at change)
+pub place_change_owner : (images : List Image) (p : Placement) (pid sid : ℕ) (borrowed : Bool) (next_sid at : ℕ) (change : Change) → OwnsFrames p → CanChange p sid borrowed next_sid change
+    → OwnsFrames (place_change images p pid sid borrowed next_sid at change)
 place_change_owner images p pid sid borrowed next_sid at Keep o c = o
 place_change_owner images p pid sid borrowed next_sid at (Resize d s) o c = resize_owner p sid d s o (lost_from p sid d s c)
 place_change_owner images p pid sid borrowed next_sid at (Fork child) o c = begin_residence_owner (fork_space p sid next_sid) child at (fork_owner p sid next_sid o c)

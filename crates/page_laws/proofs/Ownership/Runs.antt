@@ -59,7 +59,8 @@ get_open_still p e v latest = go p.free
     go [] = latest
     go (f ∷ rest) = join_open p.transfers e (record { page = v; frame = f }) latest
 
-pub get_all_owner : (qs : List Page) (p : Placement) (source : Source) (demanded : Page) → OwnsFrames p → EachPage (CanEnter p) qs → AllApart qs → IsOpen p.transfers (Reads source demanded) → OwnsFrames (get_all p (Reads source demanded) qs)
+pub get_all_owner : (qs : List Page) (p : Placement) (source : Source) (demanded : Page) → OwnsFrames p → EachPage (CanEnter p) qs → AllApart qs → IsOpen p.transfers (Reads source demanded)
+    → OwnsFrames (get_all p (Reads source demanded) qs)
 get_all_owner [] p source demanded o c a latest = o
 get_all_owner (v ∷ qs) p source demanded o c a latest =
     get_all_owner qs (get_one p (Reads source demanded) v) source demanded (get_owner p source demanded v o c.0 latest)

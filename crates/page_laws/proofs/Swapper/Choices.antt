@@ -324,7 +324,8 @@ sleeper_out p rs r pid l e m =
       few = m;
     }
 
-large_out : (p : Placement) (rs : List Runner) (r : Runner) (pid : ℕ) → longest p (sleepers (filter (may_go_out p) rs)) ≡ None → longest p (take 4 (ranked p (filter (may_go_out p) rs))) ≡ Some r → r.pid ≡ pid → length p.free < desired_free p → GoesOut p rs pid
+large_out : (p : Placement) (rs : List Runner) (r : Runner) (pid : ℕ) → longest p (sleepers (filter (may_go_out p) rs)) ≡ None → longest p (take 4 (ranked p (filter (may_go_out p) rs))) ≡ Some r
+    → r.pid ≡ pid → length p.free < desired_free p → GoesOut p rs pid
 large_out p rs r pid n l e m =
     let c = filter (may_go_out p) rs in
     let i : IsLongest p (take 4 (ranked p (filter (may_go_out p) rs))) r = longest_is p (take 4 (ranked p c)) r l in

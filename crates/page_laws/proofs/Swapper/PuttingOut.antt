@@ -285,7 +285,8 @@ done_rank p pid sid t ts o e h =
     let l = count_le p (done p) (pages_of_space p sid) (done_calm p o) in
     omega arith
 
-put_rank_falls : (locked : List Page) (at : ℕ) (p : Placement) (pid sid : ℕ) (v : Page) (n : ℕ) → is_out p pid ≡ false → 0 < n → first_seated p (pages_of_space p sid) ≡ Some v → put_rank (place_entry locked at p (entries.Put v n)) pid sid < put_rank p pid sid
+put_rank_falls : (locked : List Page) (at : ℕ) (p : Placement) (pid sid : ℕ) (v : Page) (n : ℕ) → is_out p pid ≡ false → 0 < n → first_seated p (pages_of_space p sid) ≡ Some v
+    → put_rank (place_entry locked at p (entries.Put v n)) pid sid < put_rank p pid sid
 put_rank_falls locked at p pid sid v n e m h =
     let qs = pages_from v (number_of v) n in
     let q = put_step p v qs in
