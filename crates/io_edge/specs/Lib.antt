@@ -11,3 +11,4 @@ pub mod Told
 pub mod PairLeads
 pub mod StripeSizes
 pub mod FailedDevice
+pub mod Transfer

@@ -15,6 +15,7 @@ pub mod out_sink;
 pub mod sink;
 pub mod swap_dev;
 pub mod swap_pair;
+mod transfer;
 
 pub use dir_files::DirFiles;
 pub use file_swap::FileSwap;
@@ -26,6 +27,7 @@ pub use out_sink::OutSink;
 pub use sink::Sink;
 pub use swap_dev::SwapDev;
 pub use swap_pair::SwapPair;
+pub use transfer::{put_all, read_range};
 pub use vm_facts::NoMemory;
 
 /// What `Files::find` answers for a name.
@@ -47,6 +49,10 @@ pub enum Moved {
     /// It failed; a count of faults rose.
     Failed,
 }
+
+/// A transfer of bytes failed, as the error of a `Result`; a count of faults rose.
+#[derive(Clone, Copy, PartialEq, Eq, Debug, Drop)]
+pub struct Failed;
 
 #[cfg(test)]
 mod tests;

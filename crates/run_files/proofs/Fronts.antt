@@ -1,22 +1,20 @@
 -- What was read of a file's front is what is told.
-use Rattle.std.proofs.Common.{◌≡◌, ◌⊎◌, inl, inr, ℕ, ◌+◌, ◌-◌, ◌<◌, ◌≤◌, min, List, [], ◌∷◌, ◌++◌, length, take, drop, replicate, Option, Some, None, Result, Ok, Err, refl, sym, ap, ◌∙◌, subst, arith}
-use Rattle.std.specs.Prelude.{IfOk, IfErr, IsTrue, Bool, true, false, is_ok, is_err, if◌then◌else◌}
+use Rattle.std.proofs.Common.{◌≡◌, ◌⊎◌, inl, inr, ℕ, ◌+◌, ◌-◌, ◌<◌, ◌≤◌, min, List, ◌++◌, length, take, drop, replicate, Option, Some, None, Result, Ok, Err, refl, sym, ap, ◌∙◌, subst, arith}
+use Rattle.std.specs.Prelude.{IfOk, IfErr, OnOk, IsTrue, Bool, true, false, is_ok, if◌then◌else◌}
 use Rattle.std.proofs.lemmas.Bool.{cases_lt}
 use Rattle.std.proofs.lemmas.List.{take_all, length-append, length-replicate, length-drop, length-take-le, take-take, take-append-drop, take-append-le}
 use Rattle.std.proofs.lemmas.Slice.{between_to_end, between-put_mid}
 use borrow.Rule.Slice.PartMut.{put_mid, same_len_mid}
 use Rattle.std.proofs.Math.Seq.{take-add, take-append_seam}
-use Rattle.io_edge.specs.declared.Moved.{Moved}
-use Rattle.io_edge.specs.declared.Moved.TheVariants.{Done, Failed}
-use Rattle.io_edge.specs.Count.{OnDone, Rose}
+use Rattle.io_edge.specs.Count.{Rose}
 use Rattle.io_edge.specs.FileHolding.{NamedFile, place_of, bytes_at, file_range, HoldsRange}
 use Rattle.aout_image.specs.declared.Image.{Image}
 use Rattle.aout_image.specs.declared.Judged.TheVariants.{Is, NotImage as No}
 use Rattle.aout_image.specs.Image.{Loaded, image_of, judged_of, file_length_of, is_paged, NeedsNoMore}
 use Rattle.run_files.specs.declared.answers.Unread.{Unread}
 use Rattle.run_files.specs.declared.answers.Unread.TheVariants.{Absent, NotImage, FileFault, NoMemory}
-use Rattle.run_files.specs.Answering.{Answers, CountsFault, FailsInOrder, IsFailure}
-use Rattle.run_files.specs.Told.{bytes_told, bytes_told_at, image_in, IsImageOf}
+use Rattle.run_files.specs.Answering.{Answers, CountsFault, CountsFaults, FailsInOrder, IsFailure, IsOfFoundFile}
+use Rattle.run_files.specs.Told.{bytes_told, bytes_told_at, facts_in, image_in, IsImageOf}
 
 take_least : (bytes : List ℕ) (most : ℕ) → take (min (length bytes) most) bytes ≡ take most bytes
 take_least bytes most = go (cases_lt (length bytes) most)
@@ -44,14 +42,6 @@ front_answers view (Err (NotImage reason)) holds list name id len most told plac
 front_answers view (Err FileFault) holds list name id len most told place size held count failure = tt
 front_answers view (Err NoMemory) holds list name id len most told place size held count failure = tt
 
-pub holds_empty : (holds : Option (List NamedFile)) (id offset : ℕ) (bytes : List ℕ) → length bytes ≡ 0 → HoldsRange holds id offset bytes
-holds_empty None id offset bytes empty = tt
-holds_empty (Some files) id offset bytes empty = nothing bytes (ap (λ (n : ℕ). take n (drop offset (bytes_at files id))) empty) empty
-  where
-    nothing : (xs : List ℕ) → take (length xs) (drop offset (bytes_at files id)) ≡ [] → length xs ≡ 0 → xs ≡ take (length xs) (drop offset (bytes_at files id))
-    nothing [] none size = sym none
-    nothing (x ∷ xs) none size = absurd (omega (arith, size))
-
 -- a header and the rest behind it make the front of the file
 pub joined : (holds : Option (List NamedFile)) (list : List NamedFile) (id len : ℕ) (head bytes : List ℕ) → holds ≡ Some list → take 32 (bytes_at list id) ≡ head → take 32 bytes ≡ head
     → length bytes ≡ len → 32 ≤ len → HoldsRange holds id 32 (drop 32 bytes) → bytes ≡ take len (bytes_at list id)
@@ -67,9 +57,40 @@ joined holds list id len head bytes told file front size above held =
     ∙ ap (λ (n : ℕ). take n whole) (sym split)
 
 -- the judgement of the file
-pub judged_not : (bytes : List ℕ) (r : Result Loaded ℕ) (reason : ℕ) → No reason ≡ judged_of r → image_in bytes r ≡ Err (NotImage reason)
-judged_not bytes (Ok image) reason e = absurd cc
-judged_not bytes (Err other) reason e = let same : reason ≡ other = cc in ap (λ (x : ℕ). Err (NotImage x)) (sym same)
+pub facts_not : (r : Result Loaded ℕ) (reason : ℕ) → No reason ≡ judged_of r → facts_in r ≡ Err (NotImage reason)
+facts_not (Ok image) reason e = absurd cc
+facts_not (Err other) reason e = let same : reason ≡ other = cc in ap (λ (x : ℕ). Err (NotImage x)) (sym same)
+
+pub facts_is : (r : Result Loaded ℕ) (facts : Image) → Is facts ≡ judged_of r → facts_in r ≡ Ok facts
+facts_is (Ok image) facts e = let same : facts ≡ image.facts = cc in ap (λ (x : Image). Ok x) (sym same)
+facts_is (Err reason) facts e = absurd cc
+
+-- what a header refuses is no image
+not_told : (bytes : List ℕ) (r : Result Loaded ℕ) (reason : ℕ) → facts_in r ≡ Err (NotImage reason) → image_in bytes r ≡ Err (NotImage reason)
+not_told bytes (Ok image) reason e = absurd cc
+not_told bytes (Err other) reason e = let same : other ≡ reason = cc in ap (λ (x : ℕ). Err (NotImage x)) same
+
+-- a header that isn't read, or refuses the file, decides
+pub header_decides : (A C : Type 0) (view : A → Image) (whole : C → Image × List ℕ) (bytes : List ℕ) (r : Result Loaded ℕ) (unread : Unread) → IsOfFoundFile unread
+    → Answers view (facts_in r) (Err unread) → Answers whole (image_in bytes r) (Err unread)
+header_decides A C view whole bytes r Absent found answers = absurd found
+header_decides A C view whole bytes r (NotImage reason) found answers = not_told bytes r reason answers
+header_decides A C view whole bytes r FileFault found answers = tt
+header_decides A C view whole bytes r NoMemory found answers = tt
+
+pub header_fails : (A C : Type 0) {B : Type 0} (told : Result B Unread) (unread : Unread) (open_old open_new page_old page_new : ℕ) → page_new ≡ page_old
+    → CountsFault {A = A} (Err unread) open_old open_new → FailsInOrder {A = C} told (Err unread) open_old open_new page_old page_new
+header_fails A C told Absent open_old open_new page_old page_new same counts = tt
+header_fails A C told (NotImage reason) open_old open_new page_old page_new same counts = tt
+header_fails A C told FileFault open_old open_new page_old page_new same counts = inl (counts, same)
+header_fails A C told NoMemory open_old open_new page_old page_new same counts = tt
+
+pub header_counts : (A C : Type 0) (unread : Unread) (open_old open_new page_old page_new : ℕ) → page_new ≡ page_old
+    → CountsFault {A = A} (Err unread) open_old open_new → CountsFaults {A = C} (Err unread) open_old open_new page_old page_new
+header_counts A C Absent open_old open_new page_old page_new same counts = (counts, same)
+header_counts A C (NotImage reason) open_old open_new page_old page_new same counts = (counts, same)
+header_counts A C FileFault open_old open_new page_old page_new same counts = inl (counts, same)
+header_counts A C NoMemory open_old open_new page_old page_new same counts = (counts, same)
 
 pub judged_is : (bytes front : List ℕ) (r : Result Loaded ℕ) (facts : Image) → Is facts ≡ judged_of r → front ≡ take (file_length_of facts) bytes → image_in bytes r ≡ Ok (facts, front)
 judged_is bytes front (Ok image) facts e same =
@@ -119,28 +140,34 @@ behind_mid a n xs ys size within long =
     sym (between_to_end (put_mid a (n - a) xs ys) a n whole) ∙ between-put_mid a (n - a) xs ys n (omega (arith, size, within)) long
 
 -- what was read behind the header stands behind it
-pub holds_behind : (moved : Moved) (holds : Option (List NamedFile)) (id : ℕ) (xs ys : List ℕ) → 32 ≤ length xs → length ys ≡ length xs - 32
-    → OnDone moved (HoldsRange holds id 32 ys) → OnDone moved (HoldsRange holds id 32 (drop 32 (put_mid 32 (length xs - 32) xs ys)))
-holds_behind Failed holds id xs ys above long held = tt
-holds_behind Done holds id xs ys above long held = subst (λ (zs : List ℕ). HoldsRange holds id 32 zs) (sym (behind_mid 32 (length xs) xs ys refl above long)) held
+pub holds_behind : {T E : Type 0} (r : Result T E) (holds : Option (List NamedFile)) (id : ℕ) (xs ys : List ℕ) → 32 ≤ length xs → length ys ≡ length xs - 32
+    → OnOk r (HoldsRange holds id 32 ys) → OnOk r (HoldsRange holds id 32 (drop 32 (put_mid 32 (length xs - 32) xs ys)))
+holds_behind (Err e) holds id xs ys above long held = tt
+holds_behind (Ok x) holds id xs ys above long held = subst (λ (zs : List ℕ). HoldsRange holds id 32 zs) (sym (behind_mid 32 (length xs) xs ys refl above long)) held
 
 -- the header stands in front of the zeros
-resized_head : {A E : Type 0} (r : Result A E) (n : ℕ) (head zeros items : List ℕ) → false ≡ is_err r → items ≡ (if is_ok r then take n head ++ zeros else head) → length head ≡ 32 → 32 ≤ n → take 32 items ≡ head
-resized_head (Ok x) n head zeros items good same size above =
+resized_head : {A E : Type 0} (r : Result A E) (v : A) (n : ℕ) (head zeros items : List ℕ) → r ≡ Ok v → items ≡ (if is_ok r then take n head ++ zeros else head) → length head ≡ 32 → 32 ≤ n → take 32 items ≡ head
+resized_head (Ok x) v n head zeros items good same size above =
     ap (take 32) (same ∙ ap (λ (xs : List ℕ). xs ++ zeros) (take_all n head (omega (arith, size, above))))
     ∙ take-append-le 32 head zeros (omega (arith, size)) ∙ take_all 32 head (omega (arith, size))
-resized_head (Err e) n head zeros items good same size above = absurd cc
+resized_head (Err e) v n head zeros items good same size above = absurd cc
 
 -- and in front of what was read behind it
-pub head_kept : {A E : Type 0} (r : Result A E) (n m : ℕ) (head zeros items old new more : List ℕ) → false ≡ is_err r → items ≡ (if is_ok r then take n head ++ zeros else head) → length head ≡ 32 → 32 ≤ n
+pub head_kept : {A E : Type 0} (r : Result A E) (v : A) (n m : ℕ) (head zeros items old new more : List ℕ) → r ≡ Ok v → items ≡ (if is_ok r then take n head ++ zeros else head) → length head ≡ 32 → 32 ≤ n
     → old ≡ items → take 32 new ≡ take 32 old → 32 ≤ m → 32 ≤ length new → take 32 (take m (new ++ more)) ≡ head
-head_kept r n m head zeros items old new more good same size above is kept within long =
-    take-take 32 m (new ++ more) within ∙ take-append-le 32 new more long ∙ kept ∙ ap (take 32) is ∙ resized_head r n head zeros items good same size above
+head_kept r v n m head zeros items old new more good same size above is kept within long =
+    take-take 32 m (new ++ more) within ∙ take-append-le 32 new more long ∙ kept ∙ ap (take 32) is ∙ resized_head r v n head zeros items good same size above
 
 -- the header that was read is the file's
 pub header_of_file : (holds : Option (List NamedFile)) (list : List NamedFile) (id len : ℕ) (head : List ℕ) → holds ≡ Some list → len ≡ length (bytes_at list id)
     → length head ≡ min len 32 → HoldsRange holds id 0 head → take 32 (bytes_at list id) ≡ head
 header_of_file holds list id len head told size count held = sym (front_of holds list id len 32 head told size count held)
+
+-- and where it is whole, so many bytes of the file
+pub front_of_header : (holds : Option (List NamedFile)) (list : List NamedFile) (id : ℕ) (head : List ℕ) → holds ≡ Some list → length head ≡ 32 → HoldsRange holds id 0 head → take 32 (bytes_at list id) ≡ head
+front_of_header holds list id head told size held =
+    let here : head ≡ file_range (bytes_at list id) 0 (length head) = subst (λ (h : Option (List NamedFile)). HoldsRange h id 0 head) told held in
+    ap (λ (n : ℕ). take n (bytes_at list id)) (sym size) ∙ sym here
 
 text_above : (paged : Bool) → 32 ≤ (if paged then 1024 else 32)
 text_above true = omega arith

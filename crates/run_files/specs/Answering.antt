@@ -26,6 +26,13 @@ IsOfAnyFile (NotImage reason) = ⊥
 IsOfAnyFile FileFault = Unit {0}
 IsOfAnyFile NoMemory = Unit {0}
 
+-- an error of a file that was found
+abbrev pub IsOfFoundFile : Unread → Type 0
+IsOfFoundFile Absent = ⊥
+IsOfFoundFile (NotImage reason) = Unit {0}
+IsOfFoundFile FileFault = Unit {0}
+IsOfFoundFile NoMemory = Unit {0}
+
 -- a count of faults over a call: it rises where a file failed, and else stays
 abbrev pub CountsFault : {A : Type 0} → Result A Unread → ℕ → ℕ → Type 0
 CountsFault (Ok x) old new = new ≡ old

@@ -27,6 +27,19 @@ whole_told_at files (Some place) most = Ok (bytes_if (nat_le (length (bytes_at f
 abbrev pub whole_told : List NamedFile → List ℕ → ℕ → Result (Option (List ℕ)) Unread
 whole_told files name most = whole_told_at files (place_of files name) most
 
+-- the facts of the image that a file is, or why it is none
+abbrev pub facts_in : Result Loaded ℕ → Result Image Unread
+facts_in (Ok image) = Ok image.facts
+facts_in (Err reason) = Err (NotImage reason)
+
+abbrev pub facts_told_at : List NamedFile → Option ℕ → Result Image Unread
+facts_told_at files None = Err Absent
+facts_told_at files (Some place) = facts_in (image_of (bytes_at files place))
+
+-- the facts of the image of this name
+abbrev pub facts_told : List NamedFile → List ℕ → Result Image Unread
+facts_told files name = facts_told_at files (place_of files name)
+
 -- the facts of the image that a file is, and its bytes up to the end of its text and data; or why it is none
 abbrev pub image_in : List ℕ → Result Loaded ℕ → Result (Image × List ℕ) Unread
 image_in bytes (Ok image) = Ok (image.facts, take (file_length_of image.facts) bytes)

@@ -1,6 +1,10 @@
 // What the calls answer.
+ghost use Rattle.std.specs.Prelude.{◌≡◌};
+ghost use Rattle.run_files.specs.declared.answers.Unread.TheVariants.{FileFault, NoMemory};
 
 use aout_image::Image;
+use io_edge::Failed;
+use std::alloc::AllocError;
 
 /// Why a file wasn't read.
 #[derive(Clone, Copy, Debug, PartialEq, Eq, Drop)]
@@ -13,6 +17,38 @@ pub enum Unread {
     FileFault,
     /// The allocator refused.
     NoMemory,
+}
+
+impl From<Failed> for Unread {
+    ghost from_gives = { λ _ e. e ≡ FileFault };
+
+    fn from(_e: Failed) -> Unread {
+        Unread::FileFault
+    }
+}
+
+impl From<AllocError> for Unread {
+    ghost from_gives = { λ _ e. e ≡ NoMemory };
+
+    fn from(_e: AllocError) -> Unread {
+        Unread::NoMemory
+    }
+}
+
+/// An image that was found and judged.
+#[derive(Clone, Copy, Debug, PartialEq, Eq, Drop)]
+pub struct Opened {
+    /// What its header says.
+    pub image: Image,
+    /// The number by which its file is read.
+    pub file: u32,
+}
+
+// A file's header, and what it says.
+#[derive(Drop)]
+pub(crate) struct Headed {
+    pub(crate) image: Image,
+    pub(crate) header: Vec<u8>,
 }
 
 /// An image that was read.

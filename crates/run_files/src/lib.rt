@@ -6,9 +6,9 @@ mod image_words;
 mod loading;
 mod reading;
 
-pub use answers::{Loaded, Unread};
+pub use answers::{Loaded, Opened, Unread};
 pub use image_words::{first_images, image_names};
-pub use loading::load_image;
+pub use loading::{load_image, open_image};
 pub use reading::{read_file, read_whole};
 
 #[cfg(test)]

@@ -1,30 +1,27 @@
-ghost use Rattle.std.specs.Prelude.{◌≡◌, ◌≤◌, ℕ, List, Some, IfOk, IfErr, length, take, drop};
-ghost use Rattle.io_edge.specs.Count.{Counts, OnDone};
-ghost use Rattle.io_edge.specs.FileHolding.{NamedFile, bytes_at, HasRange, HoldsRange};
-ghost use Rattle.aout_image.specs.Image.{IsSound, file_length_of, image_of};
-ghost use Rattle.run_files.specs.Answering.{Answers, CountsFault, CountsFaults, FailsInOrder, IsFailure};
-ghost use Rattle.run_files.specs.Told.{image_told, image_in, IsImageOf};
+ghost use Rattle.std.specs.Prelude.{◌≡◌, ◌≤◌, ℕ, List, Some, IfOk, IfErr, OnOk, length, take, drop};
+ghost use Rattle.io_edge.specs.FileHolding.{NamedFile, place_of, bytes_at, HasRange, HoldsRange};
+ghost use Rattle.io_edge.specs.Transfer.{CountsErr};
+ghost use Rattle.aout_image.specs.Image.{IsSound, file_length_of, image_of, judged_of};
+ghost use Rattle.run_files.specs.Answering.{Answers, CountsFault, CountsFaults, FailsInOrder, IsFailure, IsOfFoundFile};
+ghost use Rattle.run_files.specs.Told.{facts_in, facts_told, image_told, image_in, IsImageOf};
 
-use crate::answers::{Loaded, Unread};
+use crate::answers::{Headed, Loaded, Opened, Unread};
 use crate::reading::read_front;
 use aout_image::{Judged, read_image};
-use io_edge::{Files, Found, Moved};
+use io_edge::{Failed, Files, Found, read_range};
 use std::alloc::Global;
 
 // Fills bytes behind a header with those of the file there; none need no call.
-fn read_behind<F: Files>(files: &mut F, id: u32, bytes: &mut [u8]) -> Moved
+fn read_behind<F: Files>(files: &mut F, id: u32, bytes: &mut [u8]) -> Result<(), Failed>
     requires above { 32 ≤ length bytes.old }
     requires range { HasRange (F.holds files.old) id 0 (length bytes.old) }
     ensures head { take 32 bytes.new ≡ take 32 bytes.old }
-    ensures rest { OnDone result (HoldsRange (F.holds files.old) id 32 (drop 32 bytes.new)) }
+    ensures rest { OnOk result (HoldsRange (F.holds files.old) id 32 (drop 32 bytes.new)) }
     ensures holds { F.holds files.new ≡ F.holds files.old }
     ensures open_faults { F.open_faults files.new ≡ F.open_faults files.old }
-    ensures page_faults { Counts result (F.page_faults files.old) (F.page_faults files.new) }
+    ensures page_faults { CountsErr result (F.page_faults files.old) (F.page_faults files.new) }
 {
-    if bytes.len() == 32 {
-        return Moved::Done;
-    }
-    files.read_at(id, 32, &mut bytes[32..])
+    read_range(files, id, 32, &mut bytes[32..])
 }
 
 // The bytes of a file's front, up to this length, of which the header was read.
@@ -41,12 +38,31 @@ fn read_rest<F: Files>(files: &mut F, id: u32, head: Vec<u8>, len: usize) -> Res
     ensures page_faults { CountsFault result (F.page_faults files.old) (F.page_faults files.new) }
 {
     let mut bytes = head;
-    if bytes.resize(len, 0).is_err() {
-        return Err(Unread::NoMemory);
-    }
-    match read_behind(files, id, bytes.as_mut_slice()) {
-        Moved::Failed => Err(Unread::FileFault),
-        Moved::Done => Ok(bytes),
+    bytes.resize(len, 0)?;
+    read_behind(files, id, bytes.as_mut_slice())?;
+    Ok(bytes)
+}
+
+// Reads the header of a file of so many bytes, and judges the file by it.
+fn read_header<F: Files>(alloc: Global, files: &mut F, id: u32, len: u64) -> Result<Headed, Unread>
+    requires range { HasRange (F.holds files.old) id 0 len }
+    ensures answers { (list : List NamedFile) → F.holds files.old ≡ Some list → len ≡ length (bytes_at list id)
+        → Answers (λ headed. headed.image) (facts_in (image_of (bytes_at list id))) result }
+    ensures header { IfOk result (λ headed. HoldsRange (F.holds files.old) id 0 headed.header.items) }
+    ensures size { IfOk result (λ headed. length headed.header.items ≡ 32) }
+    ensures judged { IfOk result (λ headed. (bytes : List ℕ) → take 32 bytes ≡ headed.header.items → length bytes ≡ len
+        → Judged.Is headed.image ≡ judged_of (image_of bytes)) }
+    ensures sound { IfOk result (λ headed. IsSound headed.image) }
+    ensures whole { IfOk result (λ headed. file_length_of headed.image ≤ len) }
+    ensures error { IfErr result IsOfFoundFile }
+    ensures holds { F.holds files.new ≡ F.holds files.old }
+    ensures open_faults { CountsFault result (F.open_faults files.old) (F.open_faults files.new) }
+    ensures page_faults { F.page_faults files.new ≡ F.page_faults files.old }
+{
+    let header = read_front(alloc, files, id, len.min(32) as usize)?;
+    match read_image(header.as_slice(), len) {
+        Judged::NotImage(reason) => Err(Unread::NotImage(reason)),
+        Judged::Is(image) => Ok(Headed { image, header }),
     }
 }
 
@@ -63,13 +79,34 @@ fn load_found<F: Files>(alloc: Global, files: &mut F, id: u32, len: u64) -> Resu
     ensures holds { F.holds files.new ≡ F.holds files.old }
     ensures faults { CountsFaults result (F.open_faults files.old) (F.open_faults files.new) (F.page_faults files.old) (F.page_faults files.new) }
 {
-    let head = read_front(alloc, files, id, len.min(32) as usize)?;
-    let image = match read_image(head.as_slice(), len) {
-        Judged::NotImage(reason) => return Err(Unread::NotImage(reason)),
-        Judged::Is(image) => image,
-    };
-    let bytes = read_rest(files, id, head, image.file_length() as usize)?;
+    let headed = read_header(alloc, files, id, len)?;
+    let image = headed.image;
+    let bytes = read_rest(files, id, headed.header, image.file_length() as usize)?;
     Ok(Loaded { image, bytes })
+}
+
+/// Finds an image, and judges it by its header, which is read by one call where the file isn't empty.
+pub fn open_image<F: Files>(alloc: Global, files: &mut F, name: &str) -> Result<Opened, Unread>
+    ensures answers { (list : List NamedFile) → F.holds files.old ≡ Some list
+        → Answers (λ opened. opened.image) (facts_told list name.now) result }
+    ensures place { IfOk result (λ opened. (list : List NamedFile) → F.holds files.old ≡ Some list → place_of list name.now ≡ Some opened.file) }
+    ensures range { IfOk result (λ opened. HasRange (F.holds files.old) opened.file 0 (file_length_of opened.image)) }
+    ensures sound { IfOk result (λ opened. IsSound opened.image) }
+    ensures holds { F.holds files.new ≡ F.holds files.old }
+    ensures open_faults { CountsFault result (F.open_faults files.old) (F.open_faults files.new) }
+    ensures page_faults { F.page_faults files.new ≡ F.page_faults files.old }
+{
+    match files.find(name) {
+        Found::Failed => Err(Unread::FileFault),
+        Found::Absent => Err(Unread::Absent),
+        Found::Is { id, len } => {
+            let headed = read_header(alloc, files, id, len)?;
+            Ok(Opened {
+                image: headed.image,
+                file: id,
+            })
+        }
+    }
 }
 
 /// Finds an image, judges it by its header, which is read by one call where the file isn't empty, and

@@ -4,7 +4,7 @@ ghost use Rattle.run_files.specs.Answering.{Answers, CountsFault, IsFailure, IsO
 ghost use Rattle.run_files.specs.Told.{bytes_told, whole_told};
 
 use crate::answers::Unread;
-use io_edge::{Files, Found, Moved};
+use io_edge::{Files, Found, read_range};
 use std::alloc::Global;
 
 // So many bytes from the start of a file on; none need no call.
@@ -22,16 +22,9 @@ pub(crate) fn read_front<F: Files>(
     ensures open_faults { CountsFault result (F.open_faults files.old) (F.open_faults files.new) }
     ensures page_faults { F.page_faults files.new ≡ F.page_faults files.old }
 {
-    let Ok(mut bytes) = vec![in alloc; 0u8; len] else {
-        return Err(Unread::NoMemory);
-    };
-    if len == 0 {
-        return Ok(bytes);
-    }
-    match files.read_at(id, 0, bytes.as_mut_slice()) {
-        Moved::Failed => Err(Unread::FileFault),
-        Moved::Done => Ok(bytes),
-    }
+    let mut bytes = vec![in alloc; 0u8; len]?;
+    read_range(files, id, 0, bytes.as_mut_slice())?;
+    Ok(bytes)
 }
 
 /// Finds a file and reads it, where it isn't empty, by one call: all of it, or its first `most` bytes

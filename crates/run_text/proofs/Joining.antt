@@ -1,17 +1,15 @@
 -- Joining while writing gives the text of the joined entries.
 use Rattle.std.proofs.Common.{◌≡◌, ℕ, ◌+◌, ◌<◌, Bool, true, false, List, [], ◌∷◌, ◌++◌, length, get_or, drop, refl, sym, ◌∙◌, ap, subst, append_assoc, add_assoc, arith, drop-cons, add-one, codes}
-use Rattle.std.specs.Prelude.{Option, Some, None, ◌==◌}
+use Rattle.std.specs.Prelude.{Option, Some, None, Result, Err, ◌==◌}
 use Rattle.std.proofs.lemmas.List.{append-nil}
-use Rattle.io_edge.specs.declared.Moved.{Moved}
-use Rattle.io_edge.specs.declared.Moved.TheVariants.{Done, Failed}
 use Rattle.vm_facts.specs.declared.entry.Entry.{Entry}
 use Rattle.vm_facts.specs.declared.entry.Entry.TheVariants.{Event, Turn, Ran, Out, Grew, Call, Refused, Sleeps, Ended, Zero, Get, Copy, Reclaim, Hands, Put, SwapOut, SwapIn, Owners}
 use Rattle.vm_facts.specs.declared.entry.Entry.TheVariants as entry
 use Rattle.run_text.specs.declared.waiting.Run.{Run}
-use Rattle.run_text.specs.Buffered.{Passes, Puts}
+use Rattle.run_text.specs.Buffered.{Passes, Fails, Puts}
 use Rattle.run_text.specs.Text.{part, parts, line_of, lines_of, is_paging, join, join_ran, joined, unless, without_paging}
 use Rattle.run_text.specs.Running.{waiting, waiting_text, text_unless_same, lengthened, other_text, text_at, run_after, Progress}
-use Rattle.run_text.proofs.Passing.{puts_then, puts_failed}
+use Rattle.run_text.proofs.Passing.{passes_then, fails_then, fails_more, puts_then, puts_failed}
 use Rattle.std.proofs.lemmas.Bool.Decides.{nat_tests}
 
 ended_parts : (x y z : List ℕ) → (x ++ []) ++ (y ++ z) ≡ (x ++ (y ++ [])) ++ z
@@ -88,23 +86,25 @@ pub progress_step : (w : Option (List ℕ)) (p : List ℕ) (w' : Option (List �
 progress_step w p w' p' w'' p'' run run' es i e h is so_far b after =
     subst (λ (r : Option Run). Progress w p w'' p'' r (drop (i + 1) es) es) (sym after) (record {
       front = so_far.front ++ text_at run e;
-      passes = puts_then Done w p so_far.front w' p' (text_at run e) w'' p'' so_far.passes b;
+      passes = passes_then w p so_far.front w' p' (text_at run e) w'' p'' so_far.passes b;
       rest = whole_at so_far.front run es es i e h is so_far.rest;
     })
 
 -- an entry fails
-pub progress_failed : (w : Option (List ℕ)) (p : List ℕ) (w' : Option (List ℕ)) (p' : List ℕ) (w'' : Option (List ℕ)) (p'' : List ℕ) (run : Option Run) (es : List Entry) (i : ℕ) (e : Entry) → i < length es → get_or es i e ≡ e → Progress w p w' p' run (drop i es) es → Puts Failed w' p' (text_at run e) w'' p'' → Puts Failed w p (lines_of (joined (without_paging es))) w'' p''
-progress_failed w p w' p' w'' p'' run es i e h is so_far b =
-    subst (λ (z : List ℕ). Puts Failed w p z w'' p'') (whole_at so_far.front run es es i e h is so_far.rest)
-    (puts_failed w p (so_far.front ++ text_at run e) (lines_of (joined (waiting (run_after run e) ++ without_paging (drop (i + 1) es)))) w'' p''
-    (puts_then Failed w p so_far.front w' p' (text_at run e) w'' p'' so_far.passes b))
+pub progress_failed : {T E : Type 0} (r : Result T E) (f : E) (w : Option (List ℕ)) (p : List ℕ) (w' : Option (List ℕ)) (p' : List ℕ) (w'' : Option (List ℕ)) (p'' : List ℕ) (run : Option Run) (es : List Entry) (i : ℕ) (e : Entry)
+    → r ≡ Err f → i < length es → get_or es i e ≡ e → Progress w p w' p' run (drop i es) es → Fails w' p' (text_at run e) w'' p'' → Puts r w p (lines_of (joined (without_paging es))) w'' p''
+progress_failed {T} {E} r f w p w' p' w'' p'' run es i e failed h is so_far b =
+    subst (λ (r : Result T E). Puts r w p (lines_of (joined (without_paging es))) w'' p'') (sym failed)
+    (subst (λ (z : List ℕ). Fails w p z w'' p'') (whole_at so_far.front run es es i e h is so_far.rest)
+    (fails_more w p (so_far.front ++ text_at run e) (lines_of (joined (waiting (run_after run e) ++ without_paging (drop (i + 1) es)))) w'' p''
+    (fails_then w p so_far.front w' p' (text_at run e) w'' p'' so_far.passes b)))
 
 waiting_lines : (run : Option Run) → lines_of (joined (waiting run ++ [])) ≡ waiting_text run
 waiting_lines None = refl
 waiting_lines (Some r) = append-nil (line_of (Ran r.pid r.count))
 
 -- at the end what waits is written
-pub progress_end : (r : Moved) (w : Option (List ℕ)) (p : List ℕ) (w' : Option (List ℕ)) (p' : List ℕ) (w'' : Option (List ℕ)) (p'' : List ℕ) (run : Option Run) (es : List Entry) (left : List Entry) → left ≡ [] → Progress w p w' p' run left es → Puts r w' p' (waiting_text run) w'' p'' → Puts r w p (lines_of (joined (without_paging es))) w'' p''
+pub progress_end : {T E : Type 0} (r : Result T E) (w : Option (List ℕ)) (p : List ℕ) (w' : Option (List ℕ)) (p' : List ℕ) (w'' : Option (List ℕ)) (p'' : List ℕ) (run : Option Run) (es : List Entry) (left : List Entry) → left ≡ [] → Progress w p w' p' run left es → Puts r w' p' (waiting_text run) w'' p'' → Puts r w p (lines_of (joined (without_paging es))) w'' p''
 progress_end r w p w' p' w'' p'' run es left none so_far b =
     let last : lines_of (joined (waiting run ++ without_paging left)) ≡ waiting_text run =
     ap (λ (xs : List Entry). lines_of (joined (waiting run ++ without_paging xs))) none ∙ waiting_lines run in
@@ -114,10 +114,10 @@ progress_end r w p w' p' w'' p'' run es left none so_far b =
     (puts_then r w p so_far.front w' p' (waiting_text run) w'' p'' so_far.passes b)
 
 -- where an entry is no paging entry, and the waiting one fails, or passes and the entry follows it
-pub other_failed : (b : Bool) (w : Option (List ℕ)) (p : List ℕ) (run : Option Run) (e : Entry) (w' : Option (List ℕ)) (p' : List ℕ) → b ≡ false → Puts Failed w p (waiting_text run) w' p' → Puts Failed w p (other_text b run e) w' p'
-other_failed b w p run e w' p' not h =
-    subst (λ (t : Bool). Puts Failed w p (other_text t run e) w' p') (sym not) (puts_failed w p (waiting_text run) (line_of e) w' p' h)
+pub other_failed : {T E : Type 0} (b : Bool) (r : Result T E) (f : E) (w : Option (List ℕ)) (p : List ℕ) (run : Option Run) (e : Entry) (w' : Option (List ℕ)) (p' : List ℕ) → b ≡ false → r ≡ Err f → Fails w p (waiting_text run) w' p' → Puts r w p (other_text b run e) w' p'
+other_failed b r f w p run e w' p' not failed h =
+    subst (λ (t : Bool). Puts r w p (other_text t run e) w' p') (sym not) (puts_failed r f w p (waiting_text run) (line_of e) w' p' failed h)
 
-pub other_passed : (b : Bool) (r : Moved) (w : Option (List ℕ)) (p : List ℕ) (run : Option Run) (e : Entry) (w' : Option (List ℕ)) (p' : List ℕ) (w'' : Option (List ℕ)) (p'' : List ℕ) → b ≡ false → Passes w p (waiting_text run) w' p' → Puts r w' p' (line_of e) w'' p'' → Puts r w p (other_text b run e) w'' p''
+pub other_passed : {T E : Type 0} (b : Bool) (r : Result T E) (w : Option (List ℕ)) (p : List ℕ) (run : Option Run) (e : Entry) (w' : Option (List ℕ)) (p' : List ℕ) (w'' : Option (List ℕ)) (p'' : List ℕ) → b ≡ false → Passes w p (waiting_text run) w' p' → Puts r w' p' (line_of e) w'' p'' → Puts r w p (other_text b run e) w'' p''
 other_passed b r w p run e w' p' w'' p'' not h more =
     subst (λ (t : Bool). Puts r w p (other_text t run e) w'' p'') (sym not) (puts_then r w p (waiting_text run) w' p' (line_of e) w'' p'' h more)

@@ -1,15 +1,12 @@
 -- Bytes that go through a buffer to a sink, one piece after another.
 use Rattle.std.proofs.Common.{◌≡◌, ℕ, ◌+◌, ◌<◌, List, [], ◌∷◌, ◌++◌, length, get_or, take, drop, refl, sym, ◌∙◌, ap, subst, append_assoc, arith, length-append}
-use Rattle.std.specs.Prelude.{Option, Some, None}
+use Rattle.std.specs.Prelude.{Option, Some, None, Result, Ok, Err, OnOk, OnErr}
 use Rattle.std.specs.List.{flat_map}
 use Rattle.std.proofs.lemmas.List.{append-nil, take_more, take-append-drop, take-append-le}
 use Rattle.std.proofs.lemmas.Grind.{flat_map-append}
 use Rattle.std.proofs.Math.Seq.{take-append-add}
 use Rattle.io_edge.specs.Written.{Appends, AppendsSome}
-use Rattle.io_edge.specs.Count.{Counts, OnDone, OnFailed}
-use Rattle.io_edge.specs.declared.Moved.{Moved}
-use Rattle.io_edge.specs.declared.Moved.TheVariants.{Done, Failed}
-use Rattle.run_text.specs.Buffered.{Passes, Puts}
+use Rattle.run_text.specs.Buffered.{Passes, Fails, Puts}
 
 -- bytes appended after bytes are appended
 pub appends_then : (w : Option (List ℕ)) (x y : List ℕ) (w' w'' : Option (List ℕ)) → Appends w x w' → Appends w' y w'' → Appends w (x ++ y) w''
@@ -39,39 +36,51 @@ flushed w p w' a = record { moved = p; appended = a; kept = refl }
 pub passed_more : (m p' p x y : List ℕ) → m ++ p' ≡ p ++ x → m ++ (p' ++ y) ≡ p ++ (x ++ y)
 passed_more m p' p x y e = sym (append_assoc m p' y) ∙ ap (λ (z : List ℕ). z ++ y) e ∙ append_assoc p x y
 
--- pieces that pass one after the other, or of which the second fails
-pub puts_then : (r : Moved) (w : Option (List ℕ)) (p x : List ℕ) (w' : Option (List ℕ)) (p' y : List ℕ) (w'' : Option (List ℕ)) (p'' : List ℕ) → Passes w p x w' p' → Puts r w' p' y w'' p'' → Puts r w p (x ++ y) w'' p''
-puts_then Done w p x w' p' y w'' p'' a b = record {
+-- pieces that pass one after the other
+pub passes_then : (w : Option (List ℕ)) (p x : List ℕ) (w' : Option (List ℕ)) (p' y : List ℕ) (w'' : Option (List ℕ)) (p'' : List ℕ) → Passes w p x w' p' → Passes w' p' y w'' p'' → Passes w p (x ++ y) w'' p''
+passes_then w p x w' p' y w'' p'' a b = record {
   moved = a.moved ++ b.moved;
   appended = appends_then w a.moved b.moved w' w'' a.appended b.appended;
   kept = append_assoc a.moved b.moved p'' ∙ ap (λ (z : List ℕ). a.moved ++ z) b.kept ∙ passed_more a.moved p' p x y a.kept;
 }
-puts_then Failed w p x w' p' y w'' p'' a (b, e) =
-    (subst (λ (z : List ℕ). AppendsSome w z w'') (passed_more a.moved p' p x y a.kept) (some_then w a.moved (p' ++ y) w' w'' a.appended b), e)
+
+-- a piece that passes, and one that fails behind it
+pub fails_then : (w : Option (List ℕ)) (p x : List ℕ) (w' : Option (List ℕ)) (p' y : List ℕ) (w'' : Option (List ℕ)) (p'' : List ℕ) → Passes w p x w' p' → Fails w' p' y w'' p'' → Fails w p (x ++ y) w'' p''
+fails_then w p x w' p' y w'' p'' a b = record {
+  some = subst (λ (z : List ℕ). AppendsSome w z w'') (passed_more a.moved p' p x y a.kept) (some_then w a.moved (p' ++ y) w' w'' a.appended b.some);
+  none_waits = b.none_waits;
+}
+
+-- a piece that passes, and one that is put behind it
+pub puts_then : {T E : Type 0} (r : Result T E) (w : Option (List ℕ)) (p x : List ℕ) (w' : Option (List ℕ)) (p' y : List ℕ) (w'' : Option (List ℕ)) (p'' : List ℕ) → Passes w p x w' p' → Puts r w' p' y w'' p'' → Puts r w p (x ++ y) w'' p''
+puts_then (Ok x) = passes_then
+puts_then (Err e) = fails_then
 
 -- a piece that fails, and more that isn't tried
-pub puts_failed : (w : Option (List ℕ)) (p x y : List ℕ) (w' : Option (List ℕ)) (p' : List ℕ) → Puts Failed w p x w' p' → Puts Failed w p (x ++ y) w' p'
-puts_failed w p x y w' p' (a, e) = (subst (λ (z : List ℕ). AppendsSome w z w') (append_assoc p x y) (some_of_more w (p ++ x) y w' a), e)
+pub fails_more : (w : Option (List ℕ)) (p x y : List ℕ) (w' : Option (List ℕ)) (p' : List ℕ) → Fails w p x w' p' → Fails w p (x ++ y) w' p'
+fails_more w p x y w' p' f =
+    record { some = subst (λ (z : List ℕ). AppendsSome w z w') (append_assoc p x y) (some_of_more w (p ++ x) y w' f.some); none_waits = f.none_waits }
+
+-- a piece that is put and fails, so that more isn't tried
+pub puts_failed : {T E : Type 0} (r : Result T E) (e : E) (w : Option (List ℕ)) (p x y : List ℕ) (w' : Option (List ℕ)) (p' : List ℕ) → r ≡ Err e → Fails w p x w' p' → Puts r w p (x ++ y) w' p'
+puts_failed {T} {E} r e w p x y w' p' is f = subst (λ (r : Result T E). Puts r w p (x ++ y) w' p') (sym is) (fails_more w p x y w' p' f)
 
 -- no bytes pass
 pub passes_none : (w : Option (List ℕ)) (p : List ℕ) → Passes w p [] w p
 passes_none None p = record { moved = []; appended = refl; kept = sym (append-nil p) }
 passes_none (Some u) p = record { moved = []; appended = ap (λ (z : List ℕ). Some z) (sym (append-nil u)); kept = sym (append-nil p) }
 
--- the count of faults over a call that failed nowhere, and one more
-pub counts_then : (r : Moved) (a b c : ℕ) → Counts Done a b → Counts r b c → Counts r a c
-counts_then r a b c e h = subst (λ (n : ℕ). Counts r n c) e h
-
 -- the text of one more item passes
 pub each_more : {X : Type 0} (f : X → List ℕ) (xs : List X) (i : ℕ) (d : X) (w : Option (List ℕ)) (p : List ℕ) (w' : Option (List ℕ)) (p' : List ℕ) (w'' : Option (List ℕ)) (p'' : List ℕ) → i < length xs → Passes w p (flat_map f (take i xs)) w' p' → Passes w' p' (f (get_or xs i d)) w'' p'' → Passes w p (flat_map f (take (i + 1) xs)) w'' p''
 each_more {X} f xs i d w p w' p' w'' p'' h a b =
     let e : flat_map f (take (i + 1) xs) ≡ flat_map f (take i xs) ++ f (get_or xs i d) =
     ap (λ (zs : List X). flat_map f zs) (take_more xs i d h) ∙ flat_map-append f (take i xs) (get_or xs i d ∷ []) ∙ ap (λ (z : List ℕ). flat_map f (take i xs) ++ z) (append-nil (f (get_or xs i d))) in
-    subst (λ (z : List ℕ). Passes w p z w'' p'') (sym e) (puts_then Done w p (flat_map f (take i xs)) w' p' (f (get_or xs i d)) w'' p'' a b)
+    subst (λ (z : List ℕ). Passes w p z w'' p'') (sym e) (passes_then w p (flat_map f (take i xs)) w' p' (f (get_or xs i d)) w'' p'' a b)
 
 -- the text of one item fails
-pub each_failed : {X : Type 0} (f : X → List ℕ) (xs : List X) (i : ℕ) (d : X) (w : Option (List ℕ)) (p : List ℕ) (w' : Option (List ℕ)) (p' : List ℕ) (w'' : Option (List ℕ)) (p'' : List ℕ) → i < length xs → Passes w p (flat_map f (take i xs)) w' p' → Puts Failed w' p' (f (get_or xs i d)) w'' p'' → Puts Failed w p (flat_map f xs) w'' p''
-each_failed {X} f xs i d w p w' p' w'' p'' h a b =
+pub each_failed : {X T E : Type 0} (r : Result T E) (e : E) (f : X → List ℕ) (xs : List X) (i : ℕ) (d : X) (w : Option (List ℕ)) (p : List ℕ) (w' : Option (List ℕ)) (p' : List ℕ) (w'' : Option (List ℕ)) (p'' : List ℕ)
+    → r ≡ Err e → i < length xs → Passes w p (flat_map f (take i xs)) w' p' → Fails w' p' (f (get_or xs i d)) w'' p'' → Puts r w p (flat_map f xs) w'' p''
+each_failed {X} {T} {E} r e f xs i d w p w' p' w'' p'' is h a b =
     let one = f (get_or xs i d) in
     let front = flat_map f (take i xs) in
     let more = flat_map f (drop (i + 1) xs) in
@@ -79,16 +88,17 @@ each_failed {X} f xs i d w p w' p' w'' p'' h a b =
     ap (λ (zs : List X). flat_map f zs) (take_more xs i d h) ∙ flat_map-append f (take i xs) (get_or xs i d ∷ []) ∙ ap (λ (z : List ℕ). front ++ z) (append-nil one) in
     let whole : (front ++ one) ++ more ≡ flat_map f xs =
     ap (λ (z : List ℕ). z ++ more) (sym e) ∙ sym (flat_map-append f (take (i + 1) xs) (drop (i + 1) xs)) ∙ ap (λ (zs : List X). flat_map f zs) (take-append-drop (i + 1) xs) in
-    let failed : Puts Failed w p (front ++ one) w'' p'' = puts_then Failed w p front w' p' one w'' p'' a b in
-    subst (λ (z : List ℕ). Puts Failed w p z w'' p'') whole (puts_failed w p (front ++ one) more w'' p'' failed)
+    let failed : Fails w p (front ++ one) w'' p'' = fails_then w p front w' p' one w'' p'' a b in
+    subst (λ (r : Result T E). Puts r w p (flat_map f xs) w'' p'') (sym is)
+    (subst (λ (z : List ℕ). Fails w p z w'' p'') whole (fails_more w p (front ++ one) more w'' p'' failed))
 
 -- bytes pass that nothing waited before, and then what waits is written
-pub ends_done : (r : Moved) (w : Option (List ℕ)) (p x : List ℕ) (w' : Option (List ℕ)) (p' : List ℕ) (w'' : Option (List ℕ)) → p ≡ [] → Passes w p x w' p' → OnDone r (Appends w' p' w'') → OnDone r (Appends w x w'')
-ends_done Done w p x w' p' w'' none a b =
+pub ends_done : {T E : Type 0} (r : Result T E) (w : Option (List ℕ)) (p x : List ℕ) (w' : Option (List ℕ)) (p' : List ℕ) (w'' : Option (List ℕ)) → p ≡ [] → Passes w p x w' p' → OnOk r (Appends w' p' w'') → OnOk r (Appends w x w'')
+ends_done (Ok v) w p x w' p' w'' none a b =
     subst (λ (z : List ℕ). Appends w z w'') (a.kept ∙ ap (λ (z : List ℕ). z ++ x) none) (appends_then w a.moved p' w' w'' a.appended b)
-ends_done Failed w p x w' p' w'' none a b = b
+ends_done (Err e) w p x w' p' w'' none a b = b
 
-pub ends_failed : (r : Moved) (w : Option (List ℕ)) (p x : List ℕ) (w' : Option (List ℕ)) (p' : List ℕ) (w'' : Option (List ℕ)) → p ≡ [] → Passes w p x w' p' → OnFailed r (AppendsSome w' p' w'') → OnFailed r (AppendsSome w x w'')
-ends_failed Done w p x w' p' w'' none a b = b
-ends_failed Failed w p x w' p' w'' none a b =
+pub ends_failed : {T E : Type 0} (r : Result T E) (w : Option (List ℕ)) (p x : List ℕ) (w' : Option (List ℕ)) (p' : List ℕ) (w'' : Option (List ℕ)) → p ≡ [] → Passes w p x w' p' → OnErr r (AppendsSome w' p' w'') → OnErr r (AppendsSome w x w'')
+ends_failed (Ok v) w p x w' p' w'' none a b = b
+ends_failed (Err e) w p x w' p' w'' none a b =
     subst (λ (z : List ℕ). AppendsSome w z w'') (a.kept ∙ ap (λ (z : List ℕ). z ++ x) none) (some_then w a.moved p' w' w'' a.appended b)

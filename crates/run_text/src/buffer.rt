@@ -1,10 +1,10 @@
 // A buffer above a sink.
-ghost use Rattle.std.specs.Prelude.{◌≡◌, ℕ, ◌+◌, ◌≤◌, List, [], ◌++◌, length, take};
-ghost use Rattle.io_edge.specs.Count.{Counts, OnDone, OnFailed};
+ghost use Rattle.std.specs.Prelude.{◌≡◌, ℕ, ◌+◌, ◌≤◌, List, [], ◌++◌, length, take, OnOk, OnErr};
+ghost use Rattle.io_edge.specs.Transfer.{CountsErr};
 ghost use Rattle.io_edge.specs.Written.{Appends, AppendsSome};
 ghost use Rattle.run_text.specs.Buffered.{Puts};
 
-use io_edge::{Moved, Sink};
+use io_edge::{Failed, Sink, put_all};
 use std::marker::Model;
 
 /// Bytes that wait to be written to a sink, at most 4,096, kept with no memory taken. Contracts see
@@ -52,48 +52,46 @@ impl OutputBuffer {
     }
 
     /// Writes the waiting bytes. Afterwards nothing waits, also where the sink failed.
-    pub fn flush<S: Sink>(&mut self, sink: &mut S) -> Moved
+    pub fn flush<S: Sink>(&mut self, sink: &mut S) -> Result<(), Failed>
         ensures leads { S.leads sink.old sink.new }
-        ensures done { OnDone result (Appends (S.written sink.old) self.old (S.written sink.new)) }
-        ensures failed { OnFailed result (AppendsSome (S.written sink.old) self.old (S.written sink.new)) }
-        ensures faults { Counts result (S.faults sink.old) (S.faults sink.new) }
+        ensures done { OnOk result (Appends (S.written sink.old) self.old (S.written sink.new)) }
+        ensures failed { OnErr result (AppendsSome (S.written sink.old) self.old (S.written sink.new)) }
+        ensures faults { CountsErr result (S.faults sink.old) (S.faults sink.new) }
         ensures empty { self.new ≡ [] }
     {
         let len = self.len;
         self.len = 0;
         if len == 0 {
-            return Moved::Done;
+            return Ok(());
         }
-        sink.put(&self.bytes[..len])
+        put_all(sink, &self.bytes[..len])
     }
 
     /// Puts the piece behind the waiting bytes, and writes where not all can wait.
-    pub fn put<S: Sink>(&mut self, sink: &mut S, piece: &[u8]) -> Moved
+    pub fn put<S: Sink>(&mut self, sink: &mut S, piece: &[u8]) -> Result<(), Failed>
         ensures leads { S.leads sink.old sink.new }
         ensures puts { Puts result (S.written sink.old) self.old piece.now (S.written sink.new) self.new }
-        ensures faults { Counts result (S.faults sink.old) (S.faults sink.new) }
+        ensures faults { CountsErr result (S.faults sink.old) (S.faults sink.new) }
     {
         if piece.len() <= self.room() {
             self.keep(piece);
-            return Moved::Done;
+            return Ok(());
         }
-        match self.flush(sink) {
-            Moved::Failed => Moved::Failed,
-            Moved::Done => self.put_large(sink, piece),
-        }
+        self.flush(sink)?;
+        self.put_large(sink, piece)
     }
 
     // Puts the piece where nothing waits: it waits, or is written where it's too long for that.
-    fn put_large<S: Sink>(&mut self, sink: &mut S, piece: &[u8]) -> Moved
+    fn put_large<S: Sink>(&mut self, sink: &mut S, piece: &[u8]) -> Result<(), Failed>
         requires { self.old ≡ [] }
         ensures leads { S.leads sink.old sink.new }
         ensures puts { Puts result (S.written sink.old) [] piece.now (S.written sink.new) self.new }
-        ensures faults { Counts result (S.faults sink.old) (S.faults sink.new) }
+        ensures faults { CountsErr result (S.faults sink.old) (S.faults sink.new) }
     {
         if piece.len() <= self.room() {
             self.keep(piece);
-            return Moved::Done;
+            return Ok(());
         }
-        sink.put(piece)
+        put_all(sink, piece)
     }
 }

@@ -1,73 +1,76 @@
 // The lines of entries.
+#![tactic(auto, using(crate::proofs::Passing::puts_then, crate::proofs::Passing::puts_failed))]
+
 ghost use Rattle.std.specs.Prelude.{◌≡◌, ℕ, ◌/◌, ◌%◌, ◌<◌, List, [], ◌∷◌, ◌++◌, codes, decimal};
-ghost use Rattle.io_edge.specs.Count.{Counts};
+ghost use Rattle.io_edge.specs.Transfer.{CountsErr};
 ghost use Rattle.run_text.specs.Buffered.{Puts};
 ghost use Rattle.run_text.specs.Text.{part, parts, rest_of_line, page_text, hex_digit, hex_pair, hex_text, bit_of, line_of};
 
 use crate::buffer::OutputBuffer;
-use io_edge::{Moved, Sink};
+use io_edge::{Failed, Sink};
 use itoa::Buffer;
 use vm_facts::{Entry, Page};
 
 // Puts one piece after another.
-pub fn put_both<S: Sink>(out: &mut OutputBuffer, sink: &mut S, first: &[u8], second: &[u8]) -> Moved
+pub fn put_both<S: Sink>(
+    out: &mut OutputBuffer,
+    sink: &mut S,
+    first: &[u8],
+    second: &[u8],
+) -> Result<(), Failed>
     ensures leads { S.leads sink.old sink.new }
     ensures puts { Puts result (S.written sink.old) out.old (first.now ++ second.now) (S.written sink.new) out.new }
-    ensures faults { Counts result (S.faults sink.old) (S.faults sink.new) }
+    ensures faults { CountsErr result (S.faults sink.old) (S.faults sink.new) }
 {
-    match out.put(sink, first) {
-        Moved::Failed => Moved::Failed,
-        Moved::Done => out.put(sink, second),
-    }
+    out.put(sink, first)?;
+    out.put(sink, second)
 }
 
 // Puts a number behind a space.
-fn put_number<S: Sink>(out: &mut OutputBuffer, sink: &mut S, number: u32) -> Moved
+fn put_number<S: Sink>(out: &mut OutputBuffer, sink: &mut S, number: u32) -> Result<(), Failed>
     ensures leads { S.leads sink.old sink.new }
     ensures puts { Puts result (S.written sink.old) out.old (part number) (S.written sink.new) out.new }
-    ensures faults { Counts result (S.faults sink.old) (S.faults sink.new) }
+    ensures faults { CountsErr result (S.faults sink.old) (S.faults sink.new) }
 {
     let mut digits = Buffer::new();
     put_both(out, sink, b" ", digits.format(number).as_bytes())
 }
 
 // Puts numbers, each behind a space.
-fn put_numbers<S: Sink>(out: &mut OutputBuffer, sink: &mut S, numbers: &[u32]) -> Moved
+fn put_numbers<S: Sink>(out: &mut OutputBuffer, sink: &mut S, numbers: &[u32]) -> Result<(), Failed>
     ensures leads { S.leads sink.old sink.new }
     ensures puts { Puts result (S.written sink.old) out.old (parts numbers.now) (S.written sink.new) out.new }
-    ensures faults { Counts result (S.faults sink.old) (S.faults sink.new) }
+    ensures faults { CountsErr result (S.faults sink.old) (S.faults sink.new) }
 {
     for number in numbers {
-        match put_number(out, sink, *number) {
-            Moved::Failed => return Moved::Failed,
-            Moved::Done => {}
-        }
+        put_number(out, sink, *number)?;
     }
-    Moved::Done
+    Ok(())
 }
 
 // Puts the rest of a line: numbers, each behind a space, and the line's end.
-fn put_rest<S: Sink>(out: &mut OutputBuffer, sink: &mut S, numbers: &[u32]) -> Moved
+fn put_rest<S: Sink>(out: &mut OutputBuffer, sink: &mut S, numbers: &[u32]) -> Result<(), Failed>
     ensures leads { S.leads sink.old sink.new }
     ensures puts { Puts result (S.written sink.old) out.old (rest_of_line numbers.now) (S.written sink.new) out.new }
-    ensures faults { Counts result (S.faults sink.old) (S.faults sink.new) }
+    ensures faults { CountsErr result (S.faults sink.old) (S.faults sink.new) }
 {
-    match put_numbers(out, sink, numbers) {
-        Moved::Failed => Moved::Failed,
-        Moved::Done => out.put(sink, b"\n"),
-    }
+    put_numbers(out, sink, numbers)?;
+    out.put(sink, b"\n")
 }
 
 // Puts a line of a letter and numbers.
-fn put_line<S: Sink>(out: &mut OutputBuffer, sink: &mut S, head: &[u8], numbers: &[u32]) -> Moved
+fn put_line<S: Sink>(
+    out: &mut OutputBuffer,
+    sink: &mut S,
+    head: &[u8],
+    numbers: &[u32],
+) -> Result<(), Failed>
     ensures leads { S.leads sink.old sink.new }
     ensures puts { Puts result (S.written sink.old) out.old (head.now ++ rest_of_line numbers.now) (S.written sink.new) out.new }
-    ensures faults { Counts result (S.faults sink.old) (S.faults sink.new) }
+    ensures faults { CountsErr result (S.faults sink.old) (S.faults sink.new) }
 {
-    match out.put(sink, head) {
-        Moved::Failed => Moved::Failed,
-        Moved::Done => put_rest(out, sink, numbers),
-    }
+    out.put(sink, head)?;
+    put_rest(out, sink, numbers)
 }
 
 // Puts a name and numbers.
@@ -76,22 +79,20 @@ pub fn put_named<S: Sink>(
     sink: &mut S,
     name: &[u8],
     numbers: &[u32],
-) -> Moved
+) -> Result<(), Failed>
     ensures leads { S.leads sink.old sink.new }
     ensures puts { Puts result (S.written sink.old) out.old (name.now ++ parts numbers.now) (S.written sink.new) out.new }
-    ensures faults { Counts result (S.faults sink.old) (S.faults sink.new) }
+    ensures faults { CountsErr result (S.faults sink.old) (S.faults sink.new) }
 {
-    match out.put(sink, name) {
-        Moved::Failed => Moved::Failed,
-        Moved::Done => put_numbers(out, sink, numbers),
-    }
+    out.put(sink, name)?;
+    put_numbers(out, sink, numbers)
 }
 
 // Puts a page behind a space.
-fn put_page<S: Sink>(out: &mut OutputBuffer, sink: &mut S, page: &Page) -> Moved
+fn put_page<S: Sink>(out: &mut OutputBuffer, sink: &mut S, page: &Page) -> Result<(), Failed>
     ensures leads { S.leads sink.old sink.new }
     ensures puts { Puts result (S.written sink.old) out.old (page_text page.now) (S.written sink.new) out.new }
-    ensures faults { Counts result (S.faults sink.old) (S.faults sink.new) }
+    ensures faults { CountsErr result (S.faults sink.old) (S.faults sink.new) }
 {
     match page {
         Page::Data { sid, v } => put_named(out, sink, b" d", &[*sid, *v]),
@@ -101,15 +102,18 @@ fn put_page<S: Sink>(out: &mut OutputBuffer, sink: &mut S, page: &Page) -> Moved
 }
 
 // Puts a letter and a page.
-fn put_page_head<S: Sink>(out: &mut OutputBuffer, sink: &mut S, head: &[u8], page: &Page) -> Moved
+fn put_page_head<S: Sink>(
+    out: &mut OutputBuffer,
+    sink: &mut S,
+    head: &[u8],
+    page: &Page,
+) -> Result<(), Failed>
     ensures leads { S.leads sink.old sink.new }
     ensures puts { Puts result (S.written sink.old) out.old (head.now ++ page_text page.now) (S.written sink.new) out.new }
-    ensures faults { Counts result (S.faults sink.old) (S.faults sink.new) }
+    ensures faults { CountsErr result (S.faults sink.old) (S.faults sink.new) }
 {
-    match out.put(sink, head) {
-        Moved::Failed => Moved::Failed,
-        Moved::Done => put_page(out, sink, page),
-    }
+    out.put(sink, head)?;
+    put_page(out, sink, page)
 }
 
 // Puts a line of a letter, a page and numbers.
@@ -119,15 +123,13 @@ fn put_page_line<S: Sink>(
     head: &[u8],
     page: &Page,
     numbers: &[u32],
-) -> Moved
+) -> Result<(), Failed>
     ensures leads { S.leads sink.old sink.new }
     ensures puts { Puts result (S.written sink.old) out.old (head.now ++ page_text page.now ++ rest_of_line numbers.now) (S.written sink.new) out.new }
-    ensures faults { Counts result (S.faults sink.old) (S.faults sink.new) }
+    ensures faults { CountsErr result (S.faults sink.old) (S.faults sink.new) }
 {
-    match put_page_head(out, sink, head, page) {
-        Moved::Failed => Moved::Failed,
-        Moved::Done => put_rest(out, sink, numbers),
-    }
+    put_page_head(out, sink, head, page)?;
+    put_rest(out, sink, numbers)
 }
 
 // A hexadecimal digit in lower case.
@@ -150,63 +152,64 @@ fn hex_pair(byte: u8) -> [u8; 2]
 }
 
 // Puts a byte as a pair of hexadecimal digits.
-fn put_pair<S: Sink>(out: &mut OutputBuffer, sink: &mut S, byte: u8) -> Moved
+fn put_pair<S: Sink>(out: &mut OutputBuffer, sink: &mut S, byte: u8) -> Result<(), Failed>
     ensures leads { S.leads sink.old sink.new }
     ensures puts { Puts result (S.written sink.old) out.old (hex_pair byte) (S.written sink.new) out.new }
-    ensures faults { Counts result (S.faults sink.old) (S.faults sink.new) }
+    ensures faults { CountsErr result (S.faults sink.old) (S.faults sink.new) }
 {
     out.put(sink, &hex_pair(byte))
 }
 
 // Puts bytes as pairs of hexadecimal digits.
-fn put_hex<S: Sink>(out: &mut OutputBuffer, sink: &mut S, bytes: &[u8]) -> Moved
+fn put_hex<S: Sink>(out: &mut OutputBuffer, sink: &mut S, bytes: &[u8]) -> Result<(), Failed>
     ensures leads { S.leads sink.old sink.new }
     ensures puts { Puts result (S.written sink.old) out.old (hex_text bytes.now) (S.written sink.new) out.new }
-    ensures faults { Counts result (S.faults sink.old) (S.faults sink.new) }
+    ensures faults { CountsErr result (S.faults sink.old) (S.faults sink.new) }
 {
     for byte in bytes {
-        match put_pair(out, sink, *byte) {
-            Moved::Failed => return Moved::Failed,
-            Moved::Done => {}
-        }
+        put_pair(out, sink, *byte)?;
     }
-    Moved::Done
+    Ok(())
 }
 
 // Puts what stands before the bytes that a process wrote.
-fn put_out_head<S: Sink>(out: &mut OutputBuffer, sink: &mut S, pid: u32) -> Moved
+fn put_out_head<S: Sink>(out: &mut OutputBuffer, sink: &mut S, pid: u32) -> Result<(), Failed>
     ensures leads { S.leads sink.old sink.new }
     ensures puts { Puts result (S.written sink.old) out.old (codes "o" ++ parts (pid ∷ []) ++ codes " ") (S.written sink.new) out.new }
-    ensures faults { Counts result (S.faults sink.old) (S.faults sink.new) }
+    ensures faults { CountsErr result (S.faults sink.old) (S.faults sink.new) }
 {
-    match put_named(out, sink, b"o", &[pid]) {
-        Moved::Failed => Moved::Failed,
-        Moved::Done => out.put(sink, b" "),
-    }
+    put_named(out, sink, b"o", &[pid])?;
+    out.put(sink, b" ")
 }
 
 // Puts the line of bytes that a process wrote, without its end.
-fn put_out_bytes<S: Sink>(out: &mut OutputBuffer, sink: &mut S, pid: u32, bytes: &[u8]) -> Moved
+fn put_out_bytes<S: Sink>(
+    out: &mut OutputBuffer,
+    sink: &mut S,
+    pid: u32,
+    bytes: &[u8],
+) -> Result<(), Failed>
     ensures leads { S.leads sink.old sink.new }
     ensures puts { Puts result (S.written sink.old) out.old (codes "o" ++ parts (pid ∷ []) ++ codes " " ++ hex_text bytes.now) (S.written sink.new) out.new }
-    ensures faults { Counts result (S.faults sink.old) (S.faults sink.new) }
+    ensures faults { CountsErr result (S.faults sink.old) (S.faults sink.new) }
 {
-    match put_out_head(out, sink, pid) {
-        Moved::Failed => Moved::Failed,
-        Moved::Done => put_hex(out, sink, bytes),
-    }
+    put_out_head(out, sink, pid)?;
+    put_hex(out, sink, bytes)
 }
 
 // Puts the line of bytes that a process wrote.
-fn put_out_line<S: Sink>(out: &mut OutputBuffer, sink: &mut S, pid: u32, bytes: &[u8]) -> Moved
+fn put_out_line<S: Sink>(
+    out: &mut OutputBuffer,
+    sink: &mut S,
+    pid: u32,
+    bytes: &[u8],
+) -> Result<(), Failed>
     ensures leads { S.leads sink.old sink.new }
     ensures puts { Puts result (S.written sink.old) out.old (codes "o" ++ parts (pid ∷ []) ++ codes " " ++ hex_text bytes.now ++ codes "\n") (S.written sink.new) out.new }
-    ensures faults { Counts result (S.faults sink.old) (S.faults sink.new) }
+    ensures faults { CountsErr result (S.faults sink.old) (S.faults sink.new) }
 {
-    match put_out_bytes(out, sink, pid, bytes) {
-        Moved::Failed => Moved::Failed,
-        Moved::Done => out.put(sink, b"\n"),
-    }
+    put_out_bytes(out, sink, pid, bytes)?;
+    out.put(sink, b"\n")
 }
 
 // The carry as a number.
@@ -218,10 +221,10 @@ fn bit_of(carry: bool) -> u32
 
 // Puts the line of an entry.
 #[tactic(auto, unfolding(crate::specs::Text::line_of))]
-pub fn put_entry<S: Sink>(out: &mut OutputBuffer, sink: &mut S, e: &Entry) -> Moved
+pub fn put_entry<S: Sink>(out: &mut OutputBuffer, sink: &mut S, e: &Entry) -> Result<(), Failed>
     ensures leads { S.leads sink.old sink.new }
     ensures puts { Puts result (S.written sink.old) out.old (line_of e.now) (S.written sink.new) out.new }
-    ensures faults { Counts result (S.faults sink.old) (S.faults sink.new) }
+    ensures faults { CountsErr result (S.faults sink.old) (S.faults sink.new) }
 {
     match e {
         Entry::Event { line } => put_line(out, sink, b"e", &[*line]),

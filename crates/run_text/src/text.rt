@@ -1,6 +1,9 @@
 // The text of a journal.
-ghost use Rattle.std.specs.Prelude.{◌≡◌, ℕ, ◌+◌, ◌^◌, ◌<◌, ◌≤◌, Bool, true, false, Option, Some, None, List, [], ◌∷◌, ◌++◌, codes};
+#![tactic(auto, using(crate::proofs::Passing::puts_then, crate::proofs::Passing::puts_failed))]
+
+ghost use Rattle.std.specs.Prelude.{◌≡◌, ℕ, ◌+◌, ◌^◌, ◌<◌, ◌≤◌, Bool, true, false, Option, Some, None, List, [], ◌∷◌, ◌++◌, codes, OnOk, OnErr};
 ghost use Rattle.io_edge.specs.Count.{Counts, OnDone, OnFailed};
+ghost use Rattle.io_edge.specs.Transfer.{CountsErr};
 ghost use Rattle.io_edge.specs.Written.{Appends, AppendsSome};
 ghost use Rattle.vm_facts.specs.declared.entry.Entry.TheVariants.{Ran};
 ghost use Rattle.run_text.specs.Buffered.{Puts};
@@ -10,23 +13,20 @@ ghost use Rattle.run_text.specs.Running.{waiting_text, waiting_count, text_befor
 use crate::buffer::OutputBuffer;
 use crate::line::{put_both, put_entry, put_named};
 use crate::waiting::Run;
-use io_edge::{Moved, Sink};
+use io_edge::{Failed, Moved, Sink};
 use itoa::Buffer;
 use vm_facts::Entry;
 
 // Puts the lines of entries.
-fn put_lines<S: Sink>(out: &mut OutputBuffer, sink: &mut S, entries: &[Entry]) -> Moved
+fn put_lines<S: Sink>(out: &mut OutputBuffer, sink: &mut S, entries: &[Entry]) -> Result<(), Failed>
     ensures leads { S.leads sink.old sink.new }
     ensures puts { Puts result (S.written sink.old) out.old (lines_of entries.now) (S.written sink.new) out.new }
-    ensures faults { Counts result (S.faults sink.old) (S.faults sink.new) }
+    ensures faults { CountsErr result (S.faults sink.old) (S.faults sink.new) }
 {
     for e in entries {
-        match put_entry(out, sink, e) {
-            Moved::Failed => return Moved::Failed,
-            Moved::Done => {}
-        }
+        put_entry(out, sink, e)?;
     }
-    Moved::Done
+    Ok(())
 }
 
 // Whether the entry is a paging entry.
@@ -57,47 +57,56 @@ fn is_paging(e: &Entry) -> bool
 }
 
 // Puts a number of any size behind a space.
-fn put_large_number<S: Sink>(out: &mut OutputBuffer, sink: &mut S, number: u128) -> Moved
+fn put_large_number<S: Sink>(
+    out: &mut OutputBuffer,
+    sink: &mut S,
+    number: u128,
+) -> Result<(), Failed>
     ensures leads { S.leads sink.old sink.new }
     ensures puts { Puts result (S.written sink.old) out.old (part number) (S.written sink.new) out.new }
-    ensures faults { Counts result (S.faults sink.old) (S.faults sink.new) }
+    ensures faults { CountsErr result (S.faults sink.old) (S.faults sink.new) }
 {
     let mut digits = Buffer::new();
     put_both(out, sink, b" ", digits.format(number).as_bytes())
 }
 
 // Puts a number of any size and the line's end.
-fn put_last_number<S: Sink>(out: &mut OutputBuffer, sink: &mut S, number: u128) -> Moved
+fn put_last_number<S: Sink>(
+    out: &mut OutputBuffer,
+    sink: &mut S,
+    number: u128,
+) -> Result<(), Failed>
     ensures leads { S.leads sink.old sink.new }
     ensures puts { Puts result (S.written sink.old) out.old (part number ++ codes "\n") (S.written sink.new) out.new }
-    ensures faults { Counts result (S.faults sink.old) (S.faults sink.new) }
+    ensures faults { CountsErr result (S.faults sink.old) (S.faults sink.new) }
 {
-    match put_large_number(out, sink, number) {
-        Moved::Failed => Moved::Failed,
-        Moved::Done => out.put(sink, b"\n"),
-    }
+    put_large_number(out, sink, number)?;
+    out.put(sink, b"\n")
 }
 
 // Puts the line of a joined `Ran`.
-fn put_ran<S: Sink>(out: &mut OutputBuffer, sink: &mut S, pid: u32, count: u128) -> Moved
+fn put_ran<S: Sink>(
+    out: &mut OutputBuffer,
+    sink: &mut S,
+    pid: u32,
+    count: u128,
+) -> Result<(), Failed>
     ensures leads { S.leads sink.old sink.new }
     ensures puts { Puts result (S.written sink.old) out.old (line_of (Ran pid count)) (S.written sink.new) out.new }
-    ensures faults { Counts result (S.faults sink.old) (S.faults sink.new) }
+    ensures faults { CountsErr result (S.faults sink.old) (S.faults sink.new) }
 {
-    match put_named(out, sink, b"r", &[pid]) {
-        Moved::Failed => Moved::Failed,
-        Moved::Done => put_last_number(out, sink, count),
-    }
+    put_named(out, sink, b"r", &[pid])?;
+    put_last_number(out, sink, count)
 }
 
 // Puts the line of what waits.
-fn put_run<S: Sink>(out: &mut OutputBuffer, sink: &mut S, run: &Option<Run>) -> Moved
+fn put_run<S: Sink>(out: &mut OutputBuffer, sink: &mut S, run: &Option<Run>) -> Result<(), Failed>
     ensures leads { S.leads sink.old sink.new }
     ensures puts { Puts result (S.written sink.old) out.old (waiting_text run.now) (S.written sink.new) out.new }
-    ensures faults { Counts result (S.faults sink.old) (S.faults sink.new) }
+    ensures faults { CountsErr result (S.faults sink.old) (S.faults sink.new) }
 {
     match run {
-        None => Moved::Done,
+        None => Ok(()),
         Some(waiting) => put_ran(out, sink, waiting.pid, waiting.count),
     }
 }
@@ -109,18 +118,18 @@ fn put_counted<S: Sink>(
     run: &mut Option<Run>,
     pid: u32,
     count: u32,
-) -> Moved
+) -> Result<(), Failed>
     requires { waiting_count run.old + 2 ^ 32 < 2 ^ 128 }
     ensures leads { S.leads sink.old sink.new }
     ensures puts { Puts result (S.written sink.old) out.old (text_before run.old pid) (S.written sink.new) out.new }
-    ensures faults { Counts result (S.faults sink.old) (S.faults sink.new) }
-    ensures run { OnDone result (run.new ≡ Some (run_with run.old pid count)) }
-    ensures count { OnDone result (waiting_count run.new ≤ waiting_count run.old + 2 ^ 32) }
+    ensures faults { CountsErr result (S.faults sink.old) (S.faults sink.new) }
+    ensures run { OnOk result (run.new ≡ Some (run_with run.old pid count)) }
+    ensures count { OnOk result (waiting_count run.new ≤ waiting_count run.old + 2 ^ 32) }
 {
     if let Some(waiting) = run {
         if waiting.pid == pid {
             waiting.count += count as u128;
-            return Moved::Done;
+            return Ok(());
         }
     }
     let ended = run.replace(Run {
@@ -136,21 +145,19 @@ fn put_other<S: Sink>(
     sink: &mut S,
     run: &mut Option<Run>,
     e: &Entry,
-) -> Moved
+) -> Result<(), Failed>
     ensures leads { S.leads sink.old sink.new }
     ensures puts { Puts result (S.written sink.old) out.old (other_text (is_paging e.now) run.old e.now) (S.written sink.new) out.new }
-    ensures faults { Counts result (S.faults sink.old) (S.faults sink.new) }
-    ensures run { OnDone result (run.new ≡ other_run (is_paging e.now) run.old) }
-    ensures count { OnDone result (waiting_count run.new ≤ waiting_count run.old) }
+    ensures faults { CountsErr result (S.faults sink.old) (S.faults sink.new) }
+    ensures run { OnOk result (run.new ≡ other_run (is_paging e.now) run.old) }
+    ensures count { OnOk result (waiting_count run.new ≤ waiting_count run.old) }
 {
     if is_paging(e) {
-        return Moved::Done;
+        return Ok(());
     }
     let ended = run.take();
-    match put_run(out, sink, &ended) {
-        Moved::Failed => Moved::Failed,
-        Moved::Done => put_entry(out, sink, e),
-    }
+    put_run(out, sink, &ended)?;
+    put_entry(out, sink, e)
 }
 
 // An entry comes.
@@ -159,13 +166,13 @@ fn put_next<S: Sink>(
     sink: &mut S,
     run: &mut Option<Run>,
     e: &Entry,
-) -> Moved
+) -> Result<(), Failed>
     requires { waiting_count run.old + 2 ^ 32 < 2 ^ 128 }
     ensures leads { S.leads sink.old sink.new }
     ensures puts { Puts result (S.written sink.old) out.old (text_at run.old e.now) (S.written sink.new) out.new }
-    ensures faults { Counts result (S.faults sink.old) (S.faults sink.new) }
-    ensures run { OnDone result (run.new ≡ run_after run.old e.now) }
-    ensures count { OnDone result (waiting_count run.new ≤ waiting_count run.old + 2 ^ 32) }
+    ensures faults { CountsErr result (S.faults sink.old) (S.faults sink.new) }
+    ensures run { OnOk result (run.new ≡ run_after run.old e.now) }
+    ensures count { OnOk result (waiting_count run.new ≤ waiting_count run.old + 2 ^ 32) }
 {
     match e {
         Entry::Ran { pid, count } => put_counted(out, sink, run, *pid, *count),
@@ -174,27 +181,33 @@ fn put_next<S: Sink>(
 }
 
 // Puts the lines of the entries without the paging entries, joined.
-fn put_joined<S: Sink>(out: &mut OutputBuffer, sink: &mut S, entries: &[Entry]) -> Moved
+fn put_joined<S: Sink>(
+    out: &mut OutputBuffer,
+    sink: &mut S,
+    entries: &[Entry],
+) -> Result<(), Failed>
     ensures leads { S.leads sink.old sink.new }
     ensures puts { Puts result (S.written sink.old) out.old (lines_of (joined (without_paging entries.now))) (S.written sink.new) out.new }
-    ensures faults { Counts result (S.faults sink.old) (S.faults sink.new) }
+    ensures faults { CountsErr result (S.faults sink.old) (S.faults sink.new) }
 {
     let mut run = None;
     for e in entries {
-        match put_next(out, sink, &mut run, e) {
-            Moved::Failed => return Moved::Failed,
-            Moved::Done => {}
-        }
+        put_next(out, sink, &mut run, e)?;
     }
     put_run(out, sink, &run)
 }
 
 // Puts the text of a journal.
 #[tactic(auto, unfolding(crate::specs::Text::text_of))]
-fn put_text<S: Sink>(out: &mut OutputBuffer, sink: &mut S, trace: bool, entries: &[Entry]) -> Moved
+fn put_text<S: Sink>(
+    out: &mut OutputBuffer,
+    sink: &mut S,
+    trace: bool,
+    entries: &[Entry],
+) -> Result<(), Failed>
     ensures leads { S.leads sink.old sink.new }
     ensures puts { Puts result (S.written sink.old) out.old (text_of trace entries.now) (S.written sink.new) out.new }
-    ensures faults { Counts result (S.faults sink.old) (S.faults sink.new) }
+    ensures faults { CountsErr result (S.faults sink.old) (S.faults sink.new) }
 {
     if trace {
         put_lines(out, sink, entries)
@@ -210,15 +223,25 @@ fn put_text_and<S: Sink>(
     trace: bool,
     entries: &[Entry],
     last: &[u8],
-) -> Moved
+) -> Result<(), Failed>
     ensures leads { S.leads sink.old sink.new }
     ensures puts { Puts result (S.written sink.old) out.old (text_of trace entries.now ++ last.now) (S.written sink.new) out.new }
-    ensures faults { Counts result (S.faults sink.old) (S.faults sink.new) }
+    ensures faults { CountsErr result (S.faults sink.old) (S.faults sink.new) }
 {
-    match put_text(out, sink, trace, entries) {
-        Moved::Failed => Moved::Failed,
-        Moved::Done => out.put(sink, last),
-    }
+    put_text(out, sink, trace, entries)?;
+    out.put(sink, last)
+}
+
+// Writes the line of an entry through a buffer of its own.
+fn write_line<S: Sink>(sink: &mut S, e: &Entry) -> Result<(), Failed>
+    ensures leads { S.leads sink.old sink.new }
+    ensures done { OnOk result (Appends (S.written sink.old) (line_of e.now) (S.written sink.new)) }
+    ensures failed { OnErr result (AppendsSome (S.written sink.old) (line_of e.now) (S.written sink.new)) }
+    ensures faults { CountsErr result (S.faults sink.old) (S.faults sink.new) }
+{
+    let mut out = OutputBuffer::new();
+    put_entry(&mut out, sink, e)?;
+    out.flush(sink)
 }
 
 /// Writes the line of an entry, with its end, and takes no memory. Where the sink failed, which its
@@ -229,11 +252,27 @@ pub fn write_entry<S: Sink>(sink: &mut S, e: &Entry) -> Moved
     ensures failed { OnFailed result (AppendsSome (S.written sink.old) (line_of e.now) (S.written sink.new)) }
     ensures faults { Counts result (S.faults sink.old) (S.faults sink.new) }
 {
-    let mut out = OutputBuffer::new();
-    match put_entry(&mut out, sink, e) {
-        Moved::Failed => Moved::Failed,
-        Moved::Done => out.flush(sink),
+    match write_line(sink, e) {
+        Ok(()) => Moved::Done,
+        Err(Failed) => Moved::Failed,
     }
+}
+
+// Writes the text of a journal and what follows it through a buffer of its own.
+fn write_whole<S: Sink>(
+    sink: &mut S,
+    trace: bool,
+    entries: &[Entry],
+    last: &[u8],
+) -> Result<(), Failed>
+    ensures leads { S.leads sink.old sink.new }
+    ensures done { OnOk result (Appends (S.written sink.old) (text_of trace entries.now ++ last.now) (S.written sink.new)) }
+    ensures failed { OnErr result (AppendsSome (S.written sink.old) (text_of trace entries.now ++ last.now) (S.written sink.new)) }
+    ensures faults { CountsErr result (S.faults sink.old) (S.faults sink.new) }
+{
+    let mut out = OutputBuffer::new();
+    put_text_and(&mut out, sink, trace, entries, last)?;
+    out.flush(sink)
 }
 
 /// Writes the text of a journal, with the paging entries or without them, and behind it the last
@@ -246,9 +285,8 @@ pub fn write_text<S: Sink>(sink: &mut S, trace: bool, entries: &[Entry], last: &
     ensures failed { OnFailed result (AppendsSome (S.written sink.old) (text_of trace entries.now ++ last.now) (S.written sink.new)) }
     ensures faults { Counts result (S.faults sink.old) (S.faults sink.new) }
 {
-    let mut out = OutputBuffer::new();
-    match put_text_and(&mut out, sink, trace, entries, last) {
-        Moved::Failed => Moved::Failed,
-        Moved::Done => out.flush(sink),
+    match write_whole(sink, trace, entries, last) {
+        Ok(()) => Moved::Done,
+        Err(Failed) => Moved::Failed,
     }
 }
