@@ -22,10 +22,6 @@ pub enum Shown {
     NoInstruction,
 }
 
-/// Want of memory: the allocator refused.
-#[derive(Clone, Copy, Debug, PartialEq, Eq, Drop)]
-pub struct NoMemory;
-
 /// What a source makes.
 #[derive(Drop)]
 pub struct Program {

@@ -23,9 +23,10 @@ mod syntax;
 mod text;
 mod values;
 
-pub use answers::{Assembled, Encoded, NoMemory, Program, Shown};
+pub use answers::{Assembled, Encoded, Program, Shown};
 pub use assembly::{encode, show};
 pub use program::assemble;
+pub use vm_facts::NoMemory;
 
 #[cfg(test)]
 mod examples;

@@ -2,7 +2,7 @@
 ghost use Rattle.std.specs.Prelude.{◌≡◌, ℕ, ◌+◌, ◌*◌, ◌≤◌, ◌<◌, ◌++◌, Bool, true, false, Option, Some, None, List, [], ◌∷◌, IfOk, length, replicate, if◌then◌else◌, not, ◌&&◌};
 ghost use Rattle.vax_asm.specs.Program.{Puts, number_size, place_size, operand_size, sentence_size, is_up_to, statement_size, optional_size, item_size, item_definition, labels_of, value_bytes, statement_bytes, optional_bytes, bytes_behind, within, bounded, is_new, HasSmallBss, first_of, bss_in, AssemblesAs};
 
-use crate::answers::{Assembled, NoMemory, Program};
+use crate::answers::{Assembled, Program};
 use crate::code::Code;
 use crate::encoding::{bits_of_value, find_definition, sentence_bytes};
 use crate::lines::next_item;
@@ -11,6 +11,7 @@ use crate::syntax::{
 };
 use std::alloc::Global;
 use vax_code::Row;
+use vm_facts::NoMemory;
 
 fn number_size(size: u8) -> u32
     ensures value { result ≡ number_size size }
@@ -122,9 +123,7 @@ fn define(labels: &mut Vec<Definition>, at: u32, item: &Option<SourceLine>) -> R
             label: *label,
             address: at,
         };
-        if labels.push(definition).is_err() {
-            return Err(NoMemory);
-        }
+        labels.push(definition)?;
     }
     Ok(())
 }
@@ -165,9 +164,7 @@ fn put_bytes(bytes: &mut Vec<u8>, own: &[u8]) -> Result<bool, NoMemory>
     if bytes.len() > 65536 || bytes.len() + own.len() > 65536 {
         return Ok(false);
     }
-    if bytes.extend_from_slice(own).is_err() {
-        return Err(NoMemory);
-    }
+    bytes.extend_from_slice(own)?;
     Ok(true)
 }
 
@@ -180,9 +177,7 @@ fn put_zeros(bytes: &mut Vec<u8>, count: u32) -> Result<bool, NoMemory>
         return Ok(false);
     }
     let end = bytes.len() + count;
-    if bytes.resize(end, 0).is_err() {
-        return Err(NoMemory);
-    }
+    bytes.resize(end, 0)?;
     Ok(true)
 }
 
