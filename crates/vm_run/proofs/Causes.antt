@@ -45,7 +45,7 @@ caused_by_image numbers zero_blocks one_blocks f (Absent named) is fault stays =
 caused_by_image numbers zero_blocks one_blocks f (NotImage reason) is fault stays = refl
 caused_by_image numbers zero_blocks one_blocks f (BadSchedule line) is fault stays = absurd is
 caused_by_image numbers zero_blocks one_blocks f FileFault is fault stays = inl ((fault refl, stays), refl)
-caused_by_image numbers zero_blocks one_blocks f NoMemory is fault stays = absurd is
+caused_by_image numbers zero_blocks one_blocks f NoMemory is fault stays = tt
 caused_by_image numbers zero_blocks one_blocks f (ShortDevice device blocks needed) is fault stays = absurd is
 caused_by_image numbers zero_blocks one_blocks f OutOfFrames is fault stays = absurd is
 

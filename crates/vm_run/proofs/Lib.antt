@@ -20,3 +20,5 @@ pub mod Transcribing
 pub mod Causes
 pub mod Scheduling
 pub mod ReplayWords
+pub mod CommandWords
+pub mod Obeying

@@ -8,8 +8,7 @@ use Rattle.std.proofs.lemmas.List.Elements.{All-nil, All-cons}
 use Rattle.std.proofs.lemmas.Slice.Eq.{bytes_eq-Decides}
 use Rattle.run_files.specs.ImageWords.{name_in}
 use Rattle.vm_run.specs.Opening.{word_of}
-use Rattle.vm_run.specs.Words.{has_up_to, is_name, is_started, is_known, is_image, is_plain, are_images, is_replay, is_command, kept_of, without_trace, are_good, tool_named, tool_of}
-use Rattle.vm_run.specs.declared.words.Tool.TheVariants.{Assemble, Show, Replay}
+use Rattle.vm_run.specs.Words.{has_up_to, is_name, is_started, is_known, is_image, is_plain, are_images, is_replay, is_command, kept_of, without_trace, are_good, tool_named, tool_of, Assemble, Show, Replay}
 
 -- the one name of the command
 replay_named : (name : List ℕ) → tool_named name ≡ Some Replay → name ≡ codes "replay"

@@ -5,15 +5,14 @@ use Rattle.io_edge.specs.Count.{Rose}
 use Rattle.io_edge.specs.FileHolding.{NamedFile, place_of, bytes_at}
 use Rattle.aout_image.specs.declared.Image.{Image}
 use Rattle.aout_image.specs.Image.{Loaded, image_of}
+use Rattle.run_files.specs.Told.{IsImageOf}
 use Rattle.vm_run.specs.InterimInputs.{Inputs}
 use Rattle.vm_run.specs.declared.words.Numbers.{Numbers}
-use Rattle.vm_run.specs.Words.{command_of}
-use Rattle.vm_run.specs.declared.words.Command.{Command}
-use Rattle.vm_run.specs.declared.words.Command.TheVariants.{Run, Unbuilt}
+use Rattle.vm_run.specs.Words.{Task, Run, Unbuilt, command_of}
 use Rattle.vm_run.specs.declared.ending.Ending.{Ending}
-use Rattle.vm_run.specs.declared.opening.Opened.{Opened}
+use Rattle.run_files.specs.declared.answers.Opened.{Opened}
 use Rattle.vm_run.specs.declared.ending.Ending.TheVariants.{Finished, BadWords, NotBuilt, Absent, NotImage, BadSchedule, FileFault, NoMemory, ShortDevice, OutOfFrames}
-use Rattle.vm_run.specs.Opening.{IsLoaded, word_of, first_of, image_ending, device_ending, EndsSchedule, IsJudged, Says, SaysSchedule, IsScheduleEnding, IsImageEnding}
+use Rattle.vm_run.specs.Opening.{word_of, first_of, image_ending, device_ending, EndsSchedule, IsJudged, Says, SaysSchedule, IsScheduleEnding, IsImageEnding}
 use Rattle.command_ending.specs.Command.{Faults}
 use Rattle.vm_run.specs.Ending.{CanBeLost}
 use Rattle.vm_run.specs.Seen.{Seen}
@@ -38,12 +37,12 @@ ends_as numbers image files f (ShortDevice device blocks needed) journal A of e 
 ends_as numbers image files f OutOfFrames journal A of e kind opens = lawful_by numbers image files journal A of e
 
 pub run_ends : (numbers : Numbers) (image : List ℕ) (files : List NamedFile) (f : Faults) (ending : Ending) (journal : List Entry) (file : ℕ) (facts : Image)
-    → place_of files image ≡ Some file → IsLoaded (image_of (bytes_at files file)) facts
+    → place_of files image ≡ Some file → IsImageOf (image_of (bytes_at files file)) facts
     → ((A : Inputs) → IsOpenedAs A files facts file numbers.limit image → EndsOpened A ending journal) → IsRunEnding f ending journal → f.open_after ≡ f.open_before
     → EndsRun numbers image files f ending journal
 run_ends numbers image files f ending journal file facts found is ends kind opens = go (image_of (bytes_at files file)) refl is
   where
-    go : (r : Result Loaded ℕ) → image_of (bytes_at files file) ≡ r → IsLoaded r facts → EndsRun numbers image files f ending journal
+    go : (r : Result Loaded ℕ) → image_of (bytes_at files file) ≡ r → IsImageOf r facts → EndsRun numbers image files f ending journal
     go (Err reason) e k = absurd k
     go (Ok loaded) e k =
         let A : Inputs = record { name = image; image = loaded; limit = numbers.limit } in
@@ -91,14 +90,14 @@ forget_named numbers schedule image files zero_blocks one_blocks f ending journa
     go (Some told) e by = inl (by.0, tt)
 
 -- want of memory may come in place of any ending whose line can be lost
-forget : (command : Option Command) (words : List (List ℕ)) (files : List NamedFile) (zero_blocks one_blocks : ℕ) (f : Faults) (ending : Ending) (journal : List Entry) → CanBeLost ending
+forget : (command : Option Task) (words : List (List ℕ)) (files : List NamedFile) (zero_blocks one_blocks : ℕ) (f : Faults) (ending : Ending) (journal : List Entry) → CanBeLost ending
     → EndsWords command words files zero_blocks one_blocks f ending journal → EndsWords command words files zero_blocks one_blocks f NoMemory journal
 forget None words files zero_blocks one_blocks f ending journal lost e = absurd (subst CanBeLost e.0 lost)
 forget (Some Unbuilt) words files zero_blocks one_blocks f ending journal lost e = absurd (subst CanBeLost e.0 lost)
 forget (Some (Run numbers)) words files zero_blocks one_blocks f ending journal lost e =
     forget_named numbers (word_of words 4) (word_of words 5) files zero_blocks one_blocks f ending journal e
 
-forget_cause : (command : Option Command) (zero_blocks one_blocks : ℕ) (f : Faults) (ending : Ending) (journal : List Entry) → CanBeLost ending
+forget_cause : (command : Option Task) (zero_blocks one_blocks : ℕ) (f : Faults) (ending : Ending) (journal : List Entry) → CanBeLost ending
     → IsCaused command zero_blocks one_blocks f ending journal → IsCaused command zero_blocks one_blocks f NoMemory journal
 forget_cause None zero_blocks one_blocks f ending journal lost caused = absurd (subst CanBeLost caused.0 lost)
 forget_cause (Some Unbuilt) zero_blocks one_blocks f ending journal lost caused = absurd (subst CanBeLost caused.0 lost)
@@ -169,7 +168,7 @@ ends_by_image numbers schedule image files zero_blocks one_blocks f (NotImage re
     told_behind numbers schedule image files zero_blocks one_blocks f (NotImage reason) lines (ap (λ (o : Option Ending). first_of o (device_ending numbers.swap zero_blocks one_blocks)) says)
 ends_by_image numbers schedule image files zero_blocks one_blocks f (BadSchedule line) lines is says = absurd is
 ends_by_image numbers schedule image files zero_blocks one_blocks f FileFault lines is says = inl (refl, says)
-ends_by_image numbers schedule image files zero_blocks one_blocks f NoMemory lines is says = absurd is
+ends_by_image numbers schedule image files zero_blocks one_blocks f NoMemory lines is says = inl (refl, tt)
 ends_by_image numbers schedule image files zero_blocks one_blocks f (ShortDevice device blocks needed) lines is says = absurd is
 ends_by_image numbers schedule image files zero_blocks one_blocks f OutOfFrames lines is says = absurd is
 

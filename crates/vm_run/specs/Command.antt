@@ -5,8 +5,7 @@ use Rattle.replay_command.specs.Command.{Replays}
 use Rattle.vm_run.specs.Seen.{Seen}
 use Rattle.vm_run.specs.Opening.{word_of}
 use Rattle.vm_run.specs.Transcript.{Transcribes}
-use Rattle.vm_run.specs.declared.words.Tool.{Tool}
-use Rattle.vm_run.specs.declared.words.Tool.TheVariants.{Assemble, Show, Replay}
+use Rattle.vm_run.specs.Words.{Tool, Assemble, Show, Replay}
 
 -- a source is assembled, an image listed, or a transcript judged over images; any other words are a run's, or not good,
 -- or can't be run yet

@@ -10,6 +10,7 @@ pub mod Lawful
 pub mod LastRan
 pub mod Running
 pub mod Words
+pub mod Reading
 pub mod Ending
 pub mod Opening
 pub mod Seen

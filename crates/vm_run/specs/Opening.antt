@@ -4,16 +4,25 @@ use Rattle.std.specs.Prelude.{◌≡◌, ℕ, nat_lt, List, [], ◌∷◌, slice
 use Rattle.io_edge.specs.Count.{Rose}
 use Rattle.io_edge.specs.FileHolding.{NamedFile, place_of, bytes_at}
 use Rattle.io_edge.specs.Striping.{zero_needs, one_needs}
-use Rattle.aout_image.specs.declared.Image.{Image as Facts}
 use Rattle.aout_image.specs.Image.{Loaded, image_of}
 use Rattle.run_text.specs.Schedule.{IsReadSchedule}
 use Rattle.run_text.specs.declared.answers.Schedule.{Schedule as Lines}
 use Rattle.run_text.specs.declared.answers.Schedule.TheVariants.{Is, BadLine}
 use Rattle.vm_facts.specs.declared.event.Event.{Event}
+use Rattle.run_files.specs.declared.answers.Unread.{Unread}
+use Rattle.run_files.specs.declared.answers.Unread.TheVariants as unreads
 use Rattle.vm_run.specs.declared.words.Numbers.{Numbers}
+use Rattle.vm_run.specs.declared.ending.Named.{Named}
 use Rattle.vm_run.specs.declared.ending.Named.TheVariants.{Schedule, Image}
 use Rattle.vm_run.specs.declared.ending.Ending.{Ending}
 use Rattle.vm_run.specs.declared.ending.Ending.TheVariants.{NotBuilt, Absent, NotImage, BadSchedule, FileFault, NoMemory, ShortDevice}
+
+-- the ending of a run whose schedule or image wasn't read
+abbrev pub unread_ending : Named → Unread → Ending
+unread_ending named unreads.Absent = Absent named
+unread_ending named (unreads.NotImage reason) = NotImage reason
+unread_ending named unreads.FileFault = FileFault
+unread_ending named unreads.NoMemory = NoMemory
 
 -- the word at a place
 abbrev pub word_of : List (List ℕ) → ℕ → List ℕ
@@ -104,20 +113,10 @@ IsScheduleEnding FileFault = Unit {0}
 IsScheduleEnding NoMemory = Unit {0}
 IsScheduleEnding _ = ⊥
 
--- the endings of a file that is read
-abbrev pub IsReadEnding : Ending → Type 0
-IsReadEnding FileFault = Unit {0}
-IsReadEnding NoMemory = Unit {0}
-IsReadEnding _ = ⊥
-
 -- the endings of an image
 abbrev pub IsImageEnding : Ending → Type 0
 IsImageEnding (Absent named) = named ≡ Image
 IsImageEnding (NotImage reason) = Unit {0}
 IsImageEnding FileFault = Unit {0}
+IsImageEnding NoMemory = Unit {0}
 IsImageEnding _ = ⊥
-
--- the file is the image of these facts
-abbrev pub IsLoaded : Result Loaded ℕ → Facts → Type 0
-IsLoaded (Ok image) facts = image.facts ≡ facts
-IsLoaded (Err reason) facts = ⊥

@@ -9,9 +9,7 @@ use Rattle.vm_run.specs.InterimInputs.{Inputs}
 use Rattle.run_text.specs.Text.{text_of}
 use Rattle.vm_run.specs.Next.{State}
 use Rattle.vm_run.specs.Lawful.{IsLawful, IsFinished}
-use Rattle.vm_run.specs.Words.{command_of}
-use Rattle.vm_run.specs.declared.words.Command.{Command}
-use Rattle.vm_run.specs.declared.words.Command.TheVariants.{Run, Unbuilt}
+use Rattle.vm_run.specs.Words.{Task, Run, Unbuilt, command_of}
 use Rattle.vm_run.specs.declared.words.Numbers.{Numbers}
 use Rattle.command_ending.specs.Command.{Faults, NoFaults, OpenFailed, PageFailed, Writes}
 use Rattle.vm_run.specs.Ending.{status_of, fault_line, CanBeLost}
@@ -106,7 +104,7 @@ EndsNamed numbers schedule image files zero_blocks one_blocks f ending journal =
     ((journal ≡ []) × EndsUnjudged f ending) ⊎ EndsJudged numbers schedule image files zero_blocks one_blocks f ending journal
 
 -- by the words: the first thing met decides
-abbrev pub EndsWords : Option Command → List (List ℕ) → List NamedFile → ℕ → ℕ → Faults → Ending → List Entry → Type 0
+abbrev pub EndsWords : Option Task → List (List ℕ) → List NamedFile → ℕ → ℕ → Faults → Ending → List Entry → Type 0
 EndsWords None words files zero_blocks one_blocks f ending journal = (ending ≡ BadWords) × (journal ≡ [])
 EndsWords (Some Unbuilt) words files zero_blocks one_blocks f ending journal = (ending ≡ NotBuilt) × (journal ≡ [])
 EndsWords (Some (Run numbers)) words files zero_blocks one_blocks f ending journal =
@@ -128,7 +126,7 @@ IsRunCaused numbers zero_blocks one_blocks f (ShortDevice device blocks needed) 
 IsRunCaused numbers zero_blocks one_blocks f OutOfFrames journal = device_ending numbers.swap zero_blocks one_blocks ≡ None
 
 -- the same by the words
-abbrev pub IsCaused : Option Command → ℕ → ℕ → Faults → Ending → List Entry → Type 0
+abbrev pub IsCaused : Option Task → ℕ → ℕ → Faults → Ending → List Entry → Type 0
 IsCaused None zero_blocks one_blocks f ending journal = (ending ≡ BadWords) × (journal ≡ [])
 IsCaused (Some Unbuilt) zero_blocks one_blocks f ending journal = (ending ≡ NotBuilt) × (journal ≡ [])
 IsCaused (Some (Run numbers)) zero_blocks one_blocks f ending journal = IsRunCaused numbers zero_blocks one_blocks f ending journal

@@ -6,10 +6,6 @@ use Rattle.std.specs.Char.{is_ascii_digit}
 use Rattle.std.specs.Str.Parse.{digits_value}
 use Rattle.vm_run.specs.declared.words.Numbers.{Numbers}
 use Rattle.vm_run.specs.declared.words.Kept.{Kept}
-use Rattle.vm_run.specs.declared.words.Command.{Command}
-use Rattle.vm_run.specs.declared.words.Tool.{Tool}
-use Rattle.vm_run.specs.declared.words.Tool.TheVariants.{Assemble, Show, Replay}
-use Rattle.vm_run.specs.declared.words.Command.TheVariants.{Run, Unbuilt}
 use Rattle.vm_run.specs.Opening.{word_of}
 
 -- a word has at least one byte, and so many at most
@@ -131,14 +127,25 @@ kept_of words = if bytes_eq (word_of words 0) (codes "run") then without_trace w
 unfoldable pub are_good : List (List ℕ) → Bool
 are_good words = list_all is_plain (kept_of words) && is_command (word_of (kept_of words) 0) (drop 1 (kept_of words))
 
+-- what words ask for beside the commands that run no process: a run, by its numbers, or what isn't built yet
+pub data Task : Type 0 where
+  Run : Numbers → Task
+  Unbuilt : Task
+
+-- a command that runs no process
+pub data Tool : Type 0 where
+  Assemble : Tool
+  Show : Tool
+  Replay : Tool
+
 -- the command by its numbers, where it can be run, and whether the words are good
-abbrev pub command_by : Option Numbers → Bool → Option Command
+abbrev pub command_by : Option Numbers → Bool → Option Task
 command_by (Some numbers) good = Some (Run numbers)
 command_by None true = Some Unbuilt
 command_by None false = None
 
 -- the command of a command line: a run of one image without its paging entries, or one that isn't built yet
-unfoldable pub command_of : List (List ℕ) → Option Command
+unfoldable pub command_of : List (List ℕ) → Option Task
 command_of words = command_by (numbers_of words) (are_good words)
 
 -- the command of this name, where it is one that runs no process
@@ -150,12 +157,6 @@ tool_named name =
 -- the command of good words, where it is one that runs no process
 unfoldable pub tool_of : List (List ℕ) → Option Tool
 tool_of words = if are_good words then tool_named (word_of words 0) else None
-
--- a fact of the numbers, where it is a run
-abbrev pub IfRun : Option Command → (Numbers → Type 0) → Type 0
-IfRun (Some (Run numbers)) P = P numbers
-IfRun (Some Unbuilt) P = Unit {0}
-IfRun None P = Unit {0}
 
 -- the words before the option and those behind it
 abbrev pub kept_words : Kept → List (List ℕ)

@@ -3,23 +3,23 @@ ghost use Rattle.io_edge.specs.FileHolding.{NamedFile};
 ghost use Rattle.aout_image.specs.Image.{IsSound, file_length_of};
 ghost use Rattle.vm_run.specs.InterimInputs.{Inputs};
 ghost use Rattle.run_text.specs.Text.{text_of};
-ghost use Rattle.vm_run.specs.Words.{command_of, tool_of};
+ghost use Rattle.vm_run.specs.Words.{tool_of};
 ghost use Rattle.command_ending.specs.Command.{Writes};
 ghost use Rattle.vm_run.specs.Command.{Obeys};
 ghost use Rattle.vm_run.specs.Ending.{status_of};
 ghost use Rattle.vm_run.specs.Halted.{halted};
 ghost use Rattle.vm_run.specs.Resident.{HasBytes};
-ghost use Rattle.vm_run.specs.Opening.{word_of};
-ghost use Rattle.vm_run.specs.Transcript.{EndsOpened, EndsNamed, EndsWords, Transcribes, WritesSome, IsCaused, IsRunEnding, IsOpenedAs};
+ghost use Rattle.vm_run.specs.Transcript.{EndsOpened, EndsNamed, WritesSome, IsRunCaused, IsRunEnding, IsOpenedAs};
 
 use crate::ending::Ending;
 use crate::journal::Journal;
-use crate::opening::{Opened, judge_devices, open_image, open_schedule};
+use crate::opening::{find_image, judge_devices, open_schedule};
 use crate::running::{Halt, Running};
-use crate::words::{Command, Numbers, Tool, read_tool, read_words, replay_images};
+use crate::words::{Command, Numbers, read_words};
 use command_ending::NO_MEMORY;
 use io_edge::{Files, Moved, Sink, SwapDev};
 use replay_command::replay_file;
+use run_files::Opened;
 use run_text::write_text;
 use source_commands::{assemble_file, list_file};
 use std::alloc::Global;
@@ -29,14 +29,6 @@ use std::alloc::Global;
 pub struct Ran {
     pub ending: Ending,
     pub journal: Journal,
-}
-
-// The word at a place.
-fn word_at<'a>(words: &[&'a str], place: usize) -> &'a str
-    requires { place < length words.now }
-    ensures { result.now ≡ word_of (map (λ word. word.now) words.now) place }
-{
-    words[place]
 }
 
 // A run that ended before it began.
@@ -114,13 +106,13 @@ fn run_named<F: Files>(
     ensures ends { (list : List NamedFile) → F.holds files.old ≡ Some list
         → EndsNamed numbers schedule.now image.now list zero_blocks one_blocks
         (record { open_before = F.open_faults files.old; open_after = F.open_faults files.new; page_before = F.page_faults files.old; page_after = F.page_faults files.new }) result.ending result.journal }
-    ensures caused { IsCaused (Some (Command.Run numbers)) zero_blocks one_blocks
+    ensures caused { IsRunCaused numbers zero_blocks one_blocks
         (record { open_before = F.open_faults files.old; open_after = F.open_faults files.new; page_before = F.page_faults files.old; page_after = F.page_faults files.new }) result.ending result.journal }
 {
     if let Err(ending) = open_schedule(alloc, files, schedule) {
         return ended_early(alloc, ending);
     }
-    let opened = match open_image(files, image) {
+    let opened = match find_image(alloc, files, image) {
         Ok(opened) => opened,
         Err(ending) => return ended_early(alloc, ending),
     };
@@ -128,50 +120,6 @@ fn run_named<F: Files>(
         return ended_early(alloc, ending);
     }
     run_opened(alloc, files, numbers, opened, image)
-}
-
-// The numbers of blocks of the devices decide after the files.
-fn run_words<F: Files>(
-    alloc: Global,
-    words: &[&str],
-    files: &mut F,
-    zero_blocks: u32,
-    one_blocks: u32,
-) -> Ran
-    ensures ends { (list : List NamedFile) → F.holds files.old ≡ Some list
-        → EndsWords (command_of (map (λ word. word.now) words.now)) (map (λ word. word.now) words.now) list zero_blocks one_blocks
-        (record { open_before = F.open_faults files.old; open_after = F.open_faults files.new; page_before = F.page_faults files.old; page_after = F.page_faults files.new }) result.ending result.journal }
-    ensures caused { IsCaused (command_of (map (λ word. word.now) words.now)) zero_blocks one_blocks
-        (record { open_before = F.open_faults files.old; open_after = F.open_faults files.new; page_before = F.page_faults files.old; page_after = F.page_faults files.new }) result.ending result.journal }
-{
-    match read_words(words) {
-        None => ended_early(alloc, Ending::BadWords),
-        Some(Command::Unbuilt) => ended_early(alloc, Ending::NotBuilt),
-        Some(Command::Run { numbers }) => {
-            let schedule = word_at(words, 4);
-            let image = word_at(words, 5);
-            run_named(
-                alloc,
-                files,
-                numbers,
-                schedule,
-                image,
-                zero_blocks,
-                one_blocks,
-            )
-        }
-    }
-}
-
-// The word at a place, or none.
-fn word_or_none<'a>(words: &[&'a str], place: usize) -> &'a str
-    ensures { result.now ≡ word_of (map (λ word. word.now) words.now) place }
-{
-    if place < words.len() {
-        word_at(words, place)
-    } else {
-        ""
-    }
 }
 
 // Writes a journal's text and the line behind it, and answers the status.
@@ -194,35 +142,11 @@ fn write_run<S: Sink>(alloc: Global, sink: &mut S, ran: Ran, schedule: &str, ima
     }
 }
 
-// Runs words that aren't those of another command, and answers the status.
-fn run_command<F: Files, S: Sink>(
-    alloc: Global,
-    words: &[&str],
-    files: &mut F,
-    zero_blocks: u32,
-    one_blocks: u32,
-    sink: &mut S,
-) -> u8
-    ensures { Transcribes (record {
-      words = map (λ word. word.now) words.now;
-      files = F.holds files.old;
-      faults = record { open_before = F.open_faults files.old; open_after = F.open_faults files.new; page_before = F.page_faults files.old; page_after = F.page_faults files.new };
-      zero_blocks = zero_blocks;
-      one_blocks = one_blocks;
-      written_before = S.written sink.old;
-      written_after = S.written sink.new;
-      sink_faults_before = S.faults sink.old;
-      sink_faults_after = S.faults sink.new;
-    }) result }
+// Writes the line of words that can't be run, which has no name in it.
+fn write_fault<S: Sink>(alloc: Global, sink: &mut S, ending: Ending) -> u8
+    ensures { WritesSome (S.written sink.old) (S.written sink.new) (S.faults sink.old) (S.faults sink.new) [] [] ending [] result }
 {
-    let ran = run_words(alloc, words, files, zero_blocks, one_blocks);
-    write_run(
-        alloc,
-        sink,
-        ran,
-        word_or_none(words, 4),
-        word_or_none(words, 5),
-    )
+    write_run(alloc, sink, ended_early(alloc, ending), "", "")
 }
 
 /// Does what the words of a command line ask for, without the program's name, over files, two swap devices and an
@@ -258,13 +182,31 @@ pub fn vmrun<F: Files, D: SwapDev, E: SwapDev, S: Sink>(
     ensures zero { zero.new ≡ zero.old }
     ensures one { one.new ≡ one.old }
 {
-    match read_tool(words) {
-        Some(Tool::Assemble) => assemble_file(alloc, files, sink, word_or_none(words, 1)),
-        Some(Tool::Show) => list_file(alloc, files, sink, word_or_none(words, 1)),
-        Some(Tool::Replay) => {
-            let images = replay_images(words);
-            replay_file(alloc, files, sink, word_or_none(words, 1), images)
+    match read_words(words) {
+        Some(
+            Command::Run {
+                numbers,
+                schedule,
+                image,
+            },
+        ) => {
+            let ran = run_named(
+                alloc,
+                files,
+                numbers,
+                schedule,
+                image,
+                zero.blocks(),
+                one.blocks(),
+            );
+            write_run(alloc, sink, ran, schedule, image)
         }
-        None => run_command(alloc, words, files, zero.blocks(), one.blocks(), sink),
+        Some(Command::Replay { transcript, images }) => {
+            replay_file(alloc, files, sink, transcript, images)
+        }
+        Some(Command::Assemble { source }) => assemble_file(alloc, files, sink, source),
+        Some(Command::Show { image }) => list_file(alloc, files, sink, image),
+        Some(Command::Unbuilt) => write_fault(alloc, sink, Ending::NotBuilt),
+        None => write_fault(alloc, sink, Ending::BadWords),
     }
 }

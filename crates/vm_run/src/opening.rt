@@ -1,24 +1,18 @@
-ghost use Rattle.std.specs.Prelude.{◌≡◌, ◌≤◌, ◌<◌, ℕ, List, Option, Some, Ok, Err, IfOk, IfErr, OnOk, length, min};
-ghost use Rattle.io_edge.specs.Count.{Rose, Counts, OnDone};
-ghost use Rattle.io_edge.specs.FileHolding.{NamedFile, place_of, bytes_at, HasRange, HoldsRange};
+ghost use Rattle.std.specs.Prelude.{◌≡◌, ◌≤◌, ◌<◌, ℕ, List, Some, Ok, Err, IfOk, IfErr, OnOk};
+ghost use Rattle.io_edge.specs.Count.{Rose};
+ghost use Rattle.io_edge.specs.FileHolding.{NamedFile, place_of, bytes_at};
 ghost use Rattle.io_edge.specs.Striping.{zero_needs, one_needs};
-ghost use Rattle.aout_image.specs.Image.{IsSound, file_length_of, image_of, Loaded};
+ghost use Rattle.aout_image.specs.Image.{IsSound, file_length_of, image_of};
+ghost use Rattle.run_files.specs.Told.{IsImageOf};
 ghost use Rattle.vm_run.specs.Resident.{HasBytes};
-ghost use Rattle.vm_run.specs.Opening.{image_ending, bytes_ending, device_ending, Says, SaysSchedule, SaysLines, IsScheduleEnding, IsReadEnding, IsImageEnding, IsLoaded};
+ghost use Rattle.vm_run.specs.Opening.{image_ending, unread_ending, device_ending, Says, SaysSchedule, SaysLines, IsScheduleEnding, IsImageEnding};
 
 use crate::ending::{Ending, Named};
-use aout_image::{Image, Judged, read_image};
-use io_edge::{Files, Found, Moved};
+use io_edge::Files;
+use run_files::{Opened, Unread, open_image, read_file};
 use run_text::{Schedule, read_schedule};
 use std::alloc::Global;
 use vm_facts::NoMemory;
-
-/// An image that was found and judged: its header's facts, and the number by which its file is read.
-#[derive(Clone, Copy, Debug, PartialEq, Eq, Drop)]
-pub struct Opened {
-    pub image: Image,
-    pub file: u32,
-}
 
 /// A schedule longer than this is read no further: a good one has at most 65,536 lines of 20 bytes.
 const SCHEDULE_BYTES: u64 = 1_310_741;
@@ -34,38 +28,21 @@ pub fn open_schedule<F: Files>(alloc: Global, files: &mut F, name: &str) -> Resu
     ensures good { result ≡ Ok tt → F.open_faults files.new ≡ F.open_faults files.old }
     ensures early { IfErr result IsScheduleEnding }
 {
-    match files.find(name) {
-        Found::Failed => Err(Ending::FileFault),
-        Found::Absent => Err(Ending::Absent(Named::Schedule)),
-        Found::Is { id, len } => {
-            let bytes = read_bytes(alloc, files, id, len.min(SCHEDULE_BYTES) as usize)?;
-            judge_lines(alloc, bytes.as_slice())
-        }
+    match read_file(alloc, files, name, SCHEDULE_BYTES) {
+        Ok(bytes) => judge_lines(alloc, bytes.as_slice()),
+        Err(unread) => Err(ending_of(Named::Schedule, unread)),
     }
 }
 
-// Reads a file's bytes from its start on, as many as are asked for.
-fn read_bytes<F: Files>(
-    alloc: Global,
-    files: &mut F,
-    id: u32,
-    len: usize,
-) -> Result<Vec<u8>, Ending>
-    requires range { HasRange (F.holds files.old) id 0 len }
-    ensures bytes { IfOk result (λ bytes. (length bytes.items ≡ len) × HoldsRange (F.holds files.old) id 0 bytes.items) }
-    ensures fault { result ≡ Err Ending.FileFault → Rose (F.open_faults files.old) (F.open_faults files.new) }
-    ensures early { IfErr result IsReadEnding }
-    ensures holds { F.holds files.new ≡ F.holds files.old }
-    ensures faults { F.open_faults files.old ≤ F.open_faults files.new }
-    ensures page_faults { F.page_faults files.new ≡ F.page_faults files.old }
-    ensures good { OnOk result (F.open_faults files.new ≡ F.open_faults files.old) }
+// How a run ends whose file wasn't read.
+fn ending_of(named: Named, unread: Unread) -> Ending
+    ensures { result ≡ unread_ending named unread }
 {
-    let Ok(mut bytes) = vec![in alloc; 0u8; len] else {
-        return Err(Ending::NoMemory);
-    };
-    match read_front(files, id, bytes.as_mut_slice()) {
-        Moved::Failed => Err(Ending::FileFault),
-        Moved::Done => Ok(bytes),
+    match unread {
+        Unread::Absent => Ending::Absent(named),
+        Unread::NotImage(reason) => Ending::NotImage(reason),
+        Unread::FileFault => Ending::FileFault,
+        Unread::NoMemory => Ending::NoMemory,
     }
 }
 
@@ -86,13 +63,13 @@ fn judge_lines(alloc: Global, bytes: &[u8]) -> Result<(), Ending>
     }
 }
 
-/// Finds an image, reads its header and judges it.
-pub fn open_image<F: Files>(files: &mut F, name: &str) -> Result<Opened, Ending>
+/// Finds the image of a run, reads its header and judges it.
+pub fn find_image<F: Files>(alloc: Global, files: &mut F, name: &str) -> Result<Opened, Ending>
     ensures says { (list : List NamedFile) → F.holds files.old ≡ Some list → Says (image_ending list name.now) (F.open_faults files.old) (F.open_faults files.new) result }
     ensures sound { IfOk result (λ opened. IsSound opened.image) }
     ensures file { IfOk result (λ opened. HasBytes (F.holds files.old) opened.file (file_length_of opened.image)) }
     ensures place { IfOk result (λ opened. (list : List NamedFile) → F.holds files.old ≡ Some list → place_of list name.now ≡ Some opened.file) }
-    ensures loaded { IfOk result (λ opened. (list : List NamedFile) → F.holds files.old ≡ Some list → IsLoaded (image_of (bytes_at list opened.file)) opened.image) }
+    ensures loaded { IfOk result (λ opened. (list : List NamedFile) → F.holds files.old ≡ Some list → IsImageOf (image_of (bytes_at list opened.file)) opened.image) }
     ensures fault { result ≡ Err Ending.FileFault → Rose (F.open_faults files.old) (F.open_faults files.new) }
     ensures early { IfErr result IsImageEnding }
     ensures holds { F.holds files.new ≡ F.holds files.old }
@@ -100,73 +77,10 @@ pub fn open_image<F: Files>(files: &mut F, name: &str) -> Result<Opened, Ending>
     ensures page_faults { F.page_faults files.new ≡ F.page_faults files.old }
     ensures good { OnOk result (F.open_faults files.new ≡ F.open_faults files.old) }
 {
-    match files.find(name) {
-        Found::Failed => Err(Ending::FileFault),
-        Found::Absent => Err(Ending::Absent(Named::Image)),
-        Found::Is { id, len } => judge_file(files, id, len),
+    match open_image(alloc, files, name) {
+        Ok(opened) => Ok(opened),
+        Err(unread) => Err(ending_of(Named::Image, unread)),
     }
-}
-
-// The bytes of a file from its start on, as many as there is room for; none need no call.
-fn read_front<F: Files>(files: &mut F, id: u32, front: &mut [u8]) -> Moved
-    requires range { HasRange (F.holds files.old) id 0 (length front.old) }
-    ensures done { OnDone result (HoldsRange (F.holds files.old) id 0 front.new) }
-    ensures holds { F.holds files.new ≡ F.holds files.old }
-    ensures faults { Counts result (F.open_faults files.old) (F.open_faults files.new) }
-    ensures page_faults { F.page_faults files.new ≡ F.page_faults files.old }
-{
-    if front.is_empty() {
-        return Moved::Done;
-    }
-    files.read_at(id, 0, front)
-}
-
-// Judges a file of so many bytes by its front, once that is read.
-fn judge_front<F: Files>(
-    files: &mut F,
-    id: u32,
-    len: u64,
-    front: &mut [u8],
-) -> Result<Opened, Ending>
-    requires front { length front.old ≡ min 32 len }
-    requires range { HasRange (F.holds files.old) id 0 (length front.old) }
-    ensures says { (list : List NamedFile) → F.holds files.old ≡ Some list → len ≡ length (bytes_at list id) → Says (bytes_ending (image_of (bytes_at list id))) (F.open_faults files.old) (F.open_faults files.new) result }
-    ensures sound { IfOk result (λ opened. IsSound opened.image) }
-    ensures file { IfOk result (λ opened. (opened.file ≡ id) × (file_length_of opened.image ≤ len)) }
-    ensures loaded { IfOk result (λ opened. (list : List NamedFile) → F.holds files.old ≡ Some list → len ≡ length (bytes_at list id) → IsLoaded (image_of (bytes_at list id)) opened.image) }
-    ensures fault { result ≡ Err Ending.FileFault → Rose (F.open_faults files.old) (F.open_faults files.new) }
-    ensures early { IfErr result IsImageEnding }
-    ensures holds { F.holds files.new ≡ F.holds files.old }
-    ensures faults { F.open_faults files.old ≤ F.open_faults files.new }
-    ensures page_faults { F.page_faults files.new ≡ F.page_faults files.old }
-    ensures good { OnOk result (F.open_faults files.new ≡ F.open_faults files.old) }
-{
-    match read_front(files, id, front) {
-        Moved::Failed => Err(Ending::FileFault),
-        Moved::Done => match read_image(front, len) {
-            Judged::NotImage(reason) => Err(Ending::NotImage(reason)),
-            Judged::Is(image) => Ok(Opened { image, file: id }),
-        },
-    }
-}
-
-// Judges a file of so many bytes by its header.
-fn judge_file<F: Files>(files: &mut F, id: u32, len: u64) -> Result<Opened, Ending>
-    requires range { HasRange (F.holds files.old) id 0 len }
-    ensures says { (list : List NamedFile) → F.holds files.old ≡ Some list → len ≡ length (bytes_at list id) → Says (bytes_ending (image_of (bytes_at list id))) (F.open_faults files.old) (F.open_faults files.new) result }
-    ensures sound { IfOk result (λ opened. IsSound opened.image) }
-    ensures file { IfOk result (λ opened. (opened.file ≡ id) × (file_length_of opened.image ≤ len)) }
-    ensures loaded { IfOk result (λ opened. (list : List NamedFile) → F.holds files.old ≡ Some list → len ≡ length (bytes_at list id) → IsLoaded (image_of (bytes_at list id)) opened.image) }
-    ensures fault { result ≡ Err Ending.FileFault → Rose (F.open_faults files.old) (F.open_faults files.new) }
-    ensures early { IfErr result IsImageEnding }
-    ensures holds { F.holds files.new ≡ F.holds files.old }
-    ensures faults { F.open_faults files.old ≤ F.open_faults files.new }
-    ensures page_faults { F.page_faults files.new ≡ F.page_faults files.old }
-    ensures good { OnOk result (F.open_faults files.new ≡ F.open_faults files.old) }
-{
-    let mut head = [0u8; 32];
-    let count = len.min(32) as usize;
-    judge_front(files, id, len, &mut head[..count])
 }
 
 // The blocks of device 0 that a swap of so many blocks needs.

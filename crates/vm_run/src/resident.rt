@@ -1,13 +1,13 @@
 ghost use Rattle.std.specs.Prelude.{◌≡◌, ℕ, ◌+◌, ◌*◌, ◌/◌, ◌^◌, ◌<◌, ◌≤◌, length, refl, IsTrue, ◌↔◌, IfOk, OnOk, OnErr};
 ghost use Rattle.aout_image.specs.Image.{IsSound, file_length_of, pages_of};
-ghost use Rattle.io_edge.specs.Count.{Counts, OnDone};
+ghost use Rattle.io_edge.specs.Transfer.{CountsErr};
 ghost use Rattle.vm_run.specs.Resident.{HasBytes, FillsFrom, Filled, AllWhole, IsWaiting, HasSizes, started, longer, Resident as Held, IsFitting, resident_spot, resident_answers, read_filled, write_filled, is_filled, byte_of, Wrote, IsInside};
 ghost use Rattle.vm_run.specs.ResidentLaws.{wrote_more, wrote_answers};
 
 use crate::segment::Segment;
 use aout_image::Image;
 use flat_state::{PAGE, Spot, locate};
-use io_edge::{Files, Moved};
+use io_edge::{Failed, Files};
 use std::alloc::{AllocError, Global};
 use std::marker::Model;
 use vm_facts::{ByteRead, MayWrite, Memory};
@@ -39,15 +39,15 @@ fn fill_from<F: Files>(
     image: &Image,
     text: bool,
     page: u32,
-) -> Moved
+) -> Result<(), Failed>
     requires sound { IsSound image.now }
     requires pages { length segment.old.filled ≡ pages_of text image.now }
     requires page { 1024 * page < length segment.old.bytes }
     requires file { HasBytes (F.holds files.old) id (file_length_of image.now) }
-    ensures filled { OnDone result (FillsFrom text image.now segment.old segment.new page (F.holds files.old) id) }
+    ensures filled { OnOk result (FillsFrom text image.now segment.old segment.new page (F.holds files.old) id) }
     ensures same { length segment.new.bytes ≡ length segment.old.bytes }
     ensures holds { F.holds files.new ≡ F.holds files.old }
-    ensures page_faults { Counts result (F.page_faults files.old) (F.page_faults files.new) }
+    ensures page_faults { CountsErr result (F.page_faults files.old) (F.page_faults files.new) }
     ensures open_faults { F.open_faults files.new ≡ F.open_faults files.old }
 {
     let _pages = segment.pages();
@@ -132,15 +132,21 @@ impl Resident {
     }
 
     /// Fills the page of an address, in a frame that nothing used before.
-    pub fn fill<F: Files>(&mut self, files: &mut F, id: u32, image: &Image, address: u32) -> Moved
+    pub fn fill<F: Files>(
+        &mut self,
+        files: &mut F,
+        id: u32,
+        image: &Image,
+        address: u32,
+    ) -> Result<(), Failed>
         requires sound { IsSound image.now }
         requires sizes { HasSizes self.old image.now }
         requires waits { IsWaiting self.old (resident_spot self.old address) }
         requires room { self.old.used < self.old.frames }
         requires file { HasBytes (F.holds files.old) id (file_length_of image.now) }
-        ensures filled { OnDone result (Filled self.old (resident_spot self.old address) self.new image.now (F.holds files.old) id) }
+        ensures filled { OnOk result (Filled self.old (resident_spot self.old address) self.new image.now (F.holds files.old) id) }
         ensures holds { F.holds files.new ≡ F.holds files.old }
-        ensures page_faults { Counts result (F.page_faults files.old) (F.page_faults files.new) }
+        ensures page_faults { CountsErr result (F.page_faults files.old) (F.page_faults files.new) }
         ensures open_faults { F.open_faults files.new ≡ F.open_faults files.old }
     {
         let spot = self.spot(address);
@@ -161,7 +167,7 @@ impl Resident {
             }
             Spot::Stack(index) => {
                 self.stack_segment.fill_with_zeros(index / PAGE);
-                Moved::Done
+                Ok(())
             }
             Spot::Below | Spot::Outside => unreachable!(),
         }

@@ -3,6 +3,7 @@ ghost use Rattle.flat_state.specs.Journal.{append, instructions_of};
 ghost use Rattle.io_edge.specs.Count.{Rose};
 ghost use Rattle.vm_run.specs.InterimCalls.{write_limit, call_of};
 ghost use Rattle.vm_run.specs.InterimStep.{replied, call_entry};
+ghost use Rattle.vm_run.specs.declared.running.Halt.TheVariants.{FileFault};
 ghost use Rattle.vm_run.specs.Resident.{IsWaiting, resident_spot};
 ghost use Rattle.vm_run.specs.Running.{HasFile, BroughtIn, Advanced, Stopped, TurnSoFar, RunSoFar, RanToEnd, Asked, Called, IsFew, HaltsSo, noted_run, left, IsFit, is_on, ran_run, ended_run, grown_run, answered_run, wrote_run};
 
@@ -12,7 +13,7 @@ use crate::replies::reply;
 use crate::resident::Resident;
 use aout_image::Image;
 use flat_state::{PAGE, STACK_TOP};
-use io_edge::{Files, Moved};
+use io_edge::{Failed, Files};
 use std::alloc::Global;
 use user_vax::{Refused, Stepped, step};
 use vm_facts::{Bytes, Entry, NoMemory, Regs};
@@ -35,6 +36,14 @@ pub enum Halt {
     FileFault,
     /// A page must be filled, and each frame is used: the pager that frees frames isn't built yet.
     OutOfFrames,
+}
+
+impl From<Failed> for Halt {
+    ghost from_gives = { λ _ halt. halt ≡ FileFault };
+
+    fn from(_e: Failed) -> Halt {
+        Halt::FileFault
+    }
 }
 
 /// A run of one process in progress.
@@ -152,10 +161,8 @@ impl Running {
         if self.memory.is_full() {
             return Err(Halt::OutOfFrames);
         }
-        match self.memory.fill(files, self.file, &self.image, address) {
-            Moved::Done => Ok(()),
-            Moved::Failed => Err(Halt::FileFault),
-        }
+        self.memory.fill(files, self.file, &self.image, address)?;
+        Ok(())
     }
 
     // What a call comes to, once the pages that it reads are filled.

@@ -1,27 +1,12 @@
 ghost use Rattle.std.specs.Prelude.{◌≡◌, ℕ, ◌+◌, ◌*◌, ◌/◌, ◌^◌, ◌<◌, ◌≤◌, ◌++◌, true, false, [], ◌∷◌, length, replicate, slice_set, IfOk, OnOk, OnErr};
-ghost use Rattle.io_edge.specs.Count.{Counts, OnDone, OnFailed};
-ghost use Rattle.io_edge.specs.FileHolding.{HasRange, HoldsRange};
+ghost use Rattle.io_edge.specs.Transfer.{CountsErr};
+ghost use Rattle.io_edge.specs.FileHolding.{HasRange};
 ghost use Rattle.vm_run.specs.Resident.{Segment as Pages, IsWhole, is_filled, byte_of, put_byte, longer, FillsWith};
 
 use flat_state::PAGE;
-use io_edge::{Files, Moved};
+use io_edge::{Failed, Files, read_range};
 use std::alloc::{AllocError, Global};
 use std::marker::Model;
-
-// The bytes of a file from an offset on, as many as there is room for; none need no call.
-fn read_part<F: Files>(files: &mut F, id: u32, offset: u64, part: &mut [u8]) -> Moved
-    requires offset { 0 < offset }
-    requires range { HasRange (F.holds files.old) id offset (length part.old) }
-    ensures done { OnDone result (HoldsRange (F.holds files.old) id offset part.new) }
-    ensures holds { F.holds files.new ≡ F.holds files.old }
-    ensures page_faults { Counts result (F.page_faults files.old) (F.page_faults files.new) }
-    ensures open_faults { F.open_faults files.new ≡ F.open_faults files.old }
-{
-    if part.is_empty() {
-        return Moved::Done;
-    }
-    files.read_at(id, offset, part)
-}
 
 /// The bytes of a segment, page after page, and which of its pages are filled.
 #[derive(Drop)]
@@ -124,26 +109,22 @@ impl Segment {
         page: u32,
         offset: u64,
         count: u32,
-    ) -> Moved
+    ) -> Result<(), Failed>
         requires page { 1024 * page < length self.old.bytes }
         requires count { count ≤ 1024 }
         requires offset { 0 < offset }
         requires range { HasRange (F.holds files.old) id offset count }
-        ensures filled { OnDone result (FillsWith self.old self.new page offset count (F.holds files.old) id) }
+        ensures filled { OnOk result (FillsWith self.old self.new page offset count (F.holds files.old) id) }
         ensures same { length self.new.bytes ≡ length self.old.bytes }
         ensures holds { F.holds files.new ≡ F.holds files.old }
-        ensures page_faults { Counts result (F.page_faults files.old) (F.page_faults files.new) }
+        ensures page_faults { CountsErr result (F.page_faults files.old) (F.page_faults files.new) }
         ensures open_faults { F.open_faults files.new ≡ F.open_faults files.old }
     {
         let start = PAGE as usize * page as usize;
         let part = &mut self.bytes[start..start + count as usize];
-        match read_part(files, id, offset, part) {
-            Moved::Failed => Moved::Failed,
-            Moved::Done => {
-                self.filled[page as usize] = true;
-                Moved::Done
-            }
-        }
+        read_range(files, id, offset, part)?;
+        self.filled[page as usize] = true;
+        Ok(())
     }
 
     /// Writes the byte at a place.

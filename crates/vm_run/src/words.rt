@@ -1,10 +1,10 @@
-ghost use Rattle.std.specs.Prelude.{◌≡◌, ◌&&◌, ◌<◌, ◌≤◌, map, drop, position, length, All, Some, IsSome, IfSome, bytes_eq, codes};
+ghost use Rattle.std.specs.Prelude.{◌≡◌, true, ◌&&◌, ◌<◌, ◌≤◌, map, drop, position, length, All, Some, IsSome, IfSome, bytes_eq, codes};
 ghost use Rattle.run_files.specs.ImageWords.{name_in};
-ghost use Rattle.vm_run.specs.declared.words.Tool.TheVariants.{Replay};
 ghost use Rattle.std.specs.Char.{is_ascii_digit};
 ghost use Rattle.std.specs.List.{AllWithin, list_all, list_any};
 ghost use Rattle.vm_run.specs.Opening.{word_of};
-ghost use Rattle.vm_run.specs.Words.{IsInRanges, IfRun, command_of, numbers_of, run_numbers, limits_of, number_of, in_range, is_plain, is_name, is_started, is_known, is_image, are_images, is_within, is_trace, without_trace, kept_of, kept_words, is_core, is_load, is_replay, is_source, is_shown, is_optimum, is_command, are_good, tool_of};
+ghost use Rattle.vm_run.specs.Reading.{IsCommand, IsOther, IsFitting};
+ghost use Rattle.vm_run.specs.Words.{Replay, IsInRanges, numbers_of, run_numbers, limits_of, number_of, in_range, is_plain, is_name, is_started, is_known, is_image, are_images, is_within, is_trace, without_trace, kept_of, kept_words, is_core, is_load, is_replay, is_source, is_shown, is_optimum, is_command, are_good, tool_of};
 
 /// The numbers of a command line: how many page frames the machine has (64 to 4,096), how many blocks of 512 bytes the
 /// swap device has (256 to 131,072), and how many instructions may run in all (1 to 1,000,000). Source: this project's profile.
@@ -15,51 +15,30 @@ pub struct Numbers {
     pub limit: u32,
 }
 
-/// What the words after the program's name ask for.
-#[derive(Clone, Copy, Debug, PartialEq, Eq, Drop)]
-pub enum Command {
+/// What the words after the program's name ask for, with the names in them.
+#[derive(Clone, Copy, Debug, Drop)]
+pub enum Command<'a> {
     /// `run FRAMES SWAP LIMIT SCHED IMAGE`: a run of one image, written without its paging entries.
-    Run { numbers: Numbers },
+    Run {
+        numbers: Numbers,
+        schedule: &'a str,
+        image: &'a str,
+    },
+    /// `replay TRANSCRIPT IMAGE..`: a transcript is judged as a run of images, whose words these are.
+    Replay {
+        transcript: &'a str,
+        images: &'a [&'a str],
+    },
+    /// `as SOURCE`: an image is made of a source.
+    Assemble {
+        source: &'a str,
+    },
+    /// `dis IMAGE`: the instructions of an image are listed.
+    Show {
+        image: &'a str,
+    },
     /// The words are good, but what they ask for isn't built yet.
     Unbuilt,
-}
-
-/// A command that runs no process.
-#[derive(Clone, Copy, Debug, PartialEq, Eq, Drop)]
-pub enum Tool {
-    /// `as SOURCE`: an image is made of a source.
-    Assemble,
-    /// `dis IMAGE`: the instructions of an image are listed.
-    Show,
-    /// `replay TRANSCRIPT IMAGE..`: a transcript is judged as a run of images.
-    Replay,
-}
-
-/// The command that the words after the program's name ask for, where they are good and it is one that runs no
-/// process.
-#[tactic(auto, unfolding(crate::specs::Words::tool_of))]
-pub fn read_tool(words: &[&str]) -> Option<Tool>
-    ensures { result ≡ tool_of (map (λ word. word.now) words.now) }
-{
-    if !are_good(words) {
-        return None;
-    }
-    match word_or_empty(words, 0) {
-        "as" => Some(Tool::Assemble),
-        "dis" => Some(Tool::Show),
-        "replay" => Some(Tool::Replay),
-        _ => None,
-    }
-}
-
-/// The words of the images of `replay`.
-pub fn replay_images<'a>(words: &'a [&'a str]) -> &'a [&'a str]
-    requires { tool_of (map (λ word. word.now) words.now) ≡ Some Replay }
-    ensures words { map (λ word. word.now) result.now ≡ drop 2 (map (λ word. word.now) words.now) }
-    ensures few { length result.now ≤ 16 }
-    ensures names { All (λ word. length (name_in word.now) < 64) result.now }
-{
-    from_place(words, 2)
 }
 
 /// Reads the words after the program's name. They are one of
@@ -73,18 +52,51 @@ pub fn replay_images<'a>(words: &'a [&'a str]) -> &'a [&'a str]
 /// 100,000 for `opt` and `curve`, N 1 to 4,096 and NUMBER 0 to 9,999. A name has 1 to 63 bytes. There are 1 to 16
 /// images: a name starts a process, and one behind a `=` only makes the image known; at least one starts. The image
 /// of `dis` has no `=`. Source: this project's profile.
-pub fn read_words(words: &[&str]) -> Option<Command>
-    ensures exact { result ≡ command_of (map (λ word. word.now) words.now) }
-    ensures count { IfRun result (λ numbers. length words.now ≡ 6) }
-    ensures names { IfRun result (λ numbers.
-        AllWithin (λ name. (0 < length name.now) × (length name.now ≤ 63)) words.now 4 6) }
-    ensures ranges { IfRun result IsInRanges }
+pub fn read_words<'a>(words: &'a [&'a str]) -> Option<Command<'a>>
+    ensures exact { IsCommand (map (λ word. word.now) words.now) result }
+    ensures fits { IfSome result IsFitting }
 {
     match read_numbers(words) {
-        Some(numbers) => Some(Command::Run { numbers }),
-        None if are_good(words) => Some(Command::Unbuilt),
+        Some(numbers) => Some(Command::Run {
+            numbers,
+            schedule: word_at(words, 4),
+            image: word_at(words, 5),
+        }),
+        None if are_good(words) => Some(read_other(words)),
         None => None,
     }
+}
+
+// The command of good words that aren't those of a run.
+#[tactic(auto, unfolding(crate::specs::Words::tool_of))]
+fn read_other<'a>(words: &'a [&'a str]) -> Command<'a>
+    requires { are_good (map (λ word. word.now) words.now) ≡ true }
+    ensures exact { IsOther (map (λ word. word.now) words.now) result }
+    ensures fits { IsFitting result }
+{
+    match word_or_empty(words, 0) {
+        "as" => Command::Assemble {
+            source: word_or_empty(words, 1),
+        },
+        "dis" => Command::Show {
+            image: word_or_empty(words, 1),
+        },
+        "replay" => Command::Replay {
+            transcript: word_or_empty(words, 1),
+            images: replay_images(words),
+        },
+        _ => Command::Unbuilt,
+    }
+}
+
+// The words of the images of `replay`.
+fn replay_images<'a>(words: &'a [&'a str]) -> &'a [&'a str]
+    requires { tool_of (map (λ word. word.now) words.now) ≡ Some Replay }
+    ensures words { map (λ word. word.now) result.now ≡ drop 2 (map (λ word. word.now) words.now) }
+    ensures few { length result.now ≤ 16 }
+    ensures names { All (λ word. length (name_in word.now) < 64) result.now }
+{
+    from_place(words, 2)
 }
 
 // The numbers of `run FRAMES SWAP LIMIT SCHED IMAGE`, none of whose words is an option.
@@ -228,6 +240,14 @@ fn is_trace(word: &str) -> bool
     ensures { result ≡ is_trace word.now }
 {
     word == "--trace"
+}
+
+// The word at a place.
+fn word_at<'a>(words: &[&'a str], place: usize) -> &'a str
+    requires { place < length words.now }
+    ensures { result.now ≡ word_of (map (λ word. word.now) words.now) place }
+{
+    words[place]
 }
 
 // The word at a place, or the empty one.

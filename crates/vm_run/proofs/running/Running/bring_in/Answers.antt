@@ -5,9 +5,9 @@ use Rattle.vm_run.specs.ResidentLaws.{spot_inside}
 use Rattle.vm_run.proofs.Filling.{brought_in}
 use Rattle.vm_run.proofs.running.Running.bring_in.Goals as goal
 
-pub returns-in-Done-clause-ok : goal.returns-in-Done-clause-ok
-returns-in-Done-clause-ok g c =
+pub returns-clause-ok : goal.returns-clause-ok
+returns-clause-ok g c =
     let spot = resident_spot c.args.self.now.memory c.args.address in
     let room : c.args.self.now.memory.used < c.args.self.now.memory.frames = grind (arith, common_steps) in
     brought_in (g.F.Files.holds c.args.files.now) c.args.self.now c.fill.new.self spot c.sound.ensures.whole
-    (spot_inside c.args.self.now.memory c.args.address spot c.sound.ensures.whole.of_stack refl) c.requires.waits room c.in-Done.ensures.filled
+    (spot_inside c.args.self.now.memory c.args.address spot c.sound.ensures.whole.of_stack refl) c.requires.waits room c.in_ok-fill.ensures.filled
