@@ -21,4 +21,4 @@ pub use regs::Regs;
 pub use stop::{NoMemory, Stop};
 
 #[cfg(test)]
-mod tests;
+mod examples;
