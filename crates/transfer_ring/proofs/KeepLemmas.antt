@@ -8,7 +8,7 @@ use Rattle.circular_buffer.specs.Buffer.{Buffer, buffer, keep_last}
 use Rattle.std.proofs.lemmas.Bool.Decides.{nat_tests}
 use Rattle.std.proofs.lemmas.List.{get_or_past, get_or_push, get_or_append_left, length_push}
 use Rattle.transfer_ring.specs.declared.transfer.Transfer.{Transfer}
-use Rattle.transfer_ring.specs.Sound.{HasSources}
+use Rattle.transfer_ring.specs.Counting.{IsFlight}
 use Rattle.transfer_ring.specs.Slots.{slot_at, put_first, in_flight, listings, IsSoundSlot, IsKept}
 use Rattle.vm_facts.proofs.Lists.{times-append, times_head, times_other}
 use Rattle.vm_facts.specs.Lists.{times}
@@ -84,8 +84,8 @@ is_spare slots order spare slot k =
       empty = is_none (slot_at slots slot) (omega (arith, k.listed slot));
     }
 
-pub kept_begin : (slots : List (Option Transfer)) (order spare : List ℕ) (slot : ℕ) (t : Transfer) → HasSources t → IsKept slots order (spare ++ slot ∷ []) → IsKept (set slots slot (Some t)) (order ++ slot ∷ []) spare
-kept_begin slots order spare slot t sources k =
+pub kept_begin : (slots : List (Option Transfer)) (order spare : List ℕ) (slot : ℕ) (t : Transfer) → IsFlight t → IsKept slots order (spare ++ slot ∷ []) → IsKept (set slots slot (Some t)) (order ++ slot ∷ []) spare
+kept_begin slots order spare slot t flight k =
     let free = is_spare slots order spare slot k in
     let there = get_or-set_same slots slot (Some t) None free.below in
     record {
@@ -103,7 +103,7 @@ kept_begin slots order spare slot t sources k =
       ];
       beyond = λ s high. omega (arith, times-append s spare (slot ∷ []), k.beyond s high);
       sound = λ s. elim (cases_eq s slot) [
-        | inl e ↦ subst (λ (n : ℕ). IsSoundSlot (slot_at (set slots slot (Some t)) n)) (sym e) (subst IsSoundSlot (sym there) sources)
+        | inl e ↦ subst (λ (n : ℕ). IsSoundSlot (slot_at (set slots slot (Some t)) n)) (sym e) (subst IsSoundSlot (sym there) flight)
         | inr ne ↦ subst IsSoundSlot (sym (get_or-set_other slots slot s (Some t) None ne)) (k.sound s)
       ];
     }
@@ -221,10 +221,10 @@ order_room slots order spare rest slot k e = omega (arith, k.count, ap (λ (l : 
 pub begin_spare : (slots : List (Option Transfer)) (order spare rest : List ℕ) (slot : ℕ) → IsKept slots order spare → spare ≡ rest ++ slot ∷ [] → IsSpare slots order slot
 begin_spare slots order spare rest slot k e = is_spare slots order rest slot (subst (λ (l : List ℕ). IsKept slots order l) e k)
 
-pub begin_kept : (slots slots' : List (Option Transfer)) (order order' spare rest : List ℕ) (slot : ℕ) (t : Transfer) → HasSources t → IsKept slots order spare → spare ≡ rest ++ slot ∷ []
+pub begin_kept : (slots slots' : List (Option Transfer)) (order order' spare rest : List ℕ) (slot : ℕ) (t : Transfer) → IsFlight t → IsKept slots order spare → spare ≡ rest ++ slot ∷ []
     → slots' ≡ set slots slot (Some t) → order' ≡ order ++ slot ∷ [] → IsKept slots' order' rest
-begin_kept slots slots' order order' spare rest slot t sources k e now now_order =
-    subst (λ (l : List (Option Transfer)). IsKept l order' rest) (sym now) (subst (λ (l : List ℕ). IsKept (set slots slot (Some t)) l rest) (sym now_order) (kept_begin slots order rest slot t sources (subst (λ (l : List ℕ). IsKept slots order l) e k)))
+begin_kept slots slots' order order' spare rest slot t flight k e now now_order =
+    subst (λ (l : List (Option Transfer)). IsKept l order' rest) (sym now) (subst (λ (l : List ℕ). IsKept (set slots slot (Some t)) l rest) (sym now_order) (kept_begin slots order rest slot t flight (subst (λ (l : List ℕ). IsKept slots order l) e k)))
 
 pub begin_view : (slots slots' : List (Option Transfer)) (order order' spare rest : List ℕ) (slot : ℕ) (t : Transfer) → IsKept slots order spare → spare ≡ rest ++ slot ∷ []
     → slots' ≡ set slots slot (Some t) → order' ≡ order ++ slot ∷ [] → in_flight slots' order' ≡ in_flight slots order ++ t ∷ []

@@ -1,3 +1,4 @@
 pub mod KeepLemmas
+pub mod CountLemmas
 pub mod PartLemmas
 pub mod TestLemmas

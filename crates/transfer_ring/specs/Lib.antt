@@ -1,6 +1,7 @@
 pub mod Naming
 pub mod Parts
 pub mod Sound
+pub mod Counting
 pub mod Moving
 pub mod Slots
 pub mod Fields

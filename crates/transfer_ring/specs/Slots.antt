@@ -2,7 +2,7 @@
 use Rattle.std.specs.Prelude.{◌≡◌, ℕ, ◌+◌, ◌<◌, ◌≤◌, List, [], ◌∷◌, Option, Some, None, length, slice_index_or, ⊤}
 use Rattle.transfer_ring.specs.declared.transfer.Transfer.{Transfer}
 use Rattle.vm_facts.specs.Lists.{times}
-use Rattle.transfer_ring.specs.Sound.{HasSources}
+use Rattle.transfer_ring.specs.Counting.{IsFlight}
 
 -- what stands in a slot; past the last one nothing does
 abbrev pub slot_at : List (Option Transfer) → ℕ → Option Transfer
@@ -23,10 +23,10 @@ abbrev pub listings : Option Transfer → ℕ
 listings None = 0
 listings (Some transfer) = 1
 
--- a transfer in a slot has sources that its pages have room for
+-- a transfer in a slot has at most 16 pages, with sources that they have room for
 abbrev pub IsSoundSlot : Option Transfer → Type 0
 IsSoundSlot None = ⊤
-IsSoundSlot (Some transfer) = HasSources transfer
+IsSoundSlot (Some transfer) = IsFlight transfer
 
 -- the order has each used slot once, and the others are spare
 pub record IsKept (slots : List (Option Transfer)) (order spare : List ℕ) : Type 0 where

@@ -1,12 +1,13 @@
 //! The ring of transfers in flight.
-ghost use Rattle.std.specs.Prelude.{◌≡◌, ◌+◌, ◌<◌, ◌≤◌, ◌∷◌, ◌++◌, [], List, length, drop, slice_get, slice_set, IfOk, IfSome, IsNone, IsSome, Some, None, ◌↔◌};
+ghost use Rattle.std.specs.Prelude.{◌≡◌, ℕ, ◌+◌, ◌*◌, ◌<◌, ◌≤◌, ◌∷◌, ◌++◌, [], List, length, drop, slice_get, slice_set, IfOk, IfSome, IsNone, IsSome, Some, None, ◌↔◌};
 ghost use Rattle.std.specs.List.{list_any};
 ghost use Rattle.io_edge.specs.Calls.{KeepsSwap, ReadsPages};
 ghost use Rattle.vm_facts.specs.Swap.{most_in_flight};
 ghost use Rattle.transfer_ring.specs.Beginning.{Begins, IsRefused};
 ghost use Rattle.transfer_ring.specs.Ending.{EndsOldest, CountsPages, CountsReads, CountsWrites, Ends};
+ghost use Rattle.transfer_ring.specs.Counting.{IsFlight, pages_of_all};
 ghost use Rattle.transfer_ring.specs.Naming.{names_page_of, names_space, names_text};
-ghost use Rattle.transfer_ring.specs.Slots.{in_flight, put_first, slot_at};
+ghost use Rattle.transfer_ring.specs.Slots.{in_flight, put_first, slot_at, IsSoundSlot};
 ghost use Rattle.transfer_ring.specs.Sound.{AreReachable, HasSources, IsRead, IsReachable, IsWrite};
 
 use crate::moving::{self, Filled};
@@ -114,7 +115,7 @@ impl TransferRing {
 
     // Puts a transfer behind those in flight.
     fn begin(&mut self, t: Transfer) -> Begun
-        requires { HasSources t }
+        requires { IsFlight t }
         ensures begun { Begins self.old t self.new result }
         ensures full { IsRefused result ↔ (length self.old ≡ most_in_flight) }
     {
@@ -197,6 +198,14 @@ impl TransferRing {
         self.has_page_of(Owner::Image(image))
     }
 
+    /// How many pages are in flight, at most 256.
+    pub fn pages(&self) -> u32
+        ensures { result ≡ pages_of_all self.now }
+    {
+        let (first, rest) = self.order.as_slices();
+        pages_in(&self.slots, first) + pages_in(&self.slots, rest)
+    }
+
     /// Ends a ring with no transfer in flight.
     pub fn close(self)
         requires { self ≡ [] }
@@ -208,6 +217,31 @@ impl TransferRing {
         } = self;
         order.destroy_empty();
         end_slots(slots);
+    }
+}
+
+// How many pages the transfer in this slot has.
+fn pages_at(slots: &[Option<Transfer>], slot: u32) -> u32
+    requires { IsSoundSlot (slot_at slots.now slot) }
+    ensures count { result ≡ pages_of_all (put_first (slot_at slots.now slot) []) }
+    ensures few { result ≤ 16 }
+{
+    match slots.get(slot as usize) {
+        Some(Some(transfer)) => transfer.pages(),
+        _ => 0,
+    }
+}
+
+// How many pages the transfers in these slots have.
+fn pages_in(slots: &[Option<Transfer>], order: &[u32]) -> u32
+    requires sound { (slot : ℕ) → IsSoundSlot (slot_at slots.now slot) }
+    requires few { length order.now ≤ 16 }
+    ensures count { result ≡ pages_of_all (in_flight slots.now order.now) }
+    ensures most { result ≤ 16 * length order.now }
+{
+    match order {
+        [] => 0,
+        [first, rest @ ..] => pages_at(slots, *first) + pages_in(slots, rest),
     }
 }
 

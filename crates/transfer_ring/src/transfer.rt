@@ -1,6 +1,7 @@
 //! A transfer, its parts, and what the ring answers.
-ghost use Rattle.std.specs.Prelude.{◌≡◌};
+ghost use Rattle.std.specs.Prelude.{◌≡◌, ◌<◌, ◌^◌};
 ghost use Rattle.vm_facts.specs.Pages.{is_of_space, is_of_text};
+ghost use Rattle.transfer_ring.specs.Counting.{pages_of};
 ghost use Rattle.transfer_ring.specs.Naming.{is_page_of, reads_of, writes_of, names_page_of};
 
 use frame_state::{Cleaning, Filling};
@@ -116,6 +117,17 @@ fn is_write_of(parts: &[Outbound], owner: Owner) -> bool
 }
 
 impl Transfer {
+    /// How many pages it has; no transfer in flight has more than 16.
+    pub fn pages(&self) -> u32
+        requires { pages_of self.now < 2 ^ 32 }
+        ensures { result ≡ pages_of self.now }
+    {
+        match self {
+            Transfer::Read { parts, .. } => parts.len() as u32,
+            Transfer::Write { parts } => parts.len() as u32,
+        }
+    }
+
     // Whether it names a page of this owner.
     pub(crate) fn names(&self, owner: Owner) -> bool
         ensures { result ≡ names_page_of owner self.now }
