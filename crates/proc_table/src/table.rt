@@ -53,6 +53,13 @@ impl ProcTable {
         Ok(ProcTable { records })
     }
 
+    /// How many records there are, at most 64.
+    pub fn len(&self) -> usize
+        ensures { result ≡ length self.now }
+    {
+        self.records.len()
+    }
+
     /// Puts in the record of a process that has none. `Full` comes exactly where there are 64 records, and
     /// then nothing changes.
     pub fn add(&mut self, p: Proc) -> Added
