@@ -242,10 +242,8 @@ impl CoreMap {
         slot::set_dirty(&mut self.slots[frame as usize], dirty);
     }
 
-    /// Retires all frames.
-    pub fn close(self)
-        requires { (frame : ℕ) → IsAway self frame → ⊥ }
-    {
+    /// Retires all frames but those that are away, whose tokens are their holders' to retire.
+    pub fn close(self) {
         let CoreMap {
             slots,
             free: _,
