@@ -92,23 +92,27 @@ impl SpaceMap {
         &self.facts
     }
 
-    /// How many text pages there are, at most 2,048.
+    /// How many text pages there are: those of the image.
     pub fn text_pages(&self) -> u32
-        ensures { result ≡ length self.now.text }
+        ensures count { result ≡ length self.now.text }
+        ensures of_image { result ≡ text_pages_of self.now.facts }
+        ensures few { result ≤ 2048 }
     {
         self.text.len()
     }
 
     /// How many data pages there are.
     pub fn data_pages(&self) -> u32
-        ensures { result ≡ length self.now.data }
+        ensures count { result ≡ length self.now.«data» }
+        ensures few { result ≤ 4096 }
     {
         self.data.len()
     }
 
     /// How many stack pages there are.
     pub fn stack_pages(&self) -> u32
-        ensures { result ≡ length self.now.stack }
+        ensures count { result ≡ length self.now.stack }
+        ensures few { result ≤ 512 }
     {
         self.stack.len()
     }

@@ -9,6 +9,7 @@ use Rattle.space_map.proofs.space.SpaceMap.new.Goals as goal
 pub invariant_of-result : goal.invariant_of-result
 invariant_of-result c =
     record {
+      text_whole = ap (λ (ps : List Place). length ps) c.in_ok-text.ensures ∙ length-map-range_with_len (first_place c.args.facts true) 0 c.text_pages.result ∙ c.text_pages.ensures.value;
       text_fits = subst (λ (n : ℕ). n ≤ 2048)
           (sym (ap (λ (ps : List Place). length ps) c.in_ok-text.ensures ∙ length-map-range_with_len (first_place c.args.facts true) 0 c.text_pages.result))
           (subst (λ (n : ℕ). n ≤ 2048) (sym c.text_pages.ensures.value) c.requires.sound.text_fits);
