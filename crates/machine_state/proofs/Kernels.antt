@@ -1,0 +1,115 @@
+-- The kernel of a machine, from the calls of its tables.
+use Rattle.std.proofs.Common.{◌≡◌, ℕ, Bool, true, List, [], ◌∷◌, ◌++◌, set, refl, sym, ap, ◌∙◌, subst, Option}
+use Rattle.std.proofs.lemmas.List.{length-set}
+use Rattle.vm_facts.specs.declared.page.Page.{Page}
+use Rattle.vm_facts.specs.declared.page.Page.TheVariants.{Data, Stack, Text}
+use Rattle.vm_facts.specs.declared.entry.Entry.{Entry}
+use Rattle.vm_facts.specs.declared.entry.Entry.TheVariants as entries
+use Rattle.frame_state.specs.Frame.{Frame}
+use Rattle.core_map.specs.Slots.{slot_at, page_of as token_page}
+use Rattle.core_map.specs.declared.slot.Slot.TheVariants as tokens
+use Rattle.swap_book.specs.Holdings.{Holdings}
+use Rattle.page_model.specs.Pages.{frame_of}
+use Rattle.page_model.specs.Placement.{Placement}
+use Rattle.page_model.specs.Conditions.{CanEnter, IsShared}
+use Rattle.page_model.specs.PageBytes.{IsWritable}
+use Rattle.page_model.specs.Dues.{DueStand}
+use Rattle.kernel_model.specs.Kernel.{Kernel, Proc, StartBytes, zero_step}
+use Rattle.kernel_model.specs.Sound.{Sound}
+use Rattle.kernel_model.specs.Numbers.{Numbered}
+use Rattle.kernel_laws.proofs.Sound.Steps.{zero_sound}
+use Rattle.kernel_laws.proofs.Sound.NumbersApart.{zero_numbered}
+use Rattle.page_laws.proofs.Due.Entries.{entry_due}
+use Rattle.machine_state.specs.declared.tables.Tables.{Tables}
+use Rattle.machine_state.specs.declared.machine.Machine.TheInside.{Inside}
+use Rattle.machine_state.specs.View.{Lists, starts_of, placement_of, frames_of}
+use Rattle.machine_state.specs.Due.{first_bytes}
+use Rattle.machine_state.specs.Steps.{evicted}
+use Rattle.machine_state.specs.Machine.{Standing, Runs, lists_of, kernel_by}
+use Rattle.machine_state.specs.Conditions.{CanZero}
+use Rattle.machine_state.proofs.Entries.{placed_heads}
+use Rattle.machine_state.proofs.Evicts.{Head}
+use Rattle.machine_state.proofs.Zeros.{Zeroing, zeroed, zeroing_lists, zero_place, zero_frames, starts_first}
+use Rattle.machine_state.proofs.Likes.{placed_alike, evicted_alike, placed_filled, evicted_filled, frame_fits}
+use Rattle.machine_state.proofs.Kept.{Ties, tied_still, still_there, evicted_there, evicted_heads, whole_rest, once_rest, left_due}
+
+pub kernel_ext : (a b : Kernel) → a.place ≡ b.place → a.holdings ≡ b.holdings → a.processes ≡ b.processes → a.next_pid ≡ b.next_pid → a.next_sid ≡ b.next_sid → a.starts ≡ b.starts → a.frames ≡ b.frames → a.journal ≡ b.journal → a.stopped ≡ b.stopped → a ≡ b
+kernel_ext a b e1 e2 e3 e4 e5 e6 e7 e8 e9 =
+    ap (λ (x : Placement). record a { place = x }) e1
+    ∙ ap (λ (x : Holdings). record a { place = b.place; holdings = x }) e2
+    ∙ ap (λ (x : List Proc). record a { place = b.place; holdings = b.holdings; processes = x }) e3
+    ∙ ap (λ (x : ℕ). record a { place = b.place; holdings = b.holdings; processes = b.processes; next_pid = x }) e4
+    ∙ ap (λ (x : ℕ). record a { place = b.place; holdings = b.holdings; processes = b.processes; next_pid = b.next_pid; next_sid = x }) e5
+    ∙ ap (λ (x : List StartBytes). record b { starts = x; frames = a.frames; journal = a.journal; stopped = a.stopped }) e6
+    ∙ ap (λ (x : List (List ℕ)). record b { frames = x; journal = a.journal; stopped = a.stopped }) e7
+    ∙ ap (λ (x : List Entry). record b { journal = x; stopped = a.stopped }) e8
+    ∙ ap (λ (x : Bool). record b { stopped = x }) e9
+
+-- The step of `Zero`.
+
+pub zeroing_rest : (t u v w : Tables) (token filling : Frame) (q : Page) → Zeroing t u v w token filling q → w ≡ record t { core = v.core; spaces = v.spaces; fills = w.fills }
+zeroing_rest t u v w token filling q z =
+    z.finish.rest
+    ∙ ap (λ (x : Tables). record x { fills = w.fills }) z.seat.rest
+    ∙ ap (λ (x : Tables). record x { core = v.core; spaces = v.spaces; fills = w.fills }) z.took.rest
+
+zeroing_head : (t u v w : Tables) (token filling : Frame) (q : Page) → Zeroing t u v w token filling q → Head (lists_of t) token.number token (token_page (slot_at t.core.slots token.number)) u.core.free
+zeroing_head t u v w token filling q z = record { free = z.took.free; was = z.took.was }
+
+pub zero_kernel : (t u v w : Tables) (token filling : Frame) (q : Page) (journal : List Entry) (stopped : Bool) → Zeroing t u v w token filling q
+    → kernel_by w (journal ++ entries.Zero q ∷ []) stopped ≡ zero_step (kernel_by t journal stopped) q
+zero_kernel t u v w token filling q journal stopped z =
+    let l = zeroing_lists t u v w token filling q z in
+    let r = zeroing_rest t u v w token filling q z in
+    let h = zeroing_head t u v w token filling q z in
+    let page = token_page (slot_at t.core.slots token.number) in
+    let bytes : filling.bytes ≡ first_bytes t.fills.items = ap (λ (x : Frame). x.bytes) z.bytes ∙ ap (λ (x : Tables). first_bytes x.fills.items) z.took.rest in
+    kernel_ext (kernel_by w (journal ++ entries.Zero q ∷ []) stopped) (zero_step (kernel_by t journal stopped) q)
+    (ap placement_of l ∙ zero_place (lists_of t) token.number token filling page u.core.free q z.known h (ap (λ (x : Frame). x.number) z.bytes) z.writable z.there z.first)
+    (ap (λ (x : Tables). x.book.holdings) r)
+    (ap (λ (x : Tables). Rattle.machine_state.specs.Machine.processes_of x.processes x.next_pid) r)
+    (ap (λ (x : Tables). x.next_pid) r)
+    (ap (λ (x : Tables). x.next_sid) r)
+    (ap (λ (x : Lists). starts_of x.fills) l ∙ starts_first t.fills.items q z.once z.first)
+    (ap frames_of l ∙ zero_frames (lists_of t) token.number token filling page u.core.free q z.known h (ap (λ (x : Frame). x.number) z.bytes) bytes z.first)
+    refl
+    refl
+
+pub writable_shared : (p : Placement) (q : Page) → IsWritable q → IsShared p q
+writable_shared p (Data n v) w = tt
+writable_shared p (Stack n v) w = tt
+writable_shared p (Text i v) w = absurd w
+
+pub zeroed_ties : (t : Lists) (f : ℕ) (page : Option Page) (rest : List ℕ) (filling : Frame) (q : Page) → Ties t (zeroed t f page rest filling q)
+zeroed_ties t f page rest filling q = record {
+  slots = length-set (set t.slots f tokens.Away) filling.number (tokens.Resident filling q true) ∙ length-set t.slots f tokens.Away;
+  facts = refl;
+  heads = placed_heads (evicted t.texts page t.spaces) q (Rattle.vax_pte.specs.declared.Place.TheVariants.Frame filling.number true true) ∙ evicted_heads t.texts page t.spaces;
+  entries = λ r h. still_there (evicted t.texts page t.spaces) q r (Rattle.vax_pte.specs.declared.Place.TheVariants.Frame filling.number true true) (evicted_there t.texts page t.spaces r h);
+  alike = λ h. placed_alike (evicted t.texts page t.spaces) q (Rattle.vax_pte.specs.declared.Place.TheVariants.Frame filling.number true true) (evicted_alike t.texts page t.spaces h);
+  filled = λ h. placed_filled t.facts (evicted t.texts page t.spaces) q (Rattle.vax_pte.specs.declared.Place.TheVariants.Frame filling.number true true) (frame_fits q filling.number true true) (evicted_filled t.facts t.texts page t.spaces h);
+  counts = λ i. refl;
+  whole = whole_rest t.fills;
+  once = once_rest t.fills;
+}
+
+pub zero_ties : (t u v w : Tables) (token filling : Frame) (q : Page) → Zeroing t u v w token filling q → Ties (lists_of t) (lists_of w)
+zero_ties t u v w token filling q z =
+    subst (Ties (lists_of t)) (sym (zeroing_lists t u v w token filling q z)) (zeroed_ties (lists_of t) token.number (token_page (slot_at t.core.slots token.number)) u.core.free filling q)
+
+pub zero_runs : (m : Inside) (u v w : Tables) (token filling : Frame) (q : Page) (journal : List Entry) (stopped : Bool)
+    → Runs (kernel_by m.tables m.journal.items m.stopped) (lists_of m.tables) m.tables.book.size → CanZero (placement_of (lists_of m.tables)) q → Zeroing m.tables u v w token filling q
+    → journal ≡ m.journal.items → stopped ≡ m.stopped
+    → Runs (kernel_by w (journal ++ entries.Zero q ∷ []) stopped) (lists_of w) w.book.size
+zero_runs m u v w token filling q journal stopped r can z ej es =
+    let k : Kernel = kernel_by m.tables m.journal.items m.stopped in
+    let is : kernel_by w (journal ++ entries.Zero q ∷ []) stopped ≡ zero_step k q =
+    zero_kernel m.tables u v w token filling q journal stopped z ∙ ap (λ (j : List Entry). zero_step (kernel_by m.tables j stopped) q) ej ∙ ap (λ (b : Bool). zero_step (kernel_by m.tables m.journal.items b) q) es in
+    let enter : CanEnter k.place q = record { there = can.there; frameless = ap frame_of can.unfilled } in
+    let size : w.book.size ≡ m.tables.book.size = ap (λ (x : Tables). x.book.size) (zeroing_rest m.tables u v w token filling q z) in
+    record {
+      sound = subst (λ (n : ℕ). Sound n (kernel_by w (journal ++ entries.Zero q ∷ []) stopped)) (sym size) (subst (Sound m.tables.book.size) (sym is) (zero_sound m.tables.book.size k q r.sound enter (writable_shared k.place q can.writable)));
+      numbered = subst Numbered (sym is) (zero_numbered k q r.numbered);
+      due = subst (λ (x : Kernel). DueStand x.place) (sym is) (entry_due [] 0 k.place (entries.Zero q) r.sound.owner.frames enter (left_due m.tables.fills.items q z.once z.first) r.due);
+      tied = tied_still (lists_of m.tables) (lists_of w) (zero_ties m.tables u v w token filling q z) r.tied;
+    }

@@ -1,0 +1,143 @@
+-- What holds of a machine beside its kernel is kept by its steps.
+use Rattle.std.proofs.Common.{◌≡◌, inl, inr, ℕ, ◌+◌, ◌-◌, ◌<◌, ◌≤◌, Bool, false, List, [], ◌∷◌, ◌++◌, length, map, take, Option, refl, sym, ap, ◌∙◌, subst, arith}
+use Rattle.std.proofs.lemmas.Bool.{cases_eq}
+use Rattle.std.proofs.lemmas.List.{length-append}
+use Rattle.vm_facts.specs.declared.entry.Entry.{Entry}
+use Rattle.vm_facts.specs.declared.page.Page.{Page}
+use Rattle.vm_facts.specs.declared.page.Page.TheVariants.{Data, Stack, Text}
+use Rattle.vm_facts.specs.declared.params.Params.{Params}
+use Rattle.core_map.specs.declared.slot.Slot.{Slot as Token}
+use Rattle.space_map.specs.Space.{Places}
+use Rattle.swap_book.specs.Holdings.{Holdings}
+use Rattle.swap_book.specs.Book.{Book}
+use Rattle.transfer_ring.specs.declared.transfer.Inbound.{Inbound}
+use Rattle.transfer_ring.specs.declared.transfer.Source.{Source as From}
+use Rattle.transfer_ring.specs.declared.transfer.Source.TheVariants as froms
+use Rattle.transfer_ring.specs.declared.transfer.Transfer.{Transfer as Flight}
+use Rattle.transfer_ring.specs.declared.transfer.Transfer.TheVariants as flights
+use Rattle.page_model.specs.Pages.{numbered}
+use Rattle.page_model.specs.Placement.{Source, space_number, image_in}
+use Rattle.kernel_model.specs.Kernel.{Kernel}
+use Rattle.machine_state.specs.declared.tables.Tables.{Tables}
+use Rattle.machine_state.specs.declared.machine.Machine.TheInside.{Inside}
+use Rattle.machine_state.specs.Shown.{space_shown}
+use Rattle.machine_state.specs.Sourced.{ImageNamed, IsRangeOf, named_at, IsSourced, AreSourcedIn, IsFlightSourced, AreSourced}
+use Rattle.machine_state.specs.View.{source_shown}
+use Rattle.machine_state.specs.Machine.{Standing, Runs, Stands, WereFound, lists_of, kernel_by, images_of, image_at, image_shown, before_of}
+use Rattle.machine_state.specs.Alike.{AreBorrowed}
+use Rattle.machine_state.specs.Fields.{standing_of, RunsNow, RunsInside}
+use Rattle.machine_state.proofs.Entries.{Head, head_of}
+use Rattle.machine_state.proofs.Shows.{hit, miss}
+
+-- a machine that runs, with no pieces found for an entry to come
+pub running : (m : Inside) (s : Standing) → RunsInside m → standing_of m ≡ s → s.kernel.stopped ≡ false → s.before ≡ s.kernel.holdings → Runs (kernel_by m.tables m.journal.items m.stopped) (lists_of m.tables) m.tables.book.size
+running m s h e r w =
+    let n : RunsNow m = h (ap (λ (x : Standing). x.kernel.stopped) e ∙ r) in
+    let same : before_of m.tables ≡ m.tables.book.holdings = ap (λ (x : Standing). x.before) e ∙ w ∙ sym (ap (λ (x : Standing). x.kernel.holdings) e) in
+    subst (λ (hs : Holdings). Runs (record (kernel_by m.tables m.journal.items m.stopped) { holdings = hs }) (lists_of m.tables) m.tables.book.size) same n.stands.runs
+
+pub stands_now : (m : Inside) (s : Standing) → RunsInside m → standing_of m ≡ s → s.kernel.stopped ≡ false → RunsNow m
+stands_now m s h e r = h (ap (λ (x : Standing). x.kernel.stopped) e ∙ r)
+
+pub whole_now : (m : Inside) (s : Standing) → standing_of m ≡ s → s.before ≡ s.kernel.holdings → before_of m.tables ≡ m.tables.book.holdings
+whole_now m s e w = ap (λ (x : Standing). x.before) e ∙ w ∙ sym (ap (λ (x : Standing). x.kernel.holdings) e)
+
+-- what no step but those of processes changes
+pub record Still (t w : Tables) : Type 0 where
+  pub params : w.params ≡ t.params
+  pub images : w.images.items ≡ t.images.items
+  pub book : w.book ≡ t.book
+  pub found : w.found ≡ t.found
+  pub processes : w.processes ≡ t.processes
+
+pub still_images : (t w : Tables) → Still t w → images_of w ≡ images_of t
+still_images t w s = ap (map image_shown) s.images
+
+pub still_before : (t w : Tables) → Still t w → before_of w ≡ before_of t
+still_before t w s =
+    ap (λ (b : Book). take (length b.holdings - w.found) b.holdings) s.book ∙ ap (λ (n : ℕ). take (length t.book.holdings - n) t.book.holdings) s.found
+
+pub rest_of : (m : Inside) (s : Standing) (w : Tables) (k : Kernel) (now room : Option ℕ) → standing_of m ≡ s → Still m.tables w → now ≡ room
+    → (let z : Standing = record { kernel = k; params = w.params; images = images_of w; before = before_of w; room = now } in z) ≡ record s { kernel = k; room = room }
+rest_of m s w k now room e z r =
+    ap (λ (x : Option ℕ). let z : Standing = record { kernel = k; params = w.params; images = images_of w; before = before_of w; room = x } in z) r
+    ∙ ap (λ (x : Params). let z : Standing = record { kernel = k; params = x; images = images_of w; before = before_of w; room = room } in z) z.params
+    ∙ ap (λ (x : List ImageNamed). let z : Standing = record { kernel = k; params = m.tables.params; images = x; before = before_of w; room = room } in z) (still_images m.tables w z)
+    ∙ ap (λ (x : Holdings). let z : Standing = record { kernel = k; params = m.tables.params; images = images_of m.tables; before = x; room = room } in z) (still_before m.tables w z)
+    ∙ ap (λ (x : Standing). record x { kernel = k; room = room }) e
+
+pub pushed : (old now after : List Entry) (e : Entry) (limit : ℕ) → now ≡ old → after ≡ now ++ e ∷ [] → length old < limit → length after ≤ limit
+pushed old now after e limit a b l =
+    let x : length after ≡ length now + 1 = ap length b ∙ length-append now (e ∷ []) in
+    let y : length now ≡ length old = ap length a in
+    omega arith
+
+-- The images of the spaces go by their heads.
+
+pub image_heads : (a b : List Token) (ss rs : List Places) (n : ℕ) → map head_of ss ≡ map head_of rs → image_in (numbered space_number n (map (space_shown a) ss)) ≡ image_in (numbered space_number n (map (space_shown b) rs))
+image_heads a b [] [] n e = refl
+image_heads a b [] (r ∷ rs) n e = absurd cc
+image_heads a b (s ∷ ss) [] n e = absurd cc
+image_heads a b (s ∷ ss) (r ∷ rs) n e =
+    let x : head_of s ≡ head_of r = cc in
+    let y : map head_of ss ≡ map head_of rs = cc in
+    let same : s.sid ≡ r.sid = ap (λ (h : Head). h.sid) x in
+    elim (cases_eq s.sid n) [
+      | inl i ↦ ap image_in (hit n (space_shown a s) (map (space_shown a) ss) i) ∙ ap (λ (h : Head). h.image) x ∙ sym (ap image_in (hit n (space_shown b r) (map (space_shown b) rs) (sym same ∙ i)))
+      | inr d ↦ ap image_in (miss n (space_shown a s) (map (space_shown a) ss) d) ∙ image_heads a b ss rs n y ∙ sym (ap image_in (miss n (space_shown b r) (map (space_shown b) rs) (λ i. d (same ∙ i))))
+    ]
+
+pub images_heads : (t w : Tables) → map head_of w.spaces ≡ map head_of t.spaces → (sid : ℕ) → image_at w sid ≡ image_at t sid
+images_heads t w e sid = image_heads w.core.slots t.core.slots w.spaces t.spaces sid e
+
+-- Sources stay where the images of the spaces do.
+
+one_still : (ns : List ImageNamed) (f g : ℕ → ℕ) (hs : Holdings) (size : ℕ) (q : Page) (x : From) → ((sid : ℕ) → g sid ≡ f sid) → IsSourced ns f hs size q x → IsSourced ns g hs size q x
+one_still ns f g hs size q (froms.Swap block) e h = h
+one_still ns f g hs size (Data sid v) (froms.File id offset count) e h = subst (λ (i : ℕ). IsRangeOf (named_at ns i) false v id offset count) (sym (e sid)) h
+one_still ns f g hs size (Stack sid v) (froms.File id offset count) e h = h
+one_still ns f g hs size (Text i v) (froms.File id offset count) e h = h
+
+pub parts_still : (ns : List ImageNamed) (f g : ℕ → ℕ) (hs : Holdings) (size : ℕ) (s : Source) (xs : List Inbound) → ((sid : ℕ) → g sid ≡ f sid) → AreSourcedIn ns f hs size s xs → AreSourcedIn ns g hs size s xs
+parts_still ns f g hs size s [] e h = tt
+parts_still ns f g hs size s (x ∷ xs) e h = (h.0, one_still ns f g hs size x.page x.source e h.1, parts_still ns f g hs size s xs e h.2)
+
+flight_still : (ns : List ImageNamed) (f g : ℕ → ℕ) (hs : Holdings) (size : ℕ) (t : Flight) → ((sid : ℕ) → g sid ≡ f sid) → IsFlightSourced ns f hs size t → IsFlightSourced ns g hs size t
+flight_still ns f g hs size (flights.Read demanded parts) e h = parts_still ns f g hs size (source_shown parts.items) parts.items e h
+flight_still ns f g hs size (flights.Write parts) e h = h
+
+pub sourced_still : (ns : List ImageNamed) (f g : ℕ → ℕ) (hs : Holdings) (size : ℕ) (ts : List Flight) → ((sid : ℕ) → g sid ≡ f sid) → AreSourced ns f hs size ts → AreSourced ns g hs size ts
+sourced_still ns f g hs size [] e h = tt
+sourced_still ns f g hs size (t ∷ ts) e h = (flight_still ns f g hs size t e h.0, sourced_still ns f g hs size ts e h.1)
+
+pub sourced_more : (ns : List ImageNamed) (f : ℕ → ℕ) (hs : Holdings) (size : ℕ) (ts : List Flight) (x : Flight) → AreSourced ns f hs size ts → IsFlightSourced ns f hs size x → AreSourced ns f hs size (ts ++ x ∷ [])
+sourced_more ns f hs size [] x h n = (n, tt)
+sourced_more ns f hs size (t ∷ ts) x h n = (h.0, sourced_more ns f hs size ts x h.1 n)
+
+pub sourced_tail : (ns : List ImageNamed) (f : ℕ → ℕ) (hs : Holdings) (size : ℕ) (ts : List Flight) (x : Flight) → AreSourced ns f hs size (x ∷ ts) → AreSourced ns f hs size ts
+sourced_tail ns f hs size ts x h = h.1
+
+-- The whole, from the part that a step changes.
+
+pub stands_on : (m : Inside) (w : Tables) (j : List Entry) (b : Bool) → Stands m.tables m.journal.items m.stopped → before_of m.tables ≡ m.tables.book.holdings → Still m.tables w → Runs (kernel_by w j b) (lists_of w) w.book.size
+    → AreSourced (images_of m.tables) (image_at m.tables) (before_of m.tables) m.tables.book.size w.ring → ((sid : ℕ) → image_at w sid ≡ image_at m.tables sid) → length j ≤ m.tables.params.journal → Stands w j b
+stands_on m w j b s whole z r ring images within =
+    let t : Tables = m.tables in
+    let same : w.book.holdings ≡ before_of w = ap (λ (x : Book). x.holdings) z.book ∙ sym whole ∙ sym (still_before t w z) in
+    record {
+      runs = subst (λ (hs : Holdings). Runs (record (kernel_by w j b) { holdings = hs }) (lists_of w) w.book.size) same r;
+      ring = subst (λ (ns : List ImageNamed). AreSourced ns (image_at w) (before_of w) w.book.size w.ring) (sym (still_images t w z))
+          (subst (λ (hs : Holdings). AreSourced (images_of t) (image_at w) hs w.book.size w.ring) (sym (still_before t w z))
+          (subst (λ (x : Book). AreSourced (images_of t) (image_at w) (before_of t) x.size w.ring) (sym z.book)
+          (sourced_still (images_of t) (image_at t) (image_at w) (before_of t) t.book.size w.ring images ring)));
+      within = subst (λ (p : Params). length j ≤ p.journal) (sym z.params) within;
+      book = ap (λ (x : Book). x.size) z.book ∙ s.book ∙ sym (ap (λ (p : Params). p.swap_blocks) z.params);
+      found = subst (λ (hs : Holdings). WereFound w.book.size hs w.book.holdings) (sym (still_before t w z)) (subst (λ (x : Book). WereFound x.size (before_of t) x.holdings) (sym z.book) s.found);
+      borrowed = subst AreBorrowed (sym z.processes) s.borrowed;
+    }
+
+-- the same where no transfer begins or ends
+pub stands_same : (m : Inside) (w : Tables) (j : List Entry) (b : Bool) → Stands m.tables m.journal.items m.stopped → before_of m.tables ≡ m.tables.book.holdings → Still m.tables w → Runs (kernel_by w j b) (lists_of w) w.book.size
+    → w.ring ≡ m.tables.ring → map head_of w.spaces ≡ map head_of m.tables.spaces → length j ≤ m.tables.params.journal → Stands w j b
+stands_same m w j b s whole z r ring heads within =
+    stands_on m w j b s whole z r (subst (λ (ts : List Flight). AreSourced (images_of m.tables) (image_at m.tables) (before_of m.tables) m.tables.book.size ts) (sym ring) s.ring) (images_heads m.tables w heads) within

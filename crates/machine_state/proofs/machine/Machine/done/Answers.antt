@@ -1,0 +1,184 @@
+use Rattle.std.proofs.Common.{◌≡◌, ℕ, ◌*◌, ◌<◌, ◌≤◌, Bool, List, length, map, drop, Some, refl, sym, ap, ◌∙◌, subst, arith}
+use Rattle.vm_facts.specs.declared.entry.Entry.{Entry}
+use Rattle.swap_book.specs.Holdings.{Holdings}
+use Rattle.transfer_ring.specs.declared.transfer.Finished.TheVariants as answers
+use Rattle.kernel_model.specs.Kernel.{Kernel, done_step}
+use Rattle.kernel_model.specs.Sound.{TextFits}
+use Rattle.machine_state.specs.Known.{Known}
+use Rattle.machine_state.specs.View.{transfer_shown}
+use Rattle.machine_state.specs.Done.{StandsTold, ImageAfter, SpoilsAfter}
+use Rattle.machine_state.proofs.Ends.{brought}
+use Rattle.transfer_ring.specs.declared.transfer.Transfer.{Transfer as Flight}
+use Rattle.machine_state.specs.declared.tables.Tables.{Tables}
+use Rattle.machine_state.specs.Sourced.{AreSourced}
+use Rattle.machine_state.specs.Files.{AreFiles, AreImages}
+use Rattle.machine_state.specs.Machine.{Standing, lists_of, kernel_by, image_at, images_of, before_of}
+use Rattle.machine_state.proofs.Knows.{known_of}
+use Rattle.machine_state.proofs.Standings.{running, stands_now, whole_now, Still, stands_on, pushed}
+use Rattle.machine_state.proofs.Reaches.{reachable}
+use Rattle.machine_state.proofs.Dones.{Came, came, done_back, was_lists, back_known, Doing, done_kernel, done_runs, Before, head_sourced, rest_sourced, done_image, spoiled_image, done_keeps}
+use Rattle.machine_state.proofs.machine.Machine.done.Goals as goal
+
+pub complete_oldest-requires : goal.complete_oldest-requires
+complete_oldest-requires g c =
+    let now = stands_now c.self.inside c.args.self.now c.self.invariant c.self.view_is c.requires.running in
+    let t : Tables = c.self.inside.tables in
+    let area = c.requires.area in
+    let size = now.stands.book in
+    let p = ap (λ (s : Standing). s.params.swap_blocks) c.self.view_is in
+    reachable (images_of t) (image_at t) (before_of t) t.book.size (g.D.SwapDev.blocks c.args.swap.now) (g.F.Files.holds c.args.files.now) t.ring (omega arith)
+    (subst (λ (s : Standing). AreFiles s.images (g.F.Files.holds c.args.files.now)) (sym c.self.view_is) c.requires.files) now.stands.ring
+
+pub land-requires : goal.land-requires
+land-requires g c =
+    let t : Tables = c.self.inside.tables in
+    let r = running c.self.inside c.args.self.now c.self.invariant c.self.view_is c.requires.running c.requires.whole in
+    let k = known_of c.self.inside c.frames-frames.ensures.sound r in
+    let e = came t.ring (g.F.Files.holds c.args.files.now) (g.D.SwapDev.image c.args.swap.now) (g.D.SwapDev.image c.complete_oldest.new.swap) _ c.in-Done.ensures.ends (λ i. let x = i in cc) in
+    back_known t c.complete_oldest.new.self e.oldest c.in-Done.transfer (was_lists t c.complete_oldest.new.self e.rest e.oldest e.ring_is c.in-Done.ensures.rest) (done_back e.oldest c.in-Done.transfer _ _ _ e.ends) k
+
+pub invariant_of-self-in-Done : goal.invariant_of-self-in-Done
+invariant_of-self-in-Done g c _ =
+    let t : Tables = c.self.inside.tables in
+    let r = running c.self.inside c.args.self.now c.self.invariant c.self.view_is c.requires.running c.requires.whole in
+    let k : Known (lists_of t) = known_of c.self.inside c.frames-frames.ensures.sound r in
+    let now = stands_now c.self.inside c.args.self.now c.self.invariant c.self.view_is c.requires.running in
+    let whole = whole_now c.self.inside c.args.self.now c.self.view_is c.requires.whole in
+    let e : Came t.ring (g.F.Files.holds c.args.files.now) (g.D.SwapDev.image c.args.swap.now) (g.D.SwapDev.image c.complete_oldest.new.swap) (answers.Done c.in-Done.transfer) = came t.ring (g.F.Files.holds c.args.files.now) (g.D.SwapDev.image c.args.swap.now) (g.D.SwapDev.image c.complete_oldest.new.swap) (answers.Done c.in-Done.transfer) c.in-Done.ensures.ends (λ i. let x = i in cc) in
+    let n : Flight = c.in-Done.transfer in
+    let w : Tables = c.land.new.self in
+    let l : List Flight = c.complete_oldest.new.self in
+    let d : Doing t w l e.oldest n = record {
+      known = k;
+      was = was_lists t l e.rest e.oldest e.ring_is c.in-Done.ensures.rest;
+      back = done_back e.oldest n (g.F.Files.holds c.args.files.now) (g.D.SwapDev.image c.args.swap.now) (g.D.SwapDev.image c.complete_oldest.new.swap) e.ends;
+      place = c.land.ensures.place;
+      all = c.land.ensures.all;
+    } in
+    let b : Kernel = kernel_by t c.self.inside.journal.items c.self.inside.stopped in
+    let is : kernel_by w c.push_reserved.new.self.items c.make_room.new.stopped ≡ done_step b (brought n) =
+    ap (λ (j : List Entry). kernel_by w j c.make_room.new.stopped) c.push_reserved.ensures.items
+    ∙ done_kernel t w l e.oldest n c.make_room.new.journal.items c.make_room.new.stopped d
+    ∙ ap (λ (j : List Entry). done_step (kernel_by t j c.make_room.new.stopped) (brought n)) c.make_room.ensures.same
+    ∙ ap (λ (x : Bool). done_step (kernel_by t c.self.inside.journal.items x) (brought n)) c.in_ok-make_room.ensures.ok.0 in
+    let u = d.all.rest in
+    let s : Still t w = record { params = ap (λ (x : Tables). x.params) u; images = ap (λ (x : Tables). x.images.items) u; book = ap (λ (x : Tables). x.book) u; found = ap (λ (x : Tables). x.found) u; processes = ap (λ (x : Tables). x.processes) u } in
+    let left : w.ring ≡ e.rest = ap (λ (x : Tables). x.ring) u ∙ c.in-Done.ensures.rest ∙ ap (drop 1) e.ring_is in
+    record {
+      stands = stands_on c.self.inside w c.push_reserved.new.self.items c.make_room.new.stopped now.stands whole s
+          (done_runs t w l e.oldest n b (kernel_by w c.push_reserved.new.self.items c.make_room.new.stopped) d refl is r)
+          (subst (AreSourced (images_of t) (image_at t) (before_of t) t.book.size) (sym left) (rest_sourced (images_of t) (image_at t) (before_of t) t.book.size t.ring e.rest e.oldest e.ring_is now.stands.ring))
+          d.all.images
+          (pushed c.self.inside.journal.items c.make_room.new.journal.items c.push_reserved.new.self.items _ t.params.journal c.make_room.ensures.same c.push_reserved.ensures.items c.in_ok-make_room.ensures.ok.1);
+      none_lost = now.none_lost;
+    }
+
+pub returns-in-Done-clause-step : goal.returns-in-Done-clause-step
+returns-in-Done-clause-step g c _ =
+    let t : Tables = c.self.inside.tables in
+    let r = running c.self.inside c.args.self.now c.self.invariant c.self.view_is c.requires.running c.requires.whole in
+    let k : Known (lists_of t) = known_of c.self.inside c.frames-frames.ensures.sound r in
+    let now = stands_now c.self.inside c.args.self.now c.self.invariant c.self.view_is c.requires.running in
+    let whole = whole_now c.self.inside c.args.self.now c.self.view_is c.requires.whole in
+    let e : Came t.ring (g.F.Files.holds c.args.files.now) (g.D.SwapDev.image c.args.swap.now) (g.D.SwapDev.image c.complete_oldest.new.swap) (answers.Done c.in-Done.transfer) = came t.ring (g.F.Files.holds c.args.files.now) (g.D.SwapDev.image c.args.swap.now) (g.D.SwapDev.image c.complete_oldest.new.swap) (answers.Done c.in-Done.transfer) c.in-Done.ensures.ends (λ i. let x = i in cc) in
+    let n : Flight = c.in-Done.transfer in
+    let w : Tables = c.land.new.self in
+    let l : List Flight = c.complete_oldest.new.self in
+    let d : Doing t w l e.oldest n = record {
+      known = k;
+      was = was_lists t l e.rest e.oldest e.ring_is c.in-Done.ensures.rest;
+      back = done_back e.oldest n (g.F.Files.holds c.args.files.now) (g.D.SwapDev.image c.args.swap.now) (g.D.SwapDev.image c.complete_oldest.new.swap) e.ends;
+      place = c.land.ensures.place;
+      all = c.land.ensures.all;
+    } in
+    let b : Kernel = kernel_by t c.self.inside.journal.items c.self.inside.stopped in
+    let is : kernel_by w c.push_reserved.new.self.items c.make_room.new.stopped ≡ done_step b (brought n) =
+    ap (λ (j : List Entry). kernel_by w j c.make_room.new.stopped) c.push_reserved.ensures.items
+    ∙ done_kernel t w l e.oldest n c.make_room.new.journal.items c.make_room.new.stopped d
+    ∙ ap (λ (j : List Entry). done_step (kernel_by t j c.make_room.new.stopped) (brought n)) c.make_room.ensures.same
+    ∙ ap (λ (x : Bool). done_step (kernel_by t c.self.inside.journal.items x) (brought n)) c.in_ok-make_room.ensures.ok.0 in
+    record {
+      some = subst (λ (s : Standing). 0 < length s.kernel.place.transfers) c.self.view_is (subst (λ (ts : List Flight). 0 < length (map transfer_shown ts)) (sym e.ring_is) (omega arith));
+      read = brought n;
+      step = is ∙ ap (λ (s : Standing). done_step s.kernel (brought n)) c.self.view_is;
+    }
+
+pub returns-in-Done-clause-keeps : goal.returns-in-Done-clause-keeps
+returns-in-Done-clause-keeps g c images flat loads fits stands =
+    let t : Tables = c.self.inside.tables in
+    let r = running c.self.inside c.args.self.now c.self.invariant c.self.view_is c.requires.running c.requires.whole in
+    let k : Known (lists_of t) = known_of c.self.inside c.frames-frames.ensures.sound r in
+    let now = stands_now c.self.inside c.args.self.now c.self.invariant c.self.view_is c.requires.running in
+    let whole = whole_now c.self.inside c.args.self.now c.self.view_is c.requires.whole in
+    let e : Came t.ring (g.F.Files.holds c.args.files.now) (g.D.SwapDev.image c.args.swap.now) (g.D.SwapDev.image c.complete_oldest.new.swap) (answers.Done c.in-Done.transfer) = came t.ring (g.F.Files.holds c.args.files.now) (g.D.SwapDev.image c.args.swap.now) (g.D.SwapDev.image c.complete_oldest.new.swap) (answers.Done c.in-Done.transfer) c.in-Done.ensures.ends (λ i. let x = i in cc) in
+    let n : Flight = c.in-Done.transfer in
+    let w : Tables = c.land.new.self in
+    let l : List Flight = c.complete_oldest.new.self in
+    let d : Doing t w l e.oldest n = record {
+      known = k;
+      was = was_lists t l e.rest e.oldest e.ring_is c.in-Done.ensures.rest;
+      back = done_back e.oldest n (g.F.Files.holds c.args.files.now) (g.D.SwapDev.image c.args.swap.now) (g.D.SwapDev.image c.complete_oldest.new.swap) e.ends;
+      place = c.land.ensures.place;
+      all = c.land.ensures.all;
+    } in
+    let b : Kernel = kernel_by t c.self.inside.journal.items c.self.inside.stopped in
+    let is : kernel_by w c.push_reserved.new.self.items c.make_room.new.stopped ≡ done_step b (brought n) =
+    ap (λ (j : List Entry). kernel_by w j c.make_room.new.stopped) c.push_reserved.ensures.items
+    ∙ done_kernel t w l e.oldest n c.make_room.new.journal.items c.make_room.new.stopped d
+    ∙ ap (λ (j : List Entry). done_step (kernel_by t j c.make_room.new.stopped) (brought n)) c.make_room.ensures.same
+    ∙ ap (λ (x : Bool). done_step (kernel_by t c.self.inside.journal.items x) (brought n)) c.in_ok-make_room.ensures.ok.0 in
+    let f : Before t (images_of t) b e.oldest e.rest t.book.size = record {
+      place = refl;
+      frames = refl;
+      ring = e.ring_is;
+      known = k;
+      sourced = head_sourced (images_of t) (image_at t) t.book.holdings t.book.size t.ring e.rest e.oldest e.ring_is (subst (λ (hs : Holdings). AreSourced (images_of t) (image_at t) hs t.book.size t.ring) whole now.stands.ring);
+    } in
+    let area = c.requires.area in
+    let size = now.stands.book in
+    let p = ap (λ (s : Standing). s.params.swap_blocks) c.self.view_is in
+    let long : (image : List ℕ) → (g.D.SwapDev.image c.args.swap.now) ≡ Some image → 512 * t.book.size ≤ length image = λ image i. let m = g.met.D.SwapDev.whole c.args.swap.now image i in omega arith in
+    subst (λ (x : Kernel). StandsTold x images (g.D.SwapDev.image c.complete_oldest.new.swap) flat) (sym is)
+    (done_keeps t (images_of t) b e.oldest n e.rest t.book.size (g.F.Files.holds c.args.files.now) (g.D.SwapDev.image c.args.swap.now) (g.D.SwapDev.image c.complete_oldest.new.swap) images flat f e.ends r.sound
+    (subst (λ (s : Standing). AreFiles s.images (g.F.Files.holds c.args.files.now)) (sym c.self.view_is) c.requires.files)
+    (subst (λ (s : Standing). AreImages s.images (g.F.Files.holds c.args.files.now) images) (sym c.self.view_is) loads)
+    c.look.ensures
+    (subst (λ (s : Standing). TextFits images s.kernel.place) (sym c.self.view_is) fits)
+    long
+    (subst (λ (s : Standing). StandsTold s.kernel images (g.D.SwapDev.image c.args.swap.now) flat) (sym c.self.view_is) stands))
+
+pub returns-in-Done-clause-swapped : goal.returns-in-Done-clause-swapped
+returns-in-Done-clause-swapped g c =
+    let t : Tables = c.self.inside.tables in
+    let r = running c.self.inside c.args.self.now c.self.invariant c.self.view_is c.requires.running c.requires.whole in
+    let k : Known (lists_of t) = known_of c.self.inside c.frames-frames.ensures.sound r in
+    let now = stands_now c.self.inside c.args.self.now c.self.invariant c.self.view_is c.requires.running in
+    let whole = whole_now c.self.inside c.args.self.now c.self.view_is c.requires.whole in
+    let e : Came t.ring (g.F.Files.holds c.args.files.now) (g.D.SwapDev.image c.args.swap.now) (g.D.SwapDev.image c.complete_oldest.new.swap) (answers.Done c.in-Done.transfer) = came t.ring (g.F.Files.holds c.args.files.now) (g.D.SwapDev.image c.args.swap.now) (g.D.SwapDev.image c.complete_oldest.new.swap) (answers.Done c.in-Done.transfer) c.in-Done.ensures.ends (λ i. let x = i in cc) in
+    let b : Kernel = kernel_by t c.self.inside.journal.items c.self.inside.stopped in
+    let f : Before t (images_of t) b e.oldest e.rest t.book.size = record {
+      place = refl;
+      frames = refl;
+      ring = e.ring_is;
+      known = k;
+      sourced = head_sourced (images_of t) (image_at t) t.book.holdings t.book.size t.ring e.rest e.oldest e.ring_is (subst (λ (hs : Holdings). AreSourced (images_of t) (image_at t) hs t.book.size t.ring) whole now.stands.ring);
+    } in
+    subst (λ (s : Standing). ImageAfter s.kernel (g.D.SwapDev.image c.args.swap.now) (g.D.SwapDev.image c.complete_oldest.new.swap)) c.self.view_is (done_image t (images_of t) b e.oldest c.in-Done.transfer e.rest t.book.size (g.F.Files.holds c.args.files.now) (g.D.SwapDev.image c.args.swap.now) (g.D.SwapDev.image c.complete_oldest.new.swap) f e.ends)
+
+pub returns-in-SwapWriteFault-clause-spoiled : goal.returns-in-SwapWriteFault-clause-spoiled
+returns-in-SwapWriteFault-clause-spoiled g c =
+    let t : Tables = c.self.inside.tables in
+    let r = running c.self.inside c.args.self.now c.self.invariant c.self.view_is c.requires.running c.requires.whole in
+    let k : Known (lists_of t) = known_of c.self.inside c.frames-frames.ensures.sound r in
+    let now = stands_now c.self.inside c.args.self.now c.self.invariant c.self.view_is c.requires.running in
+    let whole = whole_now c.self.inside c.args.self.now c.self.view_is c.requires.whole in
+    let e : Came t.ring (g.F.Files.holds c.args.files.now) (g.D.SwapDev.image c.args.swap.now) (g.D.SwapDev.image c.complete_oldest.new.swap) (answers.SwapWriteFault c.in-SwapWriteFault.transfer) = came t.ring (g.F.Files.holds c.args.files.now) (g.D.SwapDev.image c.args.swap.now) (g.D.SwapDev.image c.complete_oldest.new.swap) (answers.SwapWriteFault c.in-SwapWriteFault.transfer) c.in-SwapWriteFault.ensures.ends (λ i. let x = i in cc) in
+    let b : Kernel = kernel_by t c.self.inside.journal.items c.self.inside.stopped in
+    let f : Before t (images_of t) b e.oldest e.rest t.book.size = record {
+      place = refl;
+      frames = refl;
+      ring = e.ring_is;
+      known = k;
+      sourced = head_sourced (images_of t) (image_at t) t.book.holdings t.book.size t.ring e.rest e.oldest e.ring_is (subst (λ (hs : Holdings). AreSourced (images_of t) (image_at t) hs t.book.size t.ring) whole now.stands.ring);
+    } in
+    subst (λ (s : Standing). SpoilsAfter s.kernel (g.D.SwapDev.image c.args.swap.now) (g.D.SwapDev.image c.complete_oldest.new.swap)) c.self.view_is (spoiled_image t (images_of t) b e.oldest c.in-SwapWriteFault.transfer e.rest t.book.size (g.F.Files.holds c.args.files.now) (g.D.SwapDev.image c.args.swap.now) (g.D.SwapDev.image c.complete_oldest.new.swap) f e.ends)

@@ -1,0 +1,144 @@
+use Rattle.std.proofs.Common.{◌≡◌, Bool, List, refl, sym, ap, ◌∙◌, subst}
+use Rattle.vm_facts.specs.declared.entry.Entry.{Entry}
+use Rattle.page_model.specs.Pages.{frame_of}
+use Rattle.kernel_model.specs.Kernel.{Kernel, zero_step}
+use Rattle.machine_state.specs.View.{placement_of}
+use Rattle.machine_state.specs.Machine.{Standing, Runs, lists_of, kernel_by}
+use Rattle.machine_state.specs.Conditions.{CanZero, KeepsFlat, SameElsewhere}
+use Rattle.machine_state.specs.declared.tables.Tables.{Tables}
+use Rattle.machine_state.specs.Known.{Known}
+use Rattle.machine_state.proofs.Evicts.{head_below}
+use Rattle.machine_state.proofs.Knows.{known_of, texts_here, not_held}
+use Rattle.machine_state.proofs.Zeros.{Zeroing}
+use Rattle.machine_state.proofs.ZeroKeeps.{zero_keeps, zero_same}
+use Rattle.machine_state.proofs.Kernels.{zeroing_rest, zero_ties, zero_kernel, zero_runs}
+use Rattle.machine_state.proofs.Standings.{running, stands_now, whole_now, Still, stands_same, rest_of, pushed}
+use Rattle.machine_state.proofs.machine.Machine.fill_zero.Goals as goal
+
+pub take_frame-token-requires-clause-texts : goal.take_frame-token-requires-clause-texts
+take_frame-token-requires-clause-texts c =
+    texts_here (lists_of c.self.inside.tables) (known_of c.self.inside c.frames-frames.ensures.sound (running c.self.inside c.args.self.now c.self.invariant c.self.view_is c.requires.running c.requires.whole))
+
+pub seat-requires-clause-not_held : goal.seat-requires-clause-not_held
+seat-requires-clause-not_held c =
+    let r = running c.self.inside c.args.self.now c.self.invariant c.self.view_is c.requires.running c.requires.whole in
+    let k : Known (lists_of c.self.inside.tables) = known_of c.self.inside c.frames-frames.ensures.sound r in
+    let can : CanZero (placement_of (lists_of c.self.inside.tables)) c.args.page = subst (λ (s : Standing). CanZero s.kernel.place c.args.page) (sym c.self.view_is) c.requires.can in
+    not_held (lists_of c.self.inside.tables) c.take_frame-token.result.number c.take_frame-token.new.self.core.slots c.take_frame-token.new.self.core.free c.args.page k (ap frame_of can.unfilled)
+    c.take_frame-token.ensures.slots (head_below (lists_of c.self.inside.tables) c.take_frame-token.result.number c.take_frame-token.result _ c.take_frame-token.ensures.was)
+
+pub invariant_of-self-2 : goal.invariant_of-self-2
+invariant_of-self-2 c _ =
+    let r = running c.self.inside c.args.self.now c.self.invariant c.self.view_is c.requires.running c.requires.whole in
+    let can : CanZero (placement_of (lists_of c.self.inside.tables)) c.args.page = subst (λ (s : Standing). CanZero s.kernel.place c.args.page) (sym c.self.view_is) c.requires.can in
+    let z : Zeroing c.self.inside.tables c.take_frame-token.new.self c.seat.new.self c.finish_fill.new.self c.take_frame-token.result c.fill_frame-filled.result c.args.page = record {
+      known = known_of c.self.inside c.frames-frames.ensures.sound r;
+      took = record { free = c.take_frame-token.ensures.free; was = c.take_frame-token.ensures.was; slots = c.take_frame-token.ensures.slots; spaces = c.take_frame-token.ensures.spaces; rest = c.take_frame-token.ensures.rest };
+      bytes = c.fill_frame-filled.ensures;
+      seat = record { free = c.seat.ensures.free; slots = c.seat.ensures.slots; spaces = c.seat.ensures.spaces; rest = c.seat.ensures.rest };
+      finish = record { fills = c.finish_fill.ensures.fills; rest = c.finish_fill.ensures.rest };
+      writable = can.writable;
+      there = can.there;
+      first = can.first;
+      once = r.tied.once;
+    } in
+    let now = stands_now c.self.inside c.args.self.now c.self.invariant c.self.view_is c.requires.running in
+    let whole = whole_now c.self.inside c.args.self.now c.self.view_is c.requires.whole in
+    let e = zeroing_rest c.self.inside.tables c.take_frame-token.new.self c.seat.new.self c.finish_fill.new.self c.take_frame-token.result c.fill_frame-filled.result c.args.page z in
+    let s : Still c.self.inside.tables c.finish_fill.new.self = record { params = ap (λ (x : Tables). x.params) e; images = ap (λ (x : Tables). x.images.items) e; book = ap (λ (x : Tables). x.book) e; found = ap (λ (x : Tables). x.found) e; processes = ap (λ (x : Tables). x.processes) e } in
+    let ties = zero_ties c.self.inside.tables c.take_frame-token.new.self c.seat.new.self c.finish_fill.new.self c.take_frame-token.result c.fill_frame-filled.result c.args.page z in
+    record {
+      stands = stands_same c.self.inside c.finish_fill.new.self c.push_reserved.new.self.items c.make_room.new.stopped now.stands whole s
+          (subst (λ (j : List Entry). Runs (kernel_by c.finish_fill.new.self j c.make_room.new.stopped) (lists_of c.finish_fill.new.self) c.finish_fill.new.self.book.size) (sym c.push_reserved.ensures.items)
+          (zero_runs c.self.inside c.take_frame-token.new.self c.seat.new.self c.finish_fill.new.self c.take_frame-token.result c.fill_frame-filled.result c.args.page
+          c.make_room.new.journal.items c.make_room.new.stopped r can z c.make_room.ensures.same c.in_ok-make_room.ensures.ok.0))
+          (ap (λ (x : Tables). x.ring) e) ties.heads (pushed c.self.inside.journal.items c.make_room.new.journal.items c.push_reserved.new.self.items _ c.self.inside.tables.params.journal c.make_room.ensures.same c.push_reserved.ensures.items c.in_ok-make_room.ensures.ok.1);
+      none_lost = now.none_lost;
+    }
+
+pub returns-clause-rest : goal.returns-clause-rest
+returns-clause-rest c =
+    let r = running c.self.inside c.args.self.now c.self.invariant c.self.view_is c.requires.running c.requires.whole in
+    let can : CanZero (placement_of (lists_of c.self.inside.tables)) c.args.page = subst (λ (s : Standing). CanZero s.kernel.place c.args.page) (sym c.self.view_is) c.requires.can in
+    let z : Zeroing c.self.inside.tables c.take_frame-token.new.self c.seat.new.self c.finish_fill.new.self c.take_frame-token.result c.fill_frame-filled.result c.args.page = record {
+      known = known_of c.self.inside c.frames-frames.ensures.sound r;
+      took = record { free = c.take_frame-token.ensures.free; was = c.take_frame-token.ensures.was; slots = c.take_frame-token.ensures.slots; spaces = c.take_frame-token.ensures.spaces; rest = c.take_frame-token.ensures.rest };
+      bytes = c.fill_frame-filled.ensures;
+      seat = record { free = c.seat.ensures.free; slots = c.seat.ensures.slots; spaces = c.seat.ensures.spaces; rest = c.seat.ensures.rest };
+      finish = record { fills = c.finish_fill.ensures.fills; rest = c.finish_fill.ensures.rest };
+      writable = can.writable;
+      there = can.there;
+      first = can.first;
+      once = r.tied.once;
+    } in
+    let e = zeroing_rest c.self.inside.tables c.take_frame-token.new.self c.seat.new.self c.finish_fill.new.self c.take_frame-token.result c.fill_frame-filled.result c.args.page z in
+    let s : Still c.self.inside.tables c.finish_fill.new.self = record { params = ap (λ (x : Tables). x.params) e; images = ap (λ (x : Tables). x.images.items) e; book = ap (λ (x : Tables). x.book) e; found = ap (λ (x : Tables). x.found) e; processes = ap (λ (x : Tables). x.processes) e } in
+    rest_of c.self.inside c.args.self.now c.finish_fill.new.self _ _ _ c.self.view_is s c.make_room.ensures.room
+
+pub returns-clause-step : goal.returns-clause-step
+returns-clause-step c =
+    let r = running c.self.inside c.args.self.now c.self.invariant c.self.view_is c.requires.running c.requires.whole in
+    let can : CanZero (placement_of (lists_of c.self.inside.tables)) c.args.page = subst (λ (s : Standing). CanZero s.kernel.place c.args.page) (sym c.self.view_is) c.requires.can in
+    let z : Zeroing c.self.inside.tables c.take_frame-token.new.self c.seat.new.self c.finish_fill.new.self c.take_frame-token.result c.fill_frame-filled.result c.args.page = record {
+      known = known_of c.self.inside c.frames-frames.ensures.sound r;
+      took = record { free = c.take_frame-token.ensures.free; was = c.take_frame-token.ensures.was; slots = c.take_frame-token.ensures.slots; spaces = c.take_frame-token.ensures.spaces; rest = c.take_frame-token.ensures.rest };
+      bytes = c.fill_frame-filled.ensures;
+      seat = record { free = c.seat.ensures.free; slots = c.seat.ensures.slots; spaces = c.seat.ensures.spaces; rest = c.seat.ensures.rest };
+      finish = record { fills = c.finish_fill.ensures.fills; rest = c.finish_fill.ensures.rest };
+      writable = can.writable;
+      there = can.there;
+      first = can.first;
+      once = r.tied.once;
+    } in
+    let is : kernel_by c.finish_fill.new.self c.push_reserved.new.self.items c.make_room.new.stopped ≡ zero_step (kernel_by c.self.inside.tables c.self.inside.journal.items c.self.inside.stopped) c.args.page =
+    ap (λ (j : List Entry). kernel_by c.finish_fill.new.self j c.make_room.new.stopped) c.push_reserved.ensures.items
+    ∙ zero_kernel c.self.inside.tables c.take_frame-token.new.self c.seat.new.self c.finish_fill.new.self c.take_frame-token.result c.fill_frame-filled.result c.args.page c.make_room.new.journal.items c.make_room.new.stopped z
+    ∙ ap (λ (j : List Entry). zero_step (kernel_by c.self.inside.tables j c.make_room.new.stopped) c.args.page) c.make_room.ensures.same
+    ∙ ap (λ (b : Bool). zero_step (kernel_by c.self.inside.tables c.self.inside.journal.items b) c.args.page) c.in_ok-make_room.ensures.ok.0 in
+    is ∙ ap (λ (s : Standing). zero_step s.kernel c.args.page) c.self.view_is
+
+pub returns-clause-keeps : goal.returns-clause-keeps
+returns-clause-keeps c =
+    let r = running c.self.inside c.args.self.now c.self.invariant c.self.view_is c.requires.running c.requires.whole in
+    let can : CanZero (placement_of (lists_of c.self.inside.tables)) c.args.page = subst (λ (s : Standing). CanZero s.kernel.place c.args.page) (sym c.self.view_is) c.requires.can in
+    let z : Zeroing c.self.inside.tables c.take_frame-token.new.self c.seat.new.self c.finish_fill.new.self c.take_frame-token.result c.fill_frame-filled.result c.args.page = record {
+      known = known_of c.self.inside c.frames-frames.ensures.sound r;
+      took = record { free = c.take_frame-token.ensures.free; was = c.take_frame-token.ensures.was; slots = c.take_frame-token.ensures.slots; spaces = c.take_frame-token.ensures.spaces; rest = c.take_frame-token.ensures.rest };
+      bytes = c.fill_frame-filled.ensures;
+      seat = record { free = c.seat.ensures.free; slots = c.seat.ensures.slots; spaces = c.seat.ensures.spaces; rest = c.seat.ensures.rest };
+      finish = record { fills = c.finish_fill.ensures.fills; rest = c.finish_fill.ensures.rest };
+      writable = can.writable;
+      there = can.there;
+      first = can.first;
+      once = r.tied.once;
+    } in
+    let is : kernel_by c.finish_fill.new.self c.push_reserved.new.self.items c.make_room.new.stopped ≡ zero_step (kernel_by c.self.inside.tables c.self.inside.journal.items c.self.inside.stopped) c.args.page =
+    ap (λ (j : List Entry). kernel_by c.finish_fill.new.self j c.make_room.new.stopped) c.push_reserved.ensures.items
+    ∙ zero_kernel c.self.inside.tables c.take_frame-token.new.self c.seat.new.self c.finish_fill.new.self c.take_frame-token.result c.fill_frame-filled.result c.args.page c.make_room.new.journal.items c.make_room.new.stopped z
+    ∙ ap (λ (j : List Entry). zero_step (kernel_by c.self.inside.tables j c.make_room.new.stopped) c.args.page) c.make_room.ensures.same
+    ∙ ap (λ (b : Bool). zero_step (kernel_by c.self.inside.tables c.self.inside.journal.items b) c.args.page) c.in_ok-make_room.ensures.ok.0 in
+    let k : Kernel = kernel_by c.self.inside.tables c.self.inside.journal.items c.self.inside.stopped in
+    subst (KeepsFlat c.args.self.now.kernel) (sym is) (subst (λ (s : Standing). KeepsFlat s.kernel (zero_step k c.args.page)) c.self.view_is (zero_keeps c.self.inside.tables.book.size k c.args.page c.self.inside.tables.fills.items r.sound can refl refl))
+
+pub returns-clause-same : goal.returns-clause-same
+returns-clause-same c =
+    let r = running c.self.inside c.args.self.now c.self.invariant c.self.view_is c.requires.running c.requires.whole in
+    let can : CanZero (placement_of (lists_of c.self.inside.tables)) c.args.page = subst (λ (s : Standing). CanZero s.kernel.place c.args.page) (sym c.self.view_is) c.requires.can in
+    let z : Zeroing c.self.inside.tables c.take_frame-token.new.self c.seat.new.self c.finish_fill.new.self c.take_frame-token.result c.fill_frame-filled.result c.args.page = record {
+      known = known_of c.self.inside c.frames-frames.ensures.sound r;
+      took = record { free = c.take_frame-token.ensures.free; was = c.take_frame-token.ensures.was; slots = c.take_frame-token.ensures.slots; spaces = c.take_frame-token.ensures.spaces; rest = c.take_frame-token.ensures.rest };
+      bytes = c.fill_frame-filled.ensures;
+      seat = record { free = c.seat.ensures.free; slots = c.seat.ensures.slots; spaces = c.seat.ensures.spaces; rest = c.seat.ensures.rest };
+      finish = record { fills = c.finish_fill.ensures.fills; rest = c.finish_fill.ensures.rest };
+      writable = can.writable;
+      there = can.there;
+      first = can.first;
+      once = r.tied.once;
+    } in
+    let is : kernel_by c.finish_fill.new.self c.push_reserved.new.self.items c.make_room.new.stopped ≡ zero_step (kernel_by c.self.inside.tables c.self.inside.journal.items c.self.inside.stopped) c.args.page =
+    ap (λ (j : List Entry). kernel_by c.finish_fill.new.self j c.make_room.new.stopped) c.push_reserved.ensures.items
+    ∙ zero_kernel c.self.inside.tables c.take_frame-token.new.self c.seat.new.self c.finish_fill.new.self c.take_frame-token.result c.fill_frame-filled.result c.args.page c.make_room.new.journal.items c.make_room.new.stopped z
+    ∙ ap (λ (j : List Entry). zero_step (kernel_by c.self.inside.tables j c.make_room.new.stopped) c.args.page) c.make_room.ensures.same
+    ∙ ap (λ (b : Bool). zero_step (kernel_by c.self.inside.tables c.self.inside.journal.items b) c.args.page) c.in_ok-make_room.ensures.ok.0 in
+    let k : Kernel = kernel_by c.self.inside.tables c.self.inside.journal.items c.self.inside.stopped in
+    subst (λ (x : Kernel). SameElsewhere c.args.self.now.kernel x c.args.page) (sym is) (subst (λ (s : Standing). SameElsewhere s.kernel (zero_step k c.args.page) c.args.page) c.self.view_is (zero_same c.self.inside.tables.book.size k c.args.page r.sound can))

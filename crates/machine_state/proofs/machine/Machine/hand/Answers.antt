@@ -1,0 +1,187 @@
+use Rattle.std.proofs.Common.{◌≡◌, List, refl, sym, ap, ◌∙◌, subst}
+use Rattle.vm_facts.specs.declared.entry.Entry.{Entry}
+use Rattle.vm_facts.specs.declared.entry.Entry.TheVariants as entries
+use Rattle.flat_state.specs.Journal.{append}
+use Rattle.page_model.specs.Placement.{Placement}
+use Rattle.page_model.specs.Hands.{hand_move}
+use Rattle.kernel_model.specs.Kernel.{Kernel, hand_step}
+use Rattle.machine_state.specs.declared.tables.Tables.{Tables}
+use Rattle.machine_state.specs.View.{placement_of}
+use Rattle.machine_state.specs.Known.{Known}
+use Rattle.machine_state.specs.Machine.{Standing, lists_of, kernel_by}
+use Rattle.machine_state.specs.Calls.{CanMove}
+use Rattle.machine_state.specs.Conditions.{KeepsFlat, SameEverywhere}
+use Rattle.machine_state.specs.Launches.{MovedOn}
+use Rattle.machine_state.specs.Joined.{moves_in, last_says}
+use Rattle.machine_state.proofs.Knows.{known_of}
+use Rattle.machine_state.proofs.Puttings.{all_blocks}
+use Rattle.machine_state.proofs.Hands.{hands_low, hand_few, hand_keeps, hand_alike}
+use Rattle.machine_state.proofs.Joins.{last_is, joined_within}
+use Rattle.machine_state.proofs.MovesOn.{Moving, moved_still, moving_kernel, moving_stands}
+use Rattle.machine_state.proofs.Standings.{running, stands_now, whole_now, rest_of}
+use Rattle.machine_state.proofs.machine.Machine.hand.Goals as goal
+
+pub move_hands-requires-clause-known : goal.move_hands-requires-clause-known
+move_hands-requires-clause-known c =
+    known_of c.self.inside c.frames-frames.ensures.sound (running c.self.inside c.args.self.now c.self.invariant c.self.view_is c.requires.running c.requires.whole)
+
+pub move_hands-requires-clause-front : goal.move_hands-requires-clause-front
+move_hands-requires-clause-front c =
+    let r = running c.self.inside c.args.self.now c.self.invariant c.self.view_is c.requires.running c.requires.whole in
+    (hands_low (lists_of c.self.inside.tables) r.sound.hands).0
+
+pub move_hands-requires-clause-back : goal.move_hands-requires-clause-back
+move_hands-requires-clause-back c =
+    let r = running c.self.inside c.args.self.now c.self.invariant c.self.view_is c.requires.running c.requires.whole in
+    (hands_low (lists_of c.self.inside.tables) r.sound.hands).1
+
+pub move_hands-requires-clause-run : goal.move_hands-requires-clause-run
+move_hands-requires-clause-run c =
+    let t : Tables = c.self.inside.tables in
+    let r = running c.self.inside c.args.self.now c.self.invariant c.self.view_is c.requires.running c.requires.whole in
+    let k : Known (lists_of t) = known_of c.self.inside c.frames-frames.ensures.sound r in
+    let can : CanMove (placement_of (lists_of t)) c.args.locked.now c.args.lo c.args.n = subst (λ (s : Standing). CanMove s.kernel.place c.args.locked.now c.args.lo c.args.n) (sym c.self.view_is) c.requires.can in
+    can.run
+
+pub move_hands-requires-clause-room : goal.move_hands-requires-clause-room
+move_hands-requires-clause-room c =
+    let t : Tables = c.self.inside.tables in
+    let r = running c.self.inside c.args.self.now c.self.invariant c.self.view_is c.requires.running c.requires.whole in
+    let k : Known (lists_of t) = known_of c.self.inside c.frames-frames.ensures.sound r in
+    let can : CanMove (placement_of (lists_of t)) c.args.locked.now c.args.lo c.args.n = subst (λ (s : Standing). CanMove s.kernel.place c.args.locked.now c.args.lo c.args.n) (sym c.self.view_is) c.requires.can in
+    can.room
+
+pub move_hands-requires-clause-blocks : goal.move_hands-requires-clause-blocks
+move_hands-requires-clause-blocks c =
+    let r = running c.self.inside c.args.self.now c.self.invariant c.self.view_is c.requires.running c.requires.whole in
+    all_blocks c.self.inside.tables.book.size (kernel_by c.self.inside.tables c.self.inside.journal.items c.self.inside.stopped) r.sound
+
+pub add_move-requires-clause-fits : goal.add_move-requires-clause-fits
+add_move-requires-clause-fits c count h =
+    let l = last_is c.self.inside.journal.items count (sym (ap (last_says moves_in) c.make_room_to_move.ensures.same) ∙ h) in
+    c.requires.fits count l.0 (sym (ap (λ (s : Standing). s.kernel.journal) c.self.view_is) ∙ l.1)
+
+pub invariant_of-self-2 : goal.invariant_of-self-2
+invariant_of-self-2 c _ =
+    let t : Tables = c.self.inside.tables in
+    let r = running c.self.inside c.args.self.now c.self.invariant c.self.view_is c.requires.running c.requires.whole in
+    let k : Known (lists_of t) = known_of c.self.inside c.frames-frames.ensures.sound r in
+    let can : CanMove (placement_of (lists_of t)) c.args.locked.now c.args.lo c.args.n = subst (λ (s : Standing). CanMove s.kernel.place c.args.locked.now c.args.lo c.args.n) (sym c.self.view_is) c.requires.can in
+    let p : Placement = hand_move (placement_of (lists_of t)) c.args.locked.now in
+    let m : MovedOn t c.move_hands.new.self p = c.move_hands.ensures in
+    let g : Moving c.self.inside c.move_hands.new.self p c.args.locked.now (entries.Hands 1) = record {
+      runs = r;
+      moved = m;
+      is = refl;
+      can = tt;
+      shared = tt;
+      leaves = tt;
+      few = hand_few (placement_of (lists_of t)) c.args.locked.now c.args.lo c.args.n can.run can.room r.sound.few_transfers;
+    } in
+    let ej : c.add_move.new.journal.items ≡ append c.self.inside.journal.items (entries.Hands 1) =
+    c.add_move.ensures ∙ ap (λ (j : List Entry). append j (entries.Hands 1)) c.make_room_to_move.ensures.same in
+    let es : c.or_stop.new.stopped ≡ c.self.inside.stopped = c.in_ok-parts.ensures.same ∙ c.in_ok-make_room_to_move.ensures.ok in
+    let now = stands_now c.self.inside c.args.self.now c.self.invariant c.self.view_is c.requires.running in
+    let whole = whole_now c.self.inside c.args.self.now c.self.view_is c.requires.whole in
+    record {
+      stands = moving_stands c.self.inside c.move_hands.new.self p c.args.locked.now (entries.Hands 1) c.add_move.new.journal.items c.or_stop.new.stopped g now.stands whole ej es
+          (joined_within c.self.inside.journal.items c.add_move.new.journal.items t.params.journal ej now.stands.within (λ h. (c.in_ok-make_room_to_move.ensures.has_room h).0));
+      none_lost = now.none_lost;
+    }
+
+pub returns-clause-rest : goal.returns-clause-rest
+returns-clause-rest c =
+    let t : Tables = c.self.inside.tables in
+    let r = running c.self.inside c.args.self.now c.self.invariant c.self.view_is c.requires.running c.requires.whole in
+    let k : Known (lists_of t) = known_of c.self.inside c.frames-frames.ensures.sound r in
+    let can : CanMove (placement_of (lists_of t)) c.args.locked.now c.args.lo c.args.n = subst (λ (s : Standing). CanMove s.kernel.place c.args.locked.now c.args.lo c.args.n) (sym c.self.view_is) c.requires.can in
+    let p : Placement = hand_move (placement_of (lists_of t)) c.args.locked.now in
+    let m : MovedOn t c.move_hands.new.self p = c.move_hands.ensures in
+    let g : Moving c.self.inside c.move_hands.new.self p c.args.locked.now (entries.Hands 1) = record {
+      runs = r;
+      moved = m;
+      is = refl;
+      can = tt;
+      shared = tt;
+      leaves = tt;
+      few = hand_few (placement_of (lists_of t)) c.args.locked.now c.args.lo c.args.n can.run can.room r.sound.few_transfers;
+    } in
+    let ej : c.add_move.new.journal.items ≡ append c.self.inside.journal.items (entries.Hands 1) =
+    c.add_move.ensures ∙ ap (λ (j : List Entry). append j (entries.Hands 1)) c.make_room_to_move.ensures.same in
+    let es : c.or_stop.new.stopped ≡ c.self.inside.stopped = c.in_ok-parts.ensures.same ∙ c.in_ok-make_room_to_move.ensures.ok in
+    rest_of c.self.inside c.args.self.now c.move_hands.new.self _ _ _ c.self.view_is (moved_still t c.move_hands.new.self p m) c.make_room_to_move.ensures.room
+
+pub returns-clause-step : goal.returns-clause-step
+returns-clause-step c =
+    let t : Tables = c.self.inside.tables in
+    let r = running c.self.inside c.args.self.now c.self.invariant c.self.view_is c.requires.running c.requires.whole in
+    let k : Known (lists_of t) = known_of c.self.inside c.frames-frames.ensures.sound r in
+    let can : CanMove (placement_of (lists_of t)) c.args.locked.now c.args.lo c.args.n = subst (λ (s : Standing). CanMove s.kernel.place c.args.locked.now c.args.lo c.args.n) (sym c.self.view_is) c.requires.can in
+    let p : Placement = hand_move (placement_of (lists_of t)) c.args.locked.now in
+    let m : MovedOn t c.move_hands.new.self p = c.move_hands.ensures in
+    let g : Moving c.self.inside c.move_hands.new.self p c.args.locked.now (entries.Hands 1) = record {
+      runs = r;
+      moved = m;
+      is = refl;
+      can = tt;
+      shared = tt;
+      leaves = tt;
+      few = hand_few (placement_of (lists_of t)) c.args.locked.now c.args.lo c.args.n can.run can.room r.sound.few_transfers;
+    } in
+    let ej : c.add_move.new.journal.items ≡ append c.self.inside.journal.items (entries.Hands 1) =
+    c.add_move.ensures ∙ ap (λ (j : List Entry). append j (entries.Hands 1)) c.make_room_to_move.ensures.same in
+    let es : c.or_stop.new.stopped ≡ c.self.inside.stopped = c.in_ok-parts.ensures.same ∙ c.in_ok-make_room_to_move.ensures.ok in
+    let b : Kernel = kernel_by t c.self.inside.journal.items c.self.inside.stopped in
+    let is : kernel_by c.move_hands.new.self c.add_move.new.journal.items c.or_stop.new.stopped ≡ hand_step b c.args.locked.now =
+    moving_kernel c.self.inside c.move_hands.new.self p c.args.locked.now (entries.Hands 1) c.add_move.new.journal.items c.or_stop.new.stopped g ej es in
+    is ∙ ap (λ (s : Standing). hand_step s.kernel c.args.locked.now) c.self.view_is
+
+pub returns-clause-keeps : goal.returns-clause-keeps
+returns-clause-keeps c =
+    let t : Tables = c.self.inside.tables in
+    let r = running c.self.inside c.args.self.now c.self.invariant c.self.view_is c.requires.running c.requires.whole in
+    let k : Known (lists_of t) = known_of c.self.inside c.frames-frames.ensures.sound r in
+    let can : CanMove (placement_of (lists_of t)) c.args.locked.now c.args.lo c.args.n = subst (λ (s : Standing). CanMove s.kernel.place c.args.locked.now c.args.lo c.args.n) (sym c.self.view_is) c.requires.can in
+    let p : Placement = hand_move (placement_of (lists_of t)) c.args.locked.now in
+    let m : MovedOn t c.move_hands.new.self p = c.move_hands.ensures in
+    let g : Moving c.self.inside c.move_hands.new.self p c.args.locked.now (entries.Hands 1) = record {
+      runs = r;
+      moved = m;
+      is = refl;
+      can = tt;
+      shared = tt;
+      leaves = tt;
+      few = hand_few (placement_of (lists_of t)) c.args.locked.now c.args.lo c.args.n can.run can.room r.sound.few_transfers;
+    } in
+    let ej : c.add_move.new.journal.items ≡ append c.self.inside.journal.items (entries.Hands 1) =
+    c.add_move.ensures ∙ ap (λ (j : List Entry). append j (entries.Hands 1)) c.make_room_to_move.ensures.same in
+    let es : c.or_stop.new.stopped ≡ c.self.inside.stopped = c.in_ok-parts.ensures.same ∙ c.in_ok-make_room_to_move.ensures.ok in
+    let b : Kernel = kernel_by t c.self.inside.journal.items c.self.inside.stopped in
+    let is : kernel_by c.move_hands.new.self c.add_move.new.journal.items c.or_stop.new.stopped ≡ hand_step b c.args.locked.now =
+    moving_kernel c.self.inside c.move_hands.new.self p c.args.locked.now (entries.Hands 1) c.add_move.new.journal.items c.or_stop.new.stopped g ej es in
+    subst (KeepsFlat c.args.self.now.kernel) (sym is) (subst (λ (s : Standing). KeepsFlat s.kernel (hand_step b c.args.locked.now)) c.self.view_is (hand_keeps t.book.size b c.args.locked.now r.sound))
+
+pub returns-clause-same : goal.returns-clause-same
+returns-clause-same c =
+    let t : Tables = c.self.inside.tables in
+    let r = running c.self.inside c.args.self.now c.self.invariant c.self.view_is c.requires.running c.requires.whole in
+    let k : Known (lists_of t) = known_of c.self.inside c.frames-frames.ensures.sound r in
+    let can : CanMove (placement_of (lists_of t)) c.args.locked.now c.args.lo c.args.n = subst (λ (s : Standing). CanMove s.kernel.place c.args.locked.now c.args.lo c.args.n) (sym c.self.view_is) c.requires.can in
+    let p : Placement = hand_move (placement_of (lists_of t)) c.args.locked.now in
+    let m : MovedOn t c.move_hands.new.self p = c.move_hands.ensures in
+    let g : Moving c.self.inside c.move_hands.new.self p c.args.locked.now (entries.Hands 1) = record {
+      runs = r;
+      moved = m;
+      is = refl;
+      can = tt;
+      shared = tt;
+      leaves = tt;
+      few = hand_few (placement_of (lists_of t)) c.args.locked.now c.args.lo c.args.n can.run can.room r.sound.few_transfers;
+    } in
+    let ej : c.add_move.new.journal.items ≡ append c.self.inside.journal.items (entries.Hands 1) =
+    c.add_move.ensures ∙ ap (λ (j : List Entry). append j (entries.Hands 1)) c.make_room_to_move.ensures.same in
+    let es : c.or_stop.new.stopped ≡ c.self.inside.stopped = c.in_ok-parts.ensures.same ∙ c.in_ok-make_room_to_move.ensures.ok in
+    let b : Kernel = kernel_by t c.self.inside.journal.items c.self.inside.stopped in
+    let is : kernel_by c.move_hands.new.self c.add_move.new.journal.items c.or_stop.new.stopped ≡ hand_step b c.args.locked.now =
+    moving_kernel c.self.inside c.move_hands.new.self p c.args.locked.now (entries.Hands 1) c.add_move.new.journal.items c.or_stop.new.stopped g ej es in
+    subst (SameEverywhere c.args.self.now.kernel) (sym is) (subst (λ (s : Standing). SameEverywhere s.kernel (hand_step b c.args.locked.now)) c.self.view_is (hand_alike b c.args.locked.now))

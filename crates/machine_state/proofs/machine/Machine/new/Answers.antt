@@ -1,0 +1,59 @@
+use Rattle.std.proofs.Common.{ℕ, ◌+◌, ◌/◌, ◌≤◌, false, List, map, refl, sym, ap, subst}
+use Rattle.aout_image.specs.declared.Image.{Image}
+use Rattle.swap_book.specs.Book.{Book}
+use Rattle.kernel_model.specs.Kernel.{Kernel}
+use Rattle.machine_state.specs.declared.named.Named.{Named}
+use Rattle.machine_state.specs.declared.tables.Tables.{Tables}
+use Rattle.machine_state.specs.View.{Lists}
+use Rattle.machine_state.specs.New.{fresh_kernel}
+use Rattle.machine_state.specs.Machine.{Runs, lists_of, kernel_by}
+use Rattle.machine_state.proofs.Shows.{length_map}
+use Rattle.machine_state.proofs.News.{NewTables, new_lists_are, new_kernel_is, new_runs, new_stands, new_standing}
+use Rattle.machine_state.proofs.machine.Machine.new.Goals as goal
+
+pub invariant_of-result : goal.invariant_of-result
+invariant_of-result c _ =
+    let facts : List Image = map (λ (x : Named). x.facts) c.args.images.items in
+    let t : Tables = record { params = c.args.params; images = c.args.images; core = c.in-Ok.core; ring = c.in_ok-ring.ring; spaces = c.new-5.result; texts = c.new-6.result; processes = c.in_ok-processes.processes; book = c.in_ok-book.book; fills = c.new-7.result; front = 1 + c.args.params.frames / 4; back = 1; next_pid = 1; next_sid = 1; found = 0 } in
+    let n : NewTables t facts c.args.params.frames = record {
+      slots = c.in-Ok.ensures.slots;
+      free = c.in-Ok.ensures.free;
+      ring = c.in_ok-ring.ensures;
+      spaces = c.new-5.ensures;
+      texts = c.new-6.ensures;
+      facts_are = refl;
+      fills = c.new-7.ensures.items;
+      holdings = ap (λ (b : Book). b.holdings) c.in_ok-book.ensures;
+      front = refl;
+      back = refl;
+      next_pid = refl;
+      next_sid = refl;
+    } in
+    let runs : Runs (kernel_by t c.new-8.result.items false) (lists_of t) t.book.size =
+    subst (λ (k : Kernel). Runs k (lists_of t) t.book.size) (sym (new_kernel_is t facts c.args.params.frames c.new-8.result.items n c.new-8.ensures.items))
+    (subst (λ (l : Lists). Runs (fresh_kernel facts c.args.params.frames) l t.book.size) (sym (new_lists_are t facts c.args.params.frames n))
+    (new_runs facts c.args.params.frames t.book.size c.requires.some c.requires.few (subst (λ (k : ℕ). k ≤ 16) (sym (length_map (λ (x : Named). x.facts) c.args.images.items)) c.requires.images) c.requires.sound)) in
+    record {
+      stands = new_stands t c.new-8.result.items n.holdings n.ring c.new-8.ensures.items (ap (λ (b : Book). b.size) c.in_ok-book.ensures) c.in_ok-processes.ensures runs;
+      none_lost = refl;
+    }
+
+pub returns : goal.returns
+returns c =
+    let facts : List Image = map (λ (x : Named). x.facts) c.args.images.items in
+    let t : Tables = record { params = c.args.params; images = c.args.images; core = c.in-Ok.core; ring = c.in_ok-ring.ring; spaces = c.new-5.result; texts = c.new-6.result; processes = c.in_ok-processes.processes; book = c.in_ok-book.book; fills = c.new-7.result; front = 1 + c.args.params.frames / 4; back = 1; next_pid = 1; next_sid = 1; found = 0 } in
+    let n : NewTables t facts c.args.params.frames = record {
+      slots = c.in-Ok.ensures.slots;
+      free = c.in-Ok.ensures.free;
+      ring = c.in_ok-ring.ensures;
+      spaces = c.new-5.ensures;
+      texts = c.new-6.ensures;
+      facts_are = refl;
+      fills = c.new-7.ensures.items;
+      holdings = ap (λ (b : Book). b.holdings) c.in_ok-book.ensures;
+      front = refl;
+      back = refl;
+      next_pid = refl;
+      next_sid = refl;
+    } in
+    new_standing t c.args.params (fresh_kernel facts c.args.params.frames) n.holdings _ (new_kernel_is t facts c.args.params.frames c.new-8.result.items n c.new-8.ensures.items)

@@ -1,0 +1,169 @@
+use Rattle.std.proofs.Common.{◌≡◌, ℕ, ◌<◌, Bool, true, IsTrue, List, map, Option, refl, sym, ap, ◌∙◌, subst, arith}
+use Rattle.vm_facts.specs.declared.entry.Entry.{Entry}
+use Rattle.vax_pte.specs.declared.Place.{Place}
+use Rattle.vax_pte.specs.declared.Place.TheVariants.{Frame}
+use Rattle.core_map.specs.Slots.{slot_at, page_of}
+use Rattle.kernel_model.specs.Kernel.{Kernel, reclaim_step}
+use Rattle.machine_state.specs.declared.tables.Tables.{Tables}
+use Rattle.machine_state.specs.Shown.{is_frame, frame_named}
+use Rattle.page_model.specs.Pages.{frame_of}
+use Rattle.page_model.specs.Placement.{IsThere}
+use Rattle.page_laws.proofs.Moves.Steps.{page_in}
+use Rattle.machine_state.specs.Steps.{dirty_shown}
+use Rattle.machine_state.specs.View.{placement_of}
+use Rattle.machine_state.specs.Known.{Known}
+use Rattle.machine_state.specs.Machine.{Standing, Runs, lists_of, kernel_by}
+use Rattle.machine_state.specs.Moves.{RevivedPage}
+use Rattle.machine_state.specs.Conditions.{CanReclaim, KeepsFlat, SameEverywhere}
+use Rattle.machine_state.proofs.Knows.{known_of, text_low}
+use Rattle.machine_state.proofs.Entries.{head_of, placed_heads}
+use Rattle.machine_state.proofs.Standings.{running, stands_now, whole_now, Still, stands_same, rest_of, pushed}
+use Rattle.machine_state.proofs.Revives.{below_held}
+use Rattle.machine_state.proofs.Evicts.{held_above}
+use Rattle.machine_state.proofs.Reclaims.{InvalidEntry, invalid_entry, Reclaiming, reclaim_kernel, reclaim_runs, reclaim_keeps, reclaim_alike}
+use Rattle.machine_state.proofs.machine.Machine.reclaim.Goals as goal
+
+pub frame_of-frame-requires : goal.frame_of-frame-requires
+frame_of-frame-requires c =
+    let t : Tables = c.self.inside.tables in
+    let r = running c.self.inside c.args.self.now c.self.invariant c.self.view_is c.requires.running c.requires.whole in
+    let k : Known (lists_of t) = known_of c.self.inside c.frames-frames.ensures.sound r in
+    let can : CanReclaim (placement_of (lists_of t)) c.args.page = subst (λ (s : Standing). CanReclaim s.kernel.place c.args.page) (sym c.self.view_is) c.requires.can in
+    let i : InvalidEntry (lists_of t) c.args.page can.frame = invalid_entry (lists_of t) c.args.page can.frame k can.shared can.invalid in
+    subst (λ (o : Option Place). IsTrue (is_frame o)) (sym i.entry) refl
+
+pub is_dirty-dirty-requires : goal.is_dirty-dirty-requires
+is_dirty-dirty-requires c i v e =
+    let t : Tables = c.self.inside.tables in
+    let r = running c.self.inside c.args.self.now c.self.invariant c.self.view_is c.requires.running c.requires.whole in
+    let k : Known (lists_of t) = known_of c.self.inside c.frames-frames.ensures.sound r in
+    let can : CanReclaim (placement_of (lists_of t)) c.args.page = subst (λ (s : Standing). CanReclaim s.kernel.place c.args.page) (sym c.self.view_is) c.requires.can in
+    text_low (lists_of t) i v k (subst (IsThere (placement_of (lists_of t))) e (page_in (placement_of (lists_of t)) c.args.page can.frame (ap frame_of can.invalid)))
+
+pub revive-requires-clause-holds : goal.revive-requires-clause-holds
+revive-requires-clause-holds c =
+    let t : Tables = c.self.inside.tables in
+    let r = running c.self.inside c.args.self.now c.self.invariant c.self.view_is c.requires.running c.requires.whole in
+    let k : Known (lists_of t) = known_of c.self.inside c.frames-frames.ensures.sound r in
+    let can : CanReclaim (placement_of (lists_of t)) c.args.page = subst (λ (s : Standing). CanReclaim s.kernel.place c.args.page) (sym c.self.view_is) c.requires.can in
+    let i : InvalidEntry (lists_of t) c.args.page can.frame = invalid_entry (lists_of t) c.args.page can.frame k can.shared can.invalid in
+    let frame : c.frame_of-frame.result.0 ≡ can.frame = c.frame_of-frame.ensures.frame ∙ ap frame_named i.entry in
+    ap (λ (f : ℕ). page_of (slot_at t.core.slots f)) frame ∙ i.held
+
+pub revive-requires-clause-above : goal.revive-requires-clause-above
+revive-requires-clause-above c =
+    let t : Tables = c.self.inside.tables in
+    let r = running c.self.inside c.args.self.now c.self.invariant c.self.view_is c.requires.running c.requires.whole in
+    let k : Known (lists_of t) = known_of c.self.inside c.frames-frames.ensures.sound r in
+    let can : CanReclaim (placement_of (lists_of t)) c.args.page = subst (λ (s : Standing). CanReclaim s.kernel.place c.args.page) (sym c.self.view_is) c.requires.can in
+    let i : InvalidEntry (lists_of t) c.args.page can.frame = invalid_entry (lists_of t) c.args.page can.frame k can.shared can.invalid in
+    let frame : c.frame_of-frame.result.0 ≡ can.frame = c.frame_of-frame.ensures.frame ∙ ap frame_named i.entry in
+    let a : 0 < can.frame = held_above (lists_of t) can.frame c.args.page k i.held in
+    omega (arith, frame)
+
+pub revive-requires-clause-small : goal.revive-requires-clause-small
+revive-requires-clause-small c =
+    let t : Tables = c.self.inside.tables in
+    let r = running c.self.inside c.args.self.now c.self.invariant c.self.view_is c.requires.running c.requires.whole in
+    let k : Known (lists_of t) = known_of c.self.inside c.frames-frames.ensures.sound r in
+    let can : CanReclaim (placement_of (lists_of t)) c.args.page = subst (λ (s : Standing). CanReclaim s.kernel.place c.args.page) (sym c.self.view_is) c.requires.can in
+    let i : InvalidEntry (lists_of t) c.args.page can.frame = invalid_entry (lists_of t) c.args.page can.frame k can.shared can.invalid in
+    let frame : c.frame_of-frame.result.0 ≡ can.frame = c.frame_of-frame.ensures.frame ∙ ap frame_named i.entry in
+    let a = below_held t.core.slots can.frame c.args.page i.held in
+    let b = k.tied.few_frames in
+    omega (arith, frame)
+
+pub invariant_of-self-2 : goal.invariant_of-self-2
+invariant_of-self-2 c _ =
+    let t : Tables = c.self.inside.tables in
+    let r = running c.self.inside c.args.self.now c.self.invariant c.self.view_is c.requires.running c.requires.whole in
+    let k : Known (lists_of t) = known_of c.self.inside c.frames-frames.ensures.sound r in
+    let can : CanReclaim (placement_of (lists_of t)) c.args.page = subst (λ (s : Standing). CanReclaim s.kernel.place c.args.page) (sym c.self.view_is) c.requires.can in
+    let i : InvalidEntry (lists_of t) c.args.page can.frame = invalid_entry (lists_of t) c.args.page can.frame k can.shared can.invalid in
+    let frame : c.frame_of-frame.result.0 ≡ can.frame = c.frame_of-frame.ensures.frame ∙ ap frame_named i.entry in
+    let v : RevivedPage t c.revive.new.self c.args.page can.frame (dirty_shown t.spaces t.texts c.args.page) =
+    subst (λ (b : Bool). RevivedPage t c.revive.new.self c.args.page can.frame b) c.is_dirty-dirty.ensures (subst (λ (f : ℕ). RevivedPage t c.revive.new.self c.args.page f c.is_dirty-dirty.result) frame c.revive.ensures) in
+    let g : Reclaiming t c.revive.new.self c.args.page can.frame = record { known = k; invalid = can.invalid; entry = i; revived_it = v } in
+    let now = stands_now c.self.inside c.args.self.now c.self.invariant c.self.view_is c.requires.running in
+    let whole = whole_now c.self.inside c.args.self.now c.self.view_is c.requires.whole in
+    let e = v.rest in
+    let s : Still t c.revive.new.self = record { params = ap (λ (x : Tables). x.params) e; images = ap (λ (x : Tables). x.images.items) e; book = ap (λ (x : Tables). x.book) e; found = ap (λ (x : Tables). x.found) e; processes = ap (λ (x : Tables). x.processes) e } in
+    record {
+      stands = stands_same c.self.inside c.revive.new.self c.push_reserved.new.self.items c.make_room.new.stopped now.stands whole s
+          (subst (λ (j : List Entry). Runs (kernel_by c.revive.new.self j c.make_room.new.stopped) (lists_of c.revive.new.self) c.revive.new.self.book.size) (sym c.push_reserved.ensures.items)
+          (reclaim_runs c.self.inside c.revive.new.self c.args.page can.frame c.make_room.new.journal.items c.make_room.new.stopped r can.shared g c.make_room.ensures.same c.in_ok-make_room.ensures.ok.0))
+          (ap (λ (x : Tables). x.ring) e) (ap (map head_of) v.spaces ∙ placed_heads t.spaces c.args.page (Frame can.frame true (dirty_shown t.spaces t.texts c.args.page))) (pushed c.self.inside.journal.items c.make_room.new.journal.items c.push_reserved.new.self.items _ c.self.inside.tables.params.journal c.make_room.ensures.same c.push_reserved.ensures.items c.in_ok-make_room.ensures.ok.1);
+      none_lost = now.none_lost;
+    }
+
+pub returns-clause-rest : goal.returns-clause-rest
+returns-clause-rest c =
+    let t : Tables = c.self.inside.tables in
+    let r = running c.self.inside c.args.self.now c.self.invariant c.self.view_is c.requires.running c.requires.whole in
+    let k : Known (lists_of t) = known_of c.self.inside c.frames-frames.ensures.sound r in
+    let can : CanReclaim (placement_of (lists_of t)) c.args.page = subst (λ (s : Standing). CanReclaim s.kernel.place c.args.page) (sym c.self.view_is) c.requires.can in
+    let i : InvalidEntry (lists_of t) c.args.page can.frame = invalid_entry (lists_of t) c.args.page can.frame k can.shared can.invalid in
+    let frame : c.frame_of-frame.result.0 ≡ can.frame = c.frame_of-frame.ensures.frame ∙ ap frame_named i.entry in
+    let v : RevivedPage t c.revive.new.self c.args.page can.frame (dirty_shown t.spaces t.texts c.args.page) =
+    subst (λ (b : Bool). RevivedPage t c.revive.new.self c.args.page can.frame b) c.is_dirty-dirty.ensures (subst (λ (f : ℕ). RevivedPage t c.revive.new.self c.args.page f c.is_dirty-dirty.result) frame c.revive.ensures) in
+    let g : Reclaiming t c.revive.new.self c.args.page can.frame = record { known = k; invalid = can.invalid; entry = i; revived_it = v } in
+    let e = v.rest in
+    let s : Still t c.revive.new.self = record { params = ap (λ (x : Tables). x.params) e; images = ap (λ (x : Tables). x.images.items) e; book = ap (λ (x : Tables). x.book) e; found = ap (λ (x : Tables). x.found) e; processes = ap (λ (x : Tables). x.processes) e } in
+    rest_of c.self.inside c.args.self.now c.revive.new.self _ _ _ c.self.view_is s c.make_room.ensures.room
+
+pub returns-clause-step : goal.returns-clause-step
+returns-clause-step c =
+    let t : Tables = c.self.inside.tables in
+    let r = running c.self.inside c.args.self.now c.self.invariant c.self.view_is c.requires.running c.requires.whole in
+    let k : Known (lists_of t) = known_of c.self.inside c.frames-frames.ensures.sound r in
+    let can : CanReclaim (placement_of (lists_of t)) c.args.page = subst (λ (s : Standing). CanReclaim s.kernel.place c.args.page) (sym c.self.view_is) c.requires.can in
+    let i : InvalidEntry (lists_of t) c.args.page can.frame = invalid_entry (lists_of t) c.args.page can.frame k can.shared can.invalid in
+    let frame : c.frame_of-frame.result.0 ≡ can.frame = c.frame_of-frame.ensures.frame ∙ ap frame_named i.entry in
+    let v : RevivedPage t c.revive.new.self c.args.page can.frame (dirty_shown t.spaces t.texts c.args.page) =
+    subst (λ (b : Bool). RevivedPage t c.revive.new.self c.args.page can.frame b) c.is_dirty-dirty.ensures (subst (λ (f : ℕ). RevivedPage t c.revive.new.self c.args.page f c.is_dirty-dirty.result) frame c.revive.ensures) in
+    let g : Reclaiming t c.revive.new.self c.args.page can.frame = record { known = k; invalid = can.invalid; entry = i; revived_it = v } in
+    let b : Kernel = kernel_by t c.self.inside.journal.items c.self.inside.stopped in
+    let is : kernel_by c.revive.new.self c.push_reserved.new.self.items c.make_room.new.stopped ≡ reclaim_step b c.args.page =
+    ap (λ (j : List Entry). kernel_by c.revive.new.self j c.make_room.new.stopped) c.push_reserved.ensures.items
+    ∙ reclaim_kernel t c.revive.new.self c.args.page can.frame c.make_room.new.journal.items c.make_room.new.stopped g
+    ∙ ap (λ (j : List Entry). reclaim_step (kernel_by t j c.make_room.new.stopped) c.args.page) c.make_room.ensures.same
+    ∙ ap (λ (s : Bool). reclaim_step (kernel_by t c.self.inside.journal.items s) c.args.page) c.in_ok-make_room.ensures.ok.0 in
+    is ∙ ap (λ (s : Standing). reclaim_step s.kernel c.args.page) c.self.view_is
+
+pub returns-clause-keeps : goal.returns-clause-keeps
+returns-clause-keeps c =
+    let t : Tables = c.self.inside.tables in
+    let r = running c.self.inside c.args.self.now c.self.invariant c.self.view_is c.requires.running c.requires.whole in
+    let k : Known (lists_of t) = known_of c.self.inside c.frames-frames.ensures.sound r in
+    let can : CanReclaim (placement_of (lists_of t)) c.args.page = subst (λ (s : Standing). CanReclaim s.kernel.place c.args.page) (sym c.self.view_is) c.requires.can in
+    let i : InvalidEntry (lists_of t) c.args.page can.frame = invalid_entry (lists_of t) c.args.page can.frame k can.shared can.invalid in
+    let frame : c.frame_of-frame.result.0 ≡ can.frame = c.frame_of-frame.ensures.frame ∙ ap frame_named i.entry in
+    let v : RevivedPage t c.revive.new.self c.args.page can.frame (dirty_shown t.spaces t.texts c.args.page) =
+    subst (λ (b : Bool). RevivedPage t c.revive.new.self c.args.page can.frame b) c.is_dirty-dirty.ensures (subst (λ (f : ℕ). RevivedPage t c.revive.new.self c.args.page f c.is_dirty-dirty.result) frame c.revive.ensures) in
+    let g : Reclaiming t c.revive.new.self c.args.page can.frame = record { known = k; invalid = can.invalid; entry = i; revived_it = v } in
+    let b : Kernel = kernel_by t c.self.inside.journal.items c.self.inside.stopped in
+    let is : kernel_by c.revive.new.self c.push_reserved.new.self.items c.make_room.new.stopped ≡ reclaim_step b c.args.page =
+    ap (λ (j : List Entry). kernel_by c.revive.new.self j c.make_room.new.stopped) c.push_reserved.ensures.items
+    ∙ reclaim_kernel t c.revive.new.self c.args.page can.frame c.make_room.new.journal.items c.make_room.new.stopped g
+    ∙ ap (λ (j : List Entry). reclaim_step (kernel_by t j c.make_room.new.stopped) c.args.page) c.make_room.ensures.same
+    ∙ ap (λ (s : Bool). reclaim_step (kernel_by t c.self.inside.journal.items s) c.args.page) c.in_ok-make_room.ensures.ok.0 in
+    subst (KeepsFlat c.args.self.now.kernel) (sym is) (subst (λ (s : Standing). KeepsFlat s.kernel (reclaim_step b c.args.page)) c.self.view_is (reclaim_keeps t.book.size b c.args.page r.sound))
+
+pub returns-clause-same : goal.returns-clause-same
+returns-clause-same c =
+    let t : Tables = c.self.inside.tables in
+    let r = running c.self.inside c.args.self.now c.self.invariant c.self.view_is c.requires.running c.requires.whole in
+    let k : Known (lists_of t) = known_of c.self.inside c.frames-frames.ensures.sound r in
+    let can : CanReclaim (placement_of (lists_of t)) c.args.page = subst (λ (s : Standing). CanReclaim s.kernel.place c.args.page) (sym c.self.view_is) c.requires.can in
+    let i : InvalidEntry (lists_of t) c.args.page can.frame = invalid_entry (lists_of t) c.args.page can.frame k can.shared can.invalid in
+    let frame : c.frame_of-frame.result.0 ≡ can.frame = c.frame_of-frame.ensures.frame ∙ ap frame_named i.entry in
+    let v : RevivedPage t c.revive.new.self c.args.page can.frame (dirty_shown t.spaces t.texts c.args.page) =
+    subst (λ (b : Bool). RevivedPage t c.revive.new.self c.args.page can.frame b) c.is_dirty-dirty.ensures (subst (λ (f : ℕ). RevivedPage t c.revive.new.self c.args.page f c.is_dirty-dirty.result) frame c.revive.ensures) in
+    let g : Reclaiming t c.revive.new.self c.args.page can.frame = record { known = k; invalid = can.invalid; entry = i; revived_it = v } in
+    let b : Kernel = kernel_by t c.self.inside.journal.items c.self.inside.stopped in
+    let is : kernel_by c.revive.new.self c.push_reserved.new.self.items c.make_room.new.stopped ≡ reclaim_step b c.args.page =
+    ap (λ (j : List Entry). kernel_by c.revive.new.self j c.make_room.new.stopped) c.push_reserved.ensures.items
+    ∙ reclaim_kernel t c.revive.new.self c.args.page can.frame c.make_room.new.journal.items c.make_room.new.stopped g
+    ∙ ap (λ (j : List Entry). reclaim_step (kernel_by t j c.make_room.new.stopped) c.args.page) c.make_room.ensures.same
+    ∙ ap (λ (s : Bool). reclaim_step (kernel_by t c.self.inside.journal.items s) c.args.page) c.in_ok-make_room.ensures.ok.0 in
+    subst (SameEverywhere c.args.self.now.kernel) (sym is) (subst (λ (s : Standing). SameEverywhere s.kernel (reclaim_step b c.args.page)) c.self.view_is (reclaim_alike b c.args.page))

@@ -1,0 +1,12 @@
+use Rattle.std.proofs.Common.{ℕ, subst}
+use Rattle.kernel_model.specs.Sound.{Sound}
+use Rattle.machine_state.specs.Machine.{Standing, kernel_by, before_of}
+use Rattle.machine_state.proofs.Standings.{stands_now}
+use Rattle.machine_state.proofs.machine.Machine.sound.Goals as goal
+
+pub returns-clause-sound : goal.returns-clause-sound
+returns-clause-sound c =
+    let m = c.self.inside in
+    let now = stands_now m c.args.self.now c.self.invariant c.self.view_is c.requires in
+    subst (λ (s : Standing). Sound s.params.swap_blocks (record s.kernel { holdings = s.before })) c.self.view_is
+    (subst (λ (n : ℕ). Sound n (record (kernel_by m.tables m.journal.items m.stopped) { holdings = before_of m.tables })) now.stands.book now.stands.runs.sound)

@@ -1,0 +1,85 @@
+use Rattle.std.proofs.Common.{◌≡◌, IsTrue, sym, ap, ◌∙◌, subst, arith, refl}
+use Rattle.vm_facts.specs.declared.page.PageState.TheVariants.{Valid}
+use Rattle.core_map.specs.declared.slot.Slot.{Slot as Token}
+use Rattle.core_map.specs.Slots.{is_resident}
+use Rattle.page_model.specs.Placement.{state_of}
+use Rattle.kernel_model.specs.Kernel.{write_step}
+use Rattle.machine_state.specs.declared.tables.Tables.{Tables}
+use Rattle.machine_state.specs.View.{placement_of}
+use Rattle.machine_state.specs.Known.{Known}
+use Rattle.machine_state.specs.Machine.{Standing, lists_of}
+use Rattle.machine_state.specs.UserMemory.{IsOwnPage, AreWhole}
+use Rattle.machine_state.proofs.Standings.{stands_now}
+use Rattle.machine_state.proofs.Touches.{InFrame, in_frame}
+use Rattle.machine_state.proofs.Writes.{Writing, write_stands, write_standing}
+use Rattle.machine_state.proofs.UserFrames.{known_by, own_home, held_whole}
+use Rattle.machine_state.proofs.machine.Machine.write_byte.Goals as goal
+
+pub write_byte-requires-clause-home : goal.write_byte-requires-clause-home
+write_byte-requires-clause-home c =
+    let t : Tables = c.self.inside.tables in
+    own_home (lists_of t) c.args.index c.args.page c.requires.writable (subst (λ (s : Standing). IsOwnPage s.kernel.place c.args.index c.args.page) (sym c.self.view_is) c.requires.own)
+
+pub write_byte-requires-clause-resident : goal.write_byte-requires-clause-resident
+write_byte-requires-clause-resident c =
+    let t : Tables = c.self.inside.tables in
+    let now = stands_now c.self.inside c.args.self.now c.self.invariant c.self.view_is c.requires.running in
+    let k : Known (lists_of t) = known_by t c.self.inside.journal.items c.self.inside.stopped c.frames-frames.ensures.sound now.stands in
+    let valid : state_of (placement_of (lists_of t)) c.args.page ≡ Valid c.args.frame = subst (λ (s : Standing). state_of s.kernel.place c.args.page ≡ Valid c.args.frame) (sym c.self.view_is) c.requires.valid in
+    let i : InFrame (lists_of t) c.args.page c.args.frame = in_frame (lists_of t) c.args.page c.args.frame k valid in
+    subst (λ (s : Token). IsTrue (is_resident s)) (sym i.resident) refl
+
+pub write_byte-requires-clause-below : goal.write_byte-requires-clause-below
+write_byte-requires-clause-below c =
+    let t : Tables = c.self.inside.tables in
+    let now = stands_now c.self.inside c.args.self.now c.self.invariant c.self.view_is c.requires.running in
+    let k : Known (lists_of t) = known_by t c.self.inside.journal.items c.self.inside.stopped c.frames-frames.ensures.sound now.stands in
+    let valid : state_of (placement_of (lists_of t)) c.args.page ≡ Valid c.args.frame = subst (λ (s : Standing). state_of s.kernel.place c.args.page ≡ Valid c.args.frame) (sym c.self.view_is) c.requires.valid in
+    let i : InFrame (lists_of t) c.args.page c.args.frame = in_frame (lists_of t) c.args.page c.args.frame k valid in
+    i.below
+
+pub write_byte-requires-clause-above : goal.write_byte-requires-clause-above
+write_byte-requires-clause-above c =
+    let t : Tables = c.self.inside.tables in
+    let now = stands_now c.self.inside c.args.self.now c.self.invariant c.self.view_is c.requires.running in
+    let k : Known (lists_of t) = known_by t c.self.inside.journal.items c.self.inside.stopped c.frames-frames.ensures.sound now.stands in
+    let valid : state_of (placement_of (lists_of t)) c.args.page ≡ Valid c.args.frame = subst (λ (s : Standing). state_of s.kernel.place c.args.page ≡ Valid c.args.frame) (sym c.self.view_is) c.requires.valid in
+    let i : InFrame (lists_of t) c.args.page c.args.frame = in_frame (lists_of t) c.args.page c.args.frame k valid in
+    i.above
+
+pub write_byte-requires-clause-small : goal.write_byte-requires-clause-small
+write_byte-requires-clause-small c =
+    let t : Tables = c.self.inside.tables in
+    let now = stands_now c.self.inside c.args.self.now c.self.invariant c.self.view_is c.requires.running in
+    let k : Known (lists_of t) = known_by t c.self.inside.journal.items c.self.inside.stopped c.frames-frames.ensures.sound now.stands in
+    let valid : state_of (placement_of (lists_of t)) c.args.page ≡ Valid c.args.frame = subst (λ (s : Standing). state_of s.kernel.place c.args.page ≡ Valid c.args.frame) (sym c.self.view_is) c.requires.valid in
+    let i : InFrame (lists_of t) c.args.page c.args.frame = in_frame (lists_of t) c.args.page c.args.frame k valid in
+    let a = i.below in
+    let b = k.tied.few_frames in
+    omega arith
+
+pub invariant_of-self : goal.invariant_of-self
+invariant_of-self c _ =
+    let t : Tables = c.self.inside.tables in
+    let now = stands_now c.self.inside c.args.self.now c.self.invariant c.self.view_is c.requires.running in
+    let k : Known (lists_of t) = known_by t c.self.inside.journal.items c.self.inside.stopped c.frames-frames.ensures.sound now.stands in
+    let valid : state_of (placement_of (lists_of t)) c.args.page ≡ Valid c.args.frame = subst (λ (s : Standing). state_of s.kernel.place c.args.page ≡ Valid c.args.frame) (sym c.self.view_is) c.requires.valid in
+    let w : Writing t c.write_byte.new.self c.args.page c.args.frame c.args.at c.args.byte = record { known = k; valid = valid; writable = c.requires.writable; wrote = c.write_byte.ensures } in
+    record { stands = write_stands t c.write_byte.new.self c.args.page c.args.frame c.args.at c.args.byte c.self.inside.journal.items c.self.inside.stopped now.stands w; none_lost = now.none_lost }
+
+pub returns-clause-step : goal.returns-clause-step
+returns-clause-step c =
+    let t : Tables = c.self.inside.tables in
+    let now = stands_now c.self.inside c.args.self.now c.self.invariant c.self.view_is c.requires.running in
+    let k : Known (lists_of t) = known_by t c.self.inside.journal.items c.self.inside.stopped c.frames-frames.ensures.sound now.stands in
+    let valid : state_of (placement_of (lists_of t)) c.args.page ≡ Valid c.args.frame = subst (λ (s : Standing). state_of s.kernel.place c.args.page ≡ Valid c.args.frame) (sym c.self.view_is) c.requires.valid in
+    let w : Writing t c.write_byte.new.self c.args.page c.args.frame c.args.at c.args.byte = record { known = k; valid = valid; writable = c.requires.writable; wrote = c.write_byte.ensures } in
+    write_standing c.self.inside c.write_byte.new.self c.args.page c.args.frame c.args.at c.args.byte w
+    ∙ ap (λ (s : Standing). record s { kernel = write_step s.kernel c.args.page c.args.frame c.args.at c.args.byte }) c.self.view_is
+
+pub returns-clause-whole : goal.returns-clause-whole
+returns-clause-whole c =
+    let t : Tables = c.self.inside.tables in
+    let now = stands_now c.self.inside c.args.self.now c.self.invariant c.self.view_is c.requires.running in
+    let k : Known (lists_of t) = known_by t c.self.inside.journal.items c.self.inside.stopped c.frames-frames.ensures.sound now.stands in
+    subst (λ (s : Standing). AreWhole s.kernel) c.self.view_is (held_whole (lists_of t) k)

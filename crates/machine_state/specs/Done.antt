@@ -1,0 +1,103 @@
+-- The end of a transfer, through its device.
+use Rattle.std.specs.Prelude.{◌≡◌, ◌⊎◌, ℕ, ◌<◌, Bool, List, [], ◌∷◌, length, Option, Some, None, Result, Ok, Err}
+use Rattle.flat_state.specs.Flat.{FlatState, NamedImage}
+use Rattle.vm_facts.specs.declared.stop.Stop.{Stop}
+use Rattle.vm_facts.specs.declared.stop.Stop.TheVariants as stops
+use Rattle.io_edge.specs.Count.{Rose}
+use Rattle.io_edge.specs.FileHolding.{NamedFile}
+use Rattle.page_model.specs.Placement.{Transfer, Part, Errand, Writes, Reads}
+use Rattle.page_model.specs.Ownership.{block_of}
+use Rattle.kernel_model.specs.Kernel.{Kernel, done_step, image_after, frame_bytes}
+use Rattle.kernel_model.specs.Sound.{TextFits}
+use Rattle.kernel_model.specs.Coupled.{Coupled}
+use Rattle.page_model.specs.Stored.{store_at}
+use Rattle.machine_state.specs.Machine.{Standing}
+use Rattle.machine_state.specs.Files.{AreImages}
+use Rattle.transfer_ring.specs.declared.transfer.Inbound.{Inbound}
+use Rattle.transfer_ring.specs.declared.transfer.Transfer.{Transfer as Flight}
+use Rattle.transfer_ring.specs.declared.transfer.Transfer.TheVariants as flights
+
+-- all tokens of a read have a page's bytes
+abbrev pub AreWholePages : List Inbound → Type 0
+AreWholePages [] = Unit {0}
+AreWholePages (x ∷ xs) = (length x.token.bytes ≡ 1024) × AreWholePages xs
+
+abbrev pub IsWholeFlight : Flight → Type 0
+IsWholeFlight (flights.Read demanded parts) = AreWholePages parts.items
+IsWholeFlight (flights.Write parts) = Unit {0}
+
+-- the oldest transfer is complete; of a read, with some bytes that were read
+pub record IsDone (old new : Kernel) : Type 0 where
+  pub some : 0 < length old.place.transfers
+  pub read : List (List ℕ)
+  pub step : new ≡ done_step old read
+
+-- the machine stands for the flat state, with a swap image that is told
+abbrev pub StandsTold : Kernel → List NamedImage → Option (List ℕ) → FlatState → Type 0
+StandsTold k images None flat = ⊥
+StandsTold k images (Some image) flat = Coupled k images image flat
+
+-- with the images that the files have, the machine still stands for the flat states that it stood for; a told image stays told
+abbrev pub KeepsThrough : Standing → Standing → Option (List NamedFile) → Option (List ℕ) → Option (List ℕ) → Type 0
+KeepsThrough old new holds before after =
+    (images : List NamedImage) (flat : FlatState) → AreImages old.images holds images → TextFits images old.kernel.place → StandsTold old.kernel images before flat → StandsTold new.kernel images after flat
+
+-- the swap image, where it is told, after the oldest transfer
+abbrev pub ImageAfter : Kernel → Option (List ℕ) → Option (List ℕ) → Type 0
+ImageAfter k None after = after ≡ None
+ImageAfter k (Some image) after = after ≡ Some (image_after k image)
+
+-- some pages of a write are in their blocks, and one page's blocks have any bytes
+abbrev pub SpoilsAll : Kernel → List ℕ → List Part → List ℕ → Type 0
+SpoilsAll k image [] after = ⊥
+SpoilsAll k image (x ∷ xs) after =
+    ((bytes : List ℕ) × (length bytes ≡ 1024) × (after ≡ store_at image (block_of k.holdings x.page) bytes))
+    ⊎ SpoilsAll k (store_at image (block_of k.holdings x.page) (frame_bytes k x.frame)) xs after
+
+abbrev pub SpoilsBy : Kernel → List ℕ → List Transfer → List ℕ → Type 0
+SpoilsBy k image [] after = ⊥
+SpoilsBy k image (t ∷ ts) after = (t.errand ≡ Writes) × SpoilsAll k image t.parts after
+
+abbrev pub SpoilsAfter : Kernel → Option (List ℕ) → Option (List ℕ) → Type 0
+SpoilsAfter k None after = after ≡ None
+SpoilsAfter k (Some image) after = (spoiled : List ℕ) × (after ≡ Some spoiled) × SpoilsBy k image k.place.transfers spoiled
+
+-- the counts of faults over a call: each rises with its own fault, and stays in every other case
+abbrev pub CountsPages : Result Bool Stop → ℕ → ℕ → Type 0
+CountsPages (Err stops.FileFault) old new = Rose old new
+CountsPages _ old new = new ≡ old
+
+abbrev pub CountsReads : Result Bool Stop → ℕ → ℕ → Type 0
+CountsReads (Err stops.SwapReadFault) old new = Rose old new
+CountsReads _ old new = new ≡ old
+
+abbrev pub CountsWrites : Result Bool Stop → ℕ → ℕ → Type 0
+CountsWrites (Err stops.SwapWriteFault) old new = Rose old new
+CountsWrites _ old new = new ≡ old
+
+-- what the oldest transfer is for
+abbrev pub IsReading : Errand → Type 0
+IsReading Writes = ⊥
+IsReading (Reads source demanded) = Unit {0}
+
+abbrev pub OldestReads : List Transfer → Type 0
+OldestReads [] = ⊥
+OldestReads (t ∷ ts) = IsReading t.errand
+
+abbrev pub OldestWrites : List Transfer → Type 0
+OldestWrites [] = ⊥
+OldestWrites (t ∷ ts) = t.errand ≡ Writes
+
+-- why a call stopped
+abbrev pub StopsFor : Result Bool Stop → List Transfer → Type 0
+StopsFor (Ok b) ts = Unit {0}
+StopsFor (Err stops.NoMemory) ts = 0 < length ts
+StopsFor (Err stops.JournalFull) ts = 0 < length ts
+StopsFor (Err stops.FileFault) ts = OldestReads ts
+StopsFor (Err stops.SwapReadFault) ts = OldestReads ts
+StopsFor (Err stops.SwapWriteFault) ts = OldestWrites ts
+
+-- the swap image behind a call that stopped: only a write that failed changes it
+abbrev pub SwapAfter : Result Bool Stop → Kernel → Option (List ℕ) → Option (List ℕ) → Type 0
+SwapAfter (Err stops.SwapWriteFault) k before after = SpoilsAfter k before after
+SwapAfter _ k before after = after ≡ before

@@ -1,0 +1,15 @@
+-- The last entry of the journal, where a further unit of its kind joins it.
+use Rattle.std.specs.Prelude.{ℕ, List, [], ◌∷◌, Option, Some, None}
+use Rattle.vm_facts.specs.declared.entry.Entry.{Entry}
+use Rattle.vm_facts.specs.declared.entry.Entry.TheVariants as entries
+
+-- how many moves of the hands an entry counts, where it counts such
+abbrev pub moves_in : Entry → Option ℕ
+moves_in (entries.Hands count) = Some count
+moves_in _ = None
+
+-- what the last entry says
+abbrev pub last_says : (Entry → Option ℕ) → List Entry → Option ℕ
+last_says says [] = None
+last_says says (e ∷ []) = says e
+last_says says (e ∷ f ∷ journal) = last_says says (f ∷ journal)

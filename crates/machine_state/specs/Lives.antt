@@ -1,0 +1,16 @@
+-- What the records of the processes hold.
+use Rattle.std.specs.Prelude.{ℕ, Option, Some, None}
+use Rattle.proc_table.specs.declared.process.Proc.{Proc as Record}
+use Rattle.proc_table.specs.declared.process.Life.{Life as RecordLife}
+use Rattle.proc_table.specs.declared.process.Life.TheVariants as lives
+
+-- the space in which a process runs, by its life
+abbrev pub space_by : RecordLife → Option ℕ
+space_by lives.New = None
+space_by (lives.Holds sid) = Some sid
+space_by (lives.Lends sid child) = None
+space_by (lives.Zombie status) = None
+
+abbrev pub space_held : Option Record → Option ℕ
+space_held None = None
+space_held (Some p) = space_by p.state

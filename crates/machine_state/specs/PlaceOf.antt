@@ -1,0 +1,17 @@
+-- Where each page is, by the tables.
+use Rattle.std.specs.Prelude.{nat_lt, Bool, true, false, Option, Some, None}
+use Rattle.vm_facts.specs.declared.page.Page.{Page}
+use Rattle.vm_facts.specs.declared.page.Page.TheVariants.{Data, Stack, Text}
+use Rattle.vax_pte.specs.declared.Place.{Place}
+use Rattle.machine_state.specs.Shown.{entry_in}
+use Rattle.machine_state.specs.View.{Lists, pages_in, text_place}
+
+-- a page of an image's text is there, whether or not a space shares it
+abbrev pub text_if : Bool → Place → Option Place
+text_if true place = Some place
+text_if false place = None
+
+abbrev pub place_of : Lists → Page → Option Place
+place_of t (Data sid v) = entry_in t.spaces (Data sid v)
+place_of t (Stack sid v) = entry_in t.spaces (Stack sid v)
+place_of t (Text image v) = text_if (nat_lt v (pages_in 1 image t.facts)) (text_place t.spaces t.slots (Text image v) v)

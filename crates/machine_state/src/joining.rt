@@ -1,0 +1,63 @@
+//! Units of one kind, one after another, which the journal counts in one entry.
+ghost use Rattle.std.specs.Prelude.{◌≡◌, ◌⊎◌, ℕ, ◌+◌, ◌<◌, ◌≤◌, ◌↔◌, ◌^◌, true, length, Some, None, OnOk, OnErr, Err};
+ghost use Rattle.std.specs.Vec.{vec_capacity, vec_len};
+ghost use Rattle.vm_facts.specs.declared.entry.Entry.TheVariants.{Hands};
+ghost use Rattle.flat_state.specs.Journal.{append};
+ghost use Rattle.machine_state.specs.Joined.{moves_in, last_says};
+
+use crate::notes;
+use vm_facts::{Entry, Stop};
+
+// The moves of the hands that an entry counts, where it counts such.
+fn moves_in(e: &Entry) -> Option<u32>
+    ensures { result ≡ moves_in e.now }
+{
+    match e {
+        Entry::Hands { count } => Some(*count),
+        _ => None,
+    }
+}
+
+// The moves of the hands that the last entry counts, where it counts such.
+fn last_moves(journal: &[Entry]) -> Option<u32>
+    ensures { result ≡ last_says moves_in journal.now }
+{
+    moves_in(journal.last()?)
+}
+
+/// Room for one more move of the hands, which a last entry that counts moves has.
+pub(crate) fn make_room_to_move(
+    journal: &mut Vec<Entry>,
+    stopped: &mut bool,
+    room: &mut Option<u32>,
+    limit: u32,
+) -> Result<(), Stop>
+    ensures same { journal.new.items ≡ journal.old.items }
+    ensures ok { OnOk result (stopped.new ≡ stopped.old) }
+    ensures has_room { OnOk result (last_says moves_in journal.old.items ≡ None → (length journal.old.items < limit) × (vec_len journal.new < vec_capacity journal.new)) }
+    ensures room { room.new ≡ None }
+    ensures err { OnErr result (stopped.new ≡ true) }
+    ensures full { (result ≡ Err Stop.JournalFull) ↔ ((limit ≤ length journal.old.items) × (length journal.old.items < length (append journal.old.items (Hands 1)))) }
+    ensures cause { OnErr result ((result ≡ Err Stop.JournalFull) ⊎ (result ≡ Err Stop.NoMemory)) }
+{
+    if last_moves(journal.as_slice()).is_some() {
+        *room = None;
+        return Ok(());
+    }
+    notes::make_room(journal, stopped, room, limit)
+}
+
+/// Counts one more move of the hands, for which there is room.
+pub(crate) fn add_move(journal: &mut Vec<Entry>)
+    requires fits { (count : ℕ) → last_says moves_in journal.old.items ≡ Some count → count + 1 < 2 ^ 32 }
+    requires room { last_says moves_in journal.old.items ≡ None → vec_len journal.old < vec_capacity journal.old }
+    ensures { journal.new.items ≡ append journal.old.items (Hands 1) }
+{
+    match last_moves(journal.as_slice()) {
+        Some(count) => {
+            let last = journal.len() - 1;
+            journal[last] = Entry::Hands { count: count + 1 };
+        }
+        None => journal.push_reserved(Entry::Hands { count: 1 }),
+    }
+}

@@ -1,0 +1,17 @@
+ghost use Rattle.std.specs.Prelude.{◌≡◌, ℕ, List, Some};
+ghost use Rattle.user_vax.specs.Laws.{Covers};
+ghost use Rattle.flat_state.specs.Space.{Space, answers_of};
+ghost use Rattle.flat_state.specs.Flat.{FlatState, NamedImage, image_numbered, spaces_of};
+ghost use Rattle.page_model.specs.Pages.{numbered};
+ghost use Rattle.kernel_model.specs.Kernel.{Kernel};
+ghost use Rattle.kernel_model.specs.Sound.{TextFits};
+ghost use Rattle.kernel_model.specs.Coupled.{Coupled, text_of};
+ghost use Rattle.machine_state.specs.UserMemory.{kernel_answers};
+
+/// Where a machine stands for a flat state, the memory of each of its spaces answers what the flat space does, at every
+/// address where it doesn't miss; so do its tests of writes.
+pub fn memory_is_flat()
+    ensures { (images : List NamedImage) (k : Kernel) (image : List ℕ) (flat : FlatState) (x : Space) → Coupled k images image flat → TextFits images k.place
+        → numbered (λ s. s.sid) x.sid (spaces_of flat) ≡ Some x → x.text_bytes ≡ text_of (image_numbered images x.image)
+        → Covers (kernel_answers k x.sid) (answers_of x) }
+{}

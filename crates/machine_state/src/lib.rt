@@ -1,0 +1,29 @@
+//! The machine: all tables of the kernel and the journal, and one call for each step that an entry stands for.
+#![tactic(auto)]
+
+mod answers;
+mod changing;
+mod ending;
+mod fill;
+mod joining;
+mod landing;
+mod launching;
+mod laws;
+mod machine;
+mod named;
+mod notes;
+mod paging;
+mod places;
+mod processes;
+mod reading;
+mod spaces;
+mod tables;
+mod user_memory;
+
+pub use laws::memory_is_flat;
+pub use machine::Machine;
+pub use named::Named;
+pub use user_memory::SpaceMemory;
+
+#[cfg(test)]
+mod tests;

@@ -1,0 +1,304 @@
+//! The machine and its steps.
+ghost use Rattle.std.specs.Prelude.{◌≡◌, ◌⊎◌, ◌<◌, ◌≤◌, ◌↔◌, true, false, [], length, map, None, IfOk, OnOk, OnErr, Ok, Err};
+ghost use Rattle.machine_state.specs.New.{fresh_kernel, AreSound};
+ghost use Rattle.kernel_model.specs.Kernel.{zero_step, get_step, reclaim_step};
+ghost use Rattle.page_model.specs.Dues.{DueStand};
+ghost use Rattle.flat_state.specs.PageNames.{pages_from};
+ghost use Rattle.kernel_model.specs.Numbers.{Numbered};
+ghost use Rattle.kernel_model.specs.Sound.{Sound};
+ghost use Rattle.machine_state.specs.Machine.{image_shown};
+ghost use Rattle.page_model.specs.Swapper.{is_settled};
+ghost use Rattle.machine_state.specs.Settled.{SettledBy, IsSameBeside};
+ghost use Rattle.machine_state.specs.Files.{AreFiles};
+ghost use Rattle.machine_state.specs.Done.{IsDone, KeepsThrough, ImageAfter, SwapAfter, StopsFor, CountsPages, CountsReads, CountsWrites};
+ghost use Rattle.machine_state.specs.Conditions.{CanZero, CanBringIn, CanReclaim, HasStopped, KeepsFlat, SameElsewhere, SameEverywhere, SameOutside};
+
+use crate::named::Named;
+use crate::spaces::Spaces;
+use crate::tables::Tables;
+use crate::{fill, landing, notes, reading};
+use core_map::CoreMap;
+use io_edge::{Files, SwapDev};
+use proc_table::ProcTable;
+use std::alloc::Global;
+use std::collections::VecDeque;
+use std::marker::Model;
+use swap_book::SwapBook;
+use text_table::TextTable;
+use transfer_ring::{Finished, Transfer, TransferRing};
+use vm_facts::{Entry, NoMemory, Page, Params, Stop};
+
+/// The machine: all tables and the journal. Contracts see it as lists, the kernel of `page_model`, and its sizes.
+///
+/// Tokens can't be dropped, so a machine must be ended.
+pub struct Machine {
+    pub(crate) tables: Tables,
+    pub(crate) journal: Vec<Entry>,
+    pub(crate) stopped: bool,
+
+    // The process for which the journal has room for one more instruction.
+    pub(crate) room: Option<u32>,
+
+    // A transfer that failed.
+    pub(crate) lost: Option<Transfer>,
+    pub(crate) alloc: Global,
+}
+
+impl Model for Machine {
+    ghost use Rattle.machine_state.specs.Machine.{Standing};
+
+    ghost Value = { Standing };
+
+    ghost use Rattle.machine_state.specs.Fields.{standing_of, RunsInside};
+
+    ghost view = { standing_of };
+
+    ghost invariant = { RunsInside };
+}
+
+impl Machine {
+    /// A machine of these images, with no process yet.
+    pub fn new(alloc: Global, params: Params, images: Vec<Named>) -> Result<Machine, NoMemory>
+        requires some { 0 < params.frames }
+        requires few { params.frames ≤ 4096 }
+        requires images { length images.items ≤ 16 }
+        requires sound { AreSound (map (λ image. image.facts) images.items) }
+        ensures { IfOk result (λ m. m ≡ record { kernel = fresh_kernel (map (λ image. image.facts) images.items) params.frames; params = params; images = map image_shown images.items; before = []; room = None }) }
+    {
+        let processes = ProcTable::new(alloc)?;
+        let book = SwapBook::new(alloc, params.swap_blocks)?;
+        let ring = TransferRing::new(alloc)?;
+        let Ok(core) = CoreMap::new(alloc, params.frames) else {
+            ring.close();
+            return Err(NoMemory);
+        };
+        let tables = Tables {
+            params,
+            images,
+            core,
+            ring,
+            spaces: Spaces::new(alloc),
+            texts: TextTable::new(),
+            processes,
+            book,
+            fills: VecDeque::new(alloc),
+            front: 1 + params.frames / 4,
+            back: 1,
+            next_pid: 1,
+            next_sid: 1,
+            found: 0,
+        };
+        Ok(Machine {
+            tables,
+            journal: Vec::new(alloc),
+            stopped: false,
+            room: None,
+            lost: None,
+            alloc,
+        })
+    }
+
+    /// What is so of each machine that runs, with the holdings before the pieces that were found last.
+    pub fn sound(&self)
+        requires { self.now.kernel.stopped ≡ false }
+        ensures sound { Sound self.now.params.swap_blocks (record self.now.kernel { holdings = self.now.before }) }
+        ensures numbered { Numbered self.now.kernel }
+        ensures due { DueStand self.now.kernel.place }
+    {
+        let _ = &self.stopped;
+    }
+
+    /// The entries so far.
+    pub fn journal(&self) -> &[Entry]
+        ensures { result.now ≡ self.now.kernel.journal }
+    {
+        self.journal.as_slice()
+    }
+
+    /// How many frames are free.
+    pub fn free_frames(&self) -> u32
+        ensures { result ≡ length self.now.kernel.place.free }
+    {
+        self.tables.core.free_frames()
+    }
+
+    /// The step of `Zero`: a page of zeros, or a new stack page that is due, takes a free frame.
+    pub fn fill_zero(&mut self, page: Page) -> Result<(), Stop>
+        requires running { self.old.kernel.stopped ≡ false }
+        requires whole { self.old.before ≡ self.old.kernel.holdings }
+        requires can { CanZero self.old.kernel.place page }
+        ensures step { OnOk result (self.new.kernel ≡ zero_step self.old.kernel page) }
+        ensures rest { OnOk result (self.new ≡ record self.old { kernel = self.new.kernel; room = None }) }
+        ensures keeps { OnOk result (KeepsFlat self.old.kernel self.new.kernel) }
+        ensures same { OnOk result (SameElsewhere self.old.kernel self.new.kernel page) }
+        ensures stop { OnErr result (HasStopped self.old self.new) }
+        ensures cause { OnErr result ((result ≡ Err Stop.JournalFull) ⊎ (result ≡ Err Stop.NoMemory)) }
+        ensures full { (result ≡ Err Stop.JournalFull) ↔ (self.old.params.journal ≤ length self.old.kernel.journal) }
+    {
+        notes::make_room(
+            &mut self.journal,
+            &mut self.stopped,
+            &mut self.room,
+            self.tables.params.journal,
+        )?;
+        let _frames = self.tables.core.frames();
+        let token = self.tables.take_frame();
+        let filled = fill::fill_frame(token, &self.tables.fills);
+        self.tables.seat(filled, page, true);
+        self.tables.finish_fill();
+        self.journal.push_reserved(Entry::Zero { page });
+        Ok(())
+    }
+
+    /// The step of `Reclaim`: a page that a frame still holds is usable again.
+    pub fn reclaim(&mut self, page: Page) -> Result<(), Stop>
+        requires running { self.old.kernel.stopped ≡ false }
+        requires whole { self.old.before ≡ self.old.kernel.holdings }
+        requires can { CanReclaim self.old.kernel.place page }
+        ensures step { OnOk result (self.new.kernel ≡ reclaim_step self.old.kernel page) }
+        ensures rest { OnOk result (self.new ≡ record self.old { kernel = self.new.kernel; room = None }) }
+        ensures keeps { OnOk result (KeepsFlat self.old.kernel self.new.kernel) }
+        ensures same { OnOk result (SameEverywhere self.old.kernel self.new.kernel) }
+        ensures stop { OnErr result (HasStopped self.old self.new) }
+        ensures cause { OnErr result ((result ≡ Err Stop.JournalFull) ⊎ (result ≡ Err Stop.NoMemory)) }
+        ensures full { (result ≡ Err Stop.JournalFull) ↔ (self.old.params.journal ≤ length self.old.kernel.journal) }
+    {
+        notes::make_room(
+            &mut self.journal,
+            &mut self.stopped,
+            &mut self.room,
+            self.tables.params.journal,
+        )?;
+        let _frames = self.tables.core.frames();
+        let (frame, _changed) = self.tables.spaces.frame_of(page);
+        let dirty = landing::is_dirty(&self.tables.spaces, &self.tables.texts, page);
+        self.tables.revive(page, frame, dirty);
+        self.journal.push_reserved(Entry::Reclaim { page });
+        Ok(())
+    }
+
+    /// The step of `Get`: pages that are all on swap, or all in their image's file, take a free frame each, and their read
+    /// begins.
+    pub fn begin_get(&mut self, page: Page, lo: u32, n: u32) -> Result<(), Stop>
+        requires running { self.old.kernel.stopped ≡ false }
+        requires whole { self.old.before ≡ self.old.kernel.holdings }
+        requires can { CanBringIn self.old.kernel.place page lo n }
+        ensures step { OnOk result (self.new.kernel ≡ get_step self.old.kernel page lo n) }
+        ensures rest { OnOk result (self.new ≡ record self.old { kernel = self.new.kernel; room = None }) }
+        ensures keeps { OnOk result (KeepsFlat self.old.kernel self.new.kernel) }
+        ensures same { OnOk result (SameOutside self.old.kernel self.new.kernel (pages_from page lo n)) }
+        ensures stop { OnErr result (HasStopped self.old self.new) }
+        ensures cause { OnErr result ((result ≡ Err Stop.JournalFull) ⊎ (result ≡ Err Stop.NoMemory)) }
+        ensures full { (result ≡ Err Stop.JournalFull) ↔ (self.old.params.journal ≤ length self.old.kernel.journal) }
+    {
+        notes::make_room(
+            &mut self.journal,
+            &mut self.stopped,
+            &mut self.room,
+            self.tables.params.journal,
+        )?;
+        let parts = notes::or_stop(&mut self.stopped, reading::room_in(self.alloc, n))?;
+        let _frames = self.tables.core.frames();
+        self.tables.read_run(parts, page, lo, n);
+        self.journal.push_reserved(Entry::Get { page, lo, n });
+        Ok(())
+    }
+
+    /// The step of `Done`: the oldest transfer completes, through its device. False comes exactly where none is in flight.
+    ///
+    /// A transfer that fails is kept until the machine ends.
+    pub fn done<F: Files, D: SwapDev>(&mut self, files: &mut F, swap: &mut D) -> Result<bool, Stop>
+        requires running { self.old.kernel.stopped ≡ false }
+        requires whole { self.old.before ≡ self.old.kernel.holdings }
+        requires area { self.old.params.swap_blocks ≤ D.blocks swap.old }
+        requires files { AreFiles self.old.images (F.holds files.old) }
+        ensures idle { (result ≡ Ok false) ↔ (self.old.kernel.place.transfers ≡ []) }
+        ensures still { result ≡ Ok false → self.new ≡ self.old }
+        ensures step { result ≡ Ok true → IsDone self.old.kernel self.new.kernel }
+        ensures rest { result ≡ Ok true → self.new ≡ record self.old { kernel = self.new.kernel; room = None } }
+        ensures keeps { OnOk result (KeepsThrough self.old self.new (F.holds files.old) (D.image swap.old) (D.image swap.new)) }
+        ensures swapped { OnOk result (ImageAfter self.old.kernel (D.image swap.old) (D.image swap.new)) }
+        ensures spoiled { OnErr result (SwapAfter result self.old.kernel (D.image swap.old) (D.image swap.new)) }
+        ensures stop { OnErr result (HasStopped self.old self.new) }
+        ensures cause { StopsFor result self.old.kernel.place.transfers }
+        ensures full { (result ≡ Err Stop.JournalFull) ↔ ((0 < length self.old.kernel.place.transfers) × (self.old.params.journal ≤ length self.old.kernel.journal)) }
+        ensures files_lead { F.leads files.old files.new }
+        ensures swap_leads { D.leads swap.old swap.new }
+        ensures holds { F.holds files.new ≡ F.holds files.old }
+        ensures blocks { D.blocks swap.new ≡ D.blocks swap.old }
+        ensures open_faults { F.open_faults files.new ≡ F.open_faults files.old }
+        ensures page_faults { CountsPages result (F.page_faults files.old) (F.page_faults files.new) }
+        ensures read_faults { CountsReads result (D.read_faults swap.old) (D.read_faults swap.new) }
+        ensures write_faults { CountsWrites result (D.write_faults swap.old) (D.write_faults swap.new) }
+    {
+        if self.tables.ring.len() == 0 {
+            return Ok(false);
+        }
+        notes::make_room(
+            &mut self.journal,
+            &mut self.stopped,
+            &mut self.room,
+            self.tables.params.journal,
+        )?;
+        let _frames = self.tables.core.frames();
+        match self.tables.ring.complete_oldest(files, swap) {
+            Finished::Done(transfer) => {
+                landing::look(&transfer);
+                self.tables.land(transfer);
+                self.journal.push_reserved(Entry::Done);
+                Ok(true)
+            }
+            Finished::FileFault(transfer) => {
+                notes::lose(&mut self.lost, &mut self.stopped, transfer);
+                Err(Stop::FileFault)
+            }
+            Finished::SwapReadFault(transfer) => {
+                notes::lose(&mut self.lost, &mut self.stopped, transfer);
+                Err(Stop::SwapReadFault)
+            }
+            Finished::SwapWriteFault(transfer) => {
+                notes::lose(&mut self.lost, &mut self.stopped, transfer);
+                Err(Stop::SwapWriteFault)
+            }
+            Finished::Idle => unreachable!(),
+        }
+    }
+
+    /// Whether no transfer in flight names a page of this space, nor of its text where no other space shares that.
+    pub fn settled(&self, sid: u32) -> bool
+        requires { self.now.kernel.stopped ≡ false }
+        ensures { result ≡ is_settled self.now.kernel.place sid }
+    {
+        self.tables.is_settled(sid)
+    }
+
+    /// Transfers end, one after another, until the space is settled.
+    pub fn settle<F: Files, D: SwapDev>(
+        &mut self,
+        files: &mut F,
+        swap: &mut D,
+        sid: u32,
+    ) -> Result<(), Stop>
+        requires running { self.old.kernel.stopped ≡ false }
+        requires whole { self.old.before ≡ self.old.kernel.holdings }
+        requires area { self.old.params.swap_blocks ≤ D.blocks swap.old }
+        requires files { AreFiles self.old.images (F.holds files.old) }
+        ensures settled { OnOk result (SettledBy sid self.old.kernel self.new.kernel) }
+        ensures rest { OnOk result (IsSameBeside self.old self.new) }
+        ensures keeps { OnOk result (KeepsThrough self.old self.new (F.holds files.old) (D.image swap.old) (D.image swap.new)) }
+        ensures stop { OnErr result (self.new.kernel.stopped ≡ true) }
+        ensures files_lead { F.leads files.old files.new }
+        ensures swap_leads { D.leads swap.old swap.new }
+        ensures holds { F.holds files.new ≡ F.holds files.old }
+        ensures blocks { D.blocks swap.new ≡ D.blocks swap.old }
+    {
+        if self.settled(sid) {
+            return Ok(());
+        }
+        if self.done(files, swap)? {
+            self.settle(files, swap, sid)
+        } else {
+            Ok(())
+        }
+    }
+}

@@ -1,0 +1,132 @@
+//! Copies of pages, writes that begin, and moves of the hands.
+ghost use Rattle.std.specs.Prelude.{◌≡◌, ◌⊎◌, ◌<◌, ◌≤◌, ◌↔◌, ◌+◌, ◌^◌, ◌∷◌, ◌++◌, [], ℕ, List, false, length, None, OnOk, OnErr, Err, IsTrue, cond};
+ghost use Rattle.vm_facts.specs.declared.entry.Entry.{Entry as Line};
+ghost use Rattle.vm_facts.specs.declared.page.Page.TheVariants.{Text as TextPage};
+ghost use Rattle.vm_facts.specs.declared.entry.Entry.TheVariants.{Hands};
+ghost use Rattle.flat_state.specs.Journal.{append};
+ghost use Rattle.kernel_model.specs.Kernel.{copy_step, push_step, hand_step};
+ghost use Rattle.core_map.specs.Slots.{slot_at, is_resident};
+ghost use Rattle.machine_state.specs.Calls.{CanCopy, CanPush, CanMove};
+ghost use Rattle.machine_state.specs.Conditions.{HasStopped, KeepsFlat, SameElsewhere, SameEverywhere};
+ghost use Rattle.machine_state.specs.Launches.{CopiedFrame};
+ghost use Rattle.machine_state.specs.Shown.{entry_in, is_frame, frame_named};
+ghost use Rattle.machine_state.specs.Steps.{AreTextsHere, dirty_shown};
+
+use crate::machine::Machine;
+use crate::tables::{Tables, number_of};
+use crate::{joining, landing, launching, notes};
+use frame_state::Resident;
+use vm_facts::{Entry, Page, Stop};
+
+impl Tables {
+    // The first free frame gets the bytes of a page that is in a frame off the free list.
+    fn copy_frame(&mut self, page: Page) -> Resident
+        requires frame { IsTrue (is_frame (entry_in self.old.spaces page)) }
+        requires resident { IsTrue (is_resident (slot_at self.old.core.slots (frame_named (entry_in self.old.spaces page)))) }
+        requires free { 0 < length self.old.core.free }
+        requires texts { AreTextsHere self.old.core.slots }
+        ensures { CopiedFrame self.old self.new (frame_named (entry_in self.old.spaces page)) result }
+    {
+        let (frame, _changed) = self.spaces.frame_of(page);
+        let mut copy = self.take_frame().reclaim();
+        copy.bytes_mut().copy_from_slice(self.core.bytes(frame));
+        copy
+    }
+
+    // How many pages are written for a page that is put out: so many where it is dirty, and else none.
+    fn written_of(&self, page: Page, n: u32) -> u32
+        requires { (image v : ℕ) → page ≡ TextPage image v → (1 ≤ image) × (image ≤ 16) × (v < 2048) }
+        ensures { result ≡ cond (dirty_shown self.now.spaces self.now.texts page) n 0 }
+    {
+        if landing::is_dirty(&self.spaces, &self.texts, page) {
+            n
+        } else {
+            0
+        }
+    }
+}
+
+impl Machine {
+    /// The step of `Copy`: the child's page that is due first is filled from its parent's valid page, and is dirty.
+    pub fn copy(&mut self, child: Page, parent: Page) -> Result<(), Stop>
+        requires running { self.old.kernel.stopped ≡ false }
+        requires whole { self.old.before ≡ self.old.kernel.holdings }
+        requires can { CanCopy self.old.kernel.place child parent }
+        ensures step { OnOk result (self.new.kernel ≡ copy_step self.old.kernel child) }
+        ensures rest { OnOk result (self.new ≡ record self.old { kernel = self.new.kernel; room = None }) }
+        ensures keeps { OnOk result (KeepsFlat self.old.kernel self.new.kernel) }
+        ensures same { OnOk result (SameElsewhere self.old.kernel self.new.kernel child) }
+        ensures stop { OnErr result (HasStopped self.old self.new) }
+        ensures cause { OnErr result ((result ≡ Err Stop.JournalFull) ⊎ (result ≡ Err Stop.NoMemory)) }
+        ensures full { (result ≡ Err Stop.JournalFull) ↔ (self.old.params.journal ≤ length self.old.kernel.journal) }
+    {
+        notes::make_room(
+            &mut self.journal,
+            &mut self.stopped,
+            &mut self.room,
+            self.tables.params.journal,
+        )?;
+        let _frames = self.tables.core.frames();
+        let copy = self.tables.copy_frame(parent);
+        self.tables.seat(copy, child, true);
+        self.tables.finish_fill();
+        self.journal.push_reserved(Entry::Copy { page: child });
+        Ok(())
+    }
+
+    /// The step of `Put`: a write of `n` dirty pages begins, or the frame of one clean page goes to the tail of the
+    /// free list.
+    pub fn push(&mut self, lo: Page, n: u32) -> Result<(), Stop>
+        requires running { self.old.kernel.stopped ≡ false }
+        requires whole { self.old.before ≡ self.old.kernel.holdings }
+        requires can { CanPush self.old.kernel.place lo n }
+        ensures step { OnOk result (self.new.kernel ≡ push_step self.old.kernel lo n) }
+        ensures rest { OnOk result (self.new ≡ record self.old { kernel = self.new.kernel; room = None }) }
+        ensures keeps { OnOk result (KeepsFlat self.old.kernel self.new.kernel) }
+        ensures same { OnOk result (SameEverywhere self.old.kernel self.new.kernel) }
+        ensures stop { OnErr result (HasStopped self.old self.new) }
+        ensures cause { OnErr result ((result ≡ Err Stop.JournalFull) ⊎ (result ≡ Err Stop.NoMemory)) }
+        ensures full { (result ≡ Err Stop.JournalFull) ↔ (self.old.params.journal ≤ length self.old.kernel.journal) }
+    {
+        notes::make_room(
+            &mut self.journal,
+            &mut self.stopped,
+            &mut self.room,
+            self.tables.params.journal,
+        )?;
+        let parts = notes::or_stop(&mut self.stopped, launching::room_in(self.alloc, n))?;
+        let _frames = self.tables.core.frames();
+        let written = self.tables.written_of(lo, n);
+        self.tables.put_out(parts, lo, number_of(lo), written);
+        self.journal.push_reserved(Entry::Put { lo, n });
+        Ok(())
+    }
+
+    /// One move of the hands, which pass over the locked pages, and one count of `Hands`. `lo` and `n` are the run of
+    /// the write that the move begins; `n` is 0 where it begins none.
+    pub fn hand(&mut self, locked: &[Page], lo: u32, n: u32) -> Result<(), Stop>
+        requires running { self.old.kernel.stopped ≡ false }
+        requires whole { self.old.before ≡ self.old.kernel.holdings }
+        requires can { CanMove self.old.kernel.place locked.now lo n }
+        requires fits { (count : ℕ) (before : List Line) → self.old.kernel.journal ≡ before ++ Hands count ∷ [] → count + 1 < 2 ^ 32 }
+        ensures step { OnOk result (self.new.kernel ≡ hand_step self.old.kernel locked.now) }
+        ensures rest { OnOk result (self.new ≡ record self.old { kernel = self.new.kernel; room = None }) }
+        ensures keeps { OnOk result (KeepsFlat self.old.kernel self.new.kernel) }
+        ensures same { OnOk result (SameEverywhere self.old.kernel self.new.kernel) }
+        ensures stop { OnErr result (HasStopped self.old self.new) }
+        ensures cause { OnErr result ((result ≡ Err Stop.JournalFull) ⊎ (result ≡ Err Stop.NoMemory)) }
+        ensures full { (result ≡ Err Stop.JournalFull) ↔ ((self.old.params.journal ≤ length self.old.kernel.journal) × (length self.old.kernel.journal < length (append self.old.kernel.journal (Hands 1)))) }
+    {
+        joining::make_room_to_move(
+            &mut self.journal,
+            &mut self.stopped,
+            &mut self.room,
+            self.tables.params.journal,
+        )?;
+        let parts = notes::or_stop(&mut self.stopped, launching::room_in(self.alloc, n))?;
+        let _frames = self.tables.core.frames();
+        self.tables.move_hands(locked, parts, lo, n);
+        joining::add_move(&mut self.journal);
+        Ok(())
+    }
+}

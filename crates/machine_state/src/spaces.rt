@@ -1,0 +1,193 @@
+//! The page places of all spaces.
+ghost use Rattle.std.specs.Prelude.{◌≡◌, ◌<◌, map, length, Some, [], IfSome, IfNone, IsTrue, slice_get, option_copied};
+ghost use Rattle.vax_pte.specs.Words.{IsInRange};
+ghost use Rattle.flat_state.specs.Numbers.{IsAbsent};
+ghost use Rattle.page_model.specs.Pages.{numbered};
+ghost use Rattle.machine_state.specs.Rising.{sids_of, AreRising, StandsAt, IsHome, space_named};
+ghost use Rattle.machine_state.specs.Shown.{entry_in, placed, is_frame, frame_named, changed_named};
+ghost use Rattle.machine_state.specs.Launches.{valid_named};
+ghost use Rattle.machine_state.specs.Settled.{image_found};
+
+use space_map::SpaceMap;
+use std::alloc::Global;
+use std::marker::Model;
+use vax_pte::Place;
+use vm_facts::Page;
+
+/// The page places of all spaces, which stand by rising numbers. Contracts see the list.
+#[derive(Drop)]
+pub(crate) struct Spaces {
+    maps: Vec<SpaceMap>,
+}
+
+impl Model for Spaces {
+    ghost use Rattle.std.specs.Prelude.{List};
+    ghost use Rattle.space_map.specs.Space.{Places};
+    ghost use Rattle.machine_state.specs.Rising.{sids_of, AreRising};
+
+    ghost Value = { List Places };
+
+    ghost view = { λ s. s.maps.items };
+
+    ghost invariant = { λ s. AreRising (sids_of s.maps.items) };
+}
+
+// The space that a page of data or stack is of.
+fn space_of(page: Page) -> Option<u32>
+    ensures { result ≡ space_named page }
+{
+    match page {
+        Page::Data { sid, .. } | Page::Stack { sid, .. } => Some(sid),
+        Page::Text { .. } => None,
+    }
+}
+
+// Puts a page in its place, where it is of the space.
+fn set_place(space: &mut SpaceMap, page: Page, place: Place)
+    requires { IsInRange place }
+    ensures { space.new ≡ placed page place space.old }
+{
+    if space.place(page).is_some() {
+        space.set_place(page, place);
+    }
+}
+
+// Puts a page in its place in each space that has it.
+fn set_each(maps: &mut Vec<SpaceMap>, page: Page, place: Place)
+    requires { IsInRange place }
+    ensures { maps.new.items ≡ map (placed page place) maps.old.items }
+{
+    for space in maps.iter_mut() {
+        set_place(space, page, place);
+    }
+}
+
+// The entry of a page, in the first space that has it.
+fn first_entry(maps: &[SpaceMap], page: Page) -> Option<Place>
+    ensures { result ≡ entry_in maps.now page }
+{
+    for space in maps {
+        if let Some(place) = space.place(page) {
+            return Some(place);
+        }
+    }
+    None
+}
+
+impl Spaces {
+    /// No space.
+    pub(crate) fn new(alloc: Global) -> Spaces
+        ensures { result ≡ [] }
+    {
+        Spaces {
+            maps: Vec::new(alloc),
+        }
+    }
+
+    /// Where the space with this number stands among all; None exactly where there is none.
+    pub(crate) fn index_of(&self, sid: u32) -> Option<usize>
+        ensures found { IfSome result (StandsAt self.now sid) }
+        ensures absent { IfNone result (IsAbsent sid (sids_of self.now)) }
+    {
+        self.maps
+            .binary_search_by_key(&sid, |space| space.sid())
+            .ok()
+    }
+
+    /// The space with this number; None exactly where there is none.
+    pub(crate) fn find(&self, sid: u32) -> Option<&SpaceMap>
+        ensures { option_copied result ≡ numbered (λ s. s.sid) sid self.now }
+    {
+        let index = self.index_of(sid)?;
+        Some(&self.maps[index])
+    }
+
+    /// The spaces stand by rising numbers.
+    pub(crate) fn rise(&self)
+        ensures { AreRising (sids_of self.now) }
+    {
+        let _ = &self.maps;
+    }
+
+    /// The space that stands at a place among all.
+    pub(crate) fn at(&self, index: usize) -> &SpaceMap
+        requires { index < length self.now }
+        ensures space { slice_get self.now index ≡ Some result.now }
+        ensures rising { AreRising (sids_of self.now) }
+    {
+        &self.maps[index]
+    }
+
+    /// Puts a page in its place, where the space that it is of stands there among all.
+    pub(crate) fn set_place_at(&mut self, index: usize, page: Page, place: Place)
+        requires named { IsHome self.old index page }
+        requires in_range { IsInRange place }
+        ensures { self.new ≡ map (placed page place) self.old }
+    {
+        set_place(&mut self.maps[index], page, place);
+    }
+
+    /// The image of the space with this number; None exactly where there is none.
+    pub(crate) fn image_of(&self, sid: u32) -> Option<u32>
+        ensures { result ≡ image_found self.now sid }
+    {
+        Some(self.find(sid)?.image())
+    }
+
+    /// Puts a page in its place in each space that has it: a page of text in every one that shares its image.
+    pub(crate) fn set_places(&mut self, page: Page, place: Place)
+        requires { IsInRange place }
+        ensures { self.new ≡ map (placed page place) self.old }
+    {
+        match space_of(page) {
+            None => set_each(&mut self.maps, page, place),
+            Some(sid) => {
+                if let Some(index) = self.index_of(sid) {
+                    set_place(&mut self.maps[index], page, place);
+                }
+            }
+        }
+    }
+
+    /// The entry of a page, in the first space that has it.
+    pub(crate) fn entry(&self, page: Page) -> Option<Place>
+        ensures { result ≡ entry_in self.now page }
+    {
+        match space_of(page) {
+            None => first_entry(&self.maps, page),
+            Some(sid) => self.find(sid)?.place(page),
+        }
+    }
+
+    /// The frame that the entry of a page names, and whether the page was changed.
+    pub(crate) fn frame_of(&self, page: Page) -> (u32, bool)
+        requires { IsTrue (is_frame (entry_in self.now page)) }
+        ensures frame { result.0 ≡ frame_named (entry_in self.now page) }
+        ensures changed { result.1 ≡ changed_named (entry_in self.now page) }
+    {
+        match self.entry(page) {
+            Some(Place::Frame { f, changed, .. }) => (f, changed),
+            _ => unreachable!(),
+        }
+    }
+
+    /// Whether the entry of a page says that it is valid.
+    pub(crate) fn is_valid(&self, page: Page) -> bool
+        ensures { result ≡ valid_named (entry_in self.now page) }
+    {
+        match self.entry(page) {
+            Some(Place::Frame { valid, .. }) => valid,
+            _ => false,
+        }
+    }
+
+    /// Whether the entry of a page says that it was changed.
+    pub(crate) fn is_changed(&self, page: Page) -> bool
+        ensures { result ≡ changed_named (entry_in self.now page) }
+    {
+        match self.entry(page) {
+            Some(Place::Frame { changed, .. }) => changed,
+            _ => false,
+        }
+    }
+}

@@ -1,0 +1,28 @@
+// That the calls that take memory succeed, and what a machine with no process answers.
+use super::*;
+use std::process::Abort;
+use std::test::Fail;
+use vm_facts::{Entry, Params};
+
+#[test]
+fn a_machine_begins_takes_a_note_and_ends(rt: HostRuntime) -> Result<(), Fail> {
+    let params = Params {
+        frames: 64,
+        swap_blocks: 256,
+        limit: 1,
+        journal: 1,
+    };
+    let mut machine = Machine::new(rt.alloc(), params, Vec::new(rt.alloc())).expect(
+        &rt,
+        "memory for the tables",
+    );
+    machine
+        .note(Entry::Turn { pid: 1 })
+        .expect(&rt, "room for an entry");
+    let seen = (machine.journal().len(), machine.free_frames());
+    let hands = machine.hands();
+    machine.end();
+    assert_eq!(rt; seen, (1, 64));
+    assert_eq!(rt; hands, (17, 1));
+    Ok(())
+}

@@ -1,0 +1,275 @@
+//! The memory of one process, as an instruction meets it: the bytes of the frames of its valid pages.
+ghost use Rattle.std.specs.Prelude.{◌≡◌, ◌<◌, ◌/◌, false, length, slice_index};
+ghost use Rattle.vm_facts.specs.declared.page.PageState.TheVariants.{Valid};
+ghost use Rattle.vm_facts.specs.declared.page.Page.TheVariants.{Text as TextPage, Data as DataPage, Stack as StackPage};
+ghost use Rattle.page_model.specs.Placement.{state_of, image_of};
+ghost use Rattle.page_model.specs.PageBytes.{IsWritable};
+ghost use Rattle.page_model.specs.Ownership.{OwnsFrames};
+ghost use Rattle.kernel_model.specs.Kernel.{frame_bytes, write_step, HoldsSpace};
+ghost use Rattle.machine_state.specs.Calls.{life_in};
+ghost use Rattle.machine_state.specs.UserMemory.{spot_in, page_in, read_page, valid_frame, entry_frame, may_write_by, IsOwnPage, IsLaidOut, HasLengths, CanLend, IsHeld, AreWhole, WrotePage};
+
+use crate::machine::Machine;
+use crate::spaces::Spaces;
+use flat_state::{PAGE, Spot, locate};
+use vax_pte::Place;
+use vm_facts::{ByteRead, MayWrite, Memory, Page};
+
+/// Where a space stands among all, and what its addresses name: the lengths of its segments are in bytes.
+#[derive(Clone, Copy, Drop)]
+struct Layout {
+    index: usize,
+    sid: u32,
+    image: u32,
+    text_len: u32,
+    data_len: u32,
+    stack_len: u32,
+}
+
+/// The space of a process that is in, over the frames of the machine.
+#[derive(Drop)]
+pub struct SpaceMemory<'a> {
+    machine: &'a mut Machine,
+    layout: Layout,
+    ghost laid_out: { IsLaidOut machine.now.kernel layout.index layout.sid layout.image layout.text_len layout.data_len layout.stack_len },
+}
+
+// The layout of the space that stands at a place.
+fn layout_at(spaces: &Spaces, index: usize, sid: u32) -> Layout
+    requires { index < length spaces.now }
+    ensures index { result.index ≡ index }
+    ensures sid { result.sid ≡ sid }
+    ensures lengths { HasLengths spaces.now index result.image result.text_len result.data_len result.stack_len }
+{
+    let space = spaces.at(index);
+    Layout {
+        index,
+        sid,
+        image: space.image(),
+        text_len: PAGE * space.text_pages(),
+        data_len: PAGE * space.data_pages(),
+        stack_len: PAGE * space.stack_pages(),
+    }
+}
+
+// The frame that an entry names, where its page is valid.
+fn frame_if_valid(entry: Option<Place>) -> Option<u32>
+    ensures { result ≡ entry_frame entry }
+{
+    match entry {
+        Some(Place::Frame { f, valid: true, .. }) => Some(f),
+        _ => None,
+    }
+}
+
+impl Machine {
+    // The frame of a page of the space that stands at `index`, or of its text, where the page is valid.
+    fn valid_frame(&self, index: usize, page: Page) -> Option<u32>
+        requires running { self.now.kernel.stopped ≡ false }
+        requires own { IsOwnPage self.now.kernel.place index page }
+        ensures { result ≡ valid_frame (state_of self.now.kernel.place page) }
+    {
+        let _frames = self.tables.core.frames();
+        let space = self.tables.spaces.at(index);
+        let _pages = space.text_pages();
+        frame_if_valid(space.place(page))
+    }
+
+    // A byte of the frame of a valid page.
+    fn frame_byte(&self, frame: u32, at: u32) -> u8
+        requires running { self.now.kernel.stopped ≡ false }
+        requires held { IsHeld self.now.kernel.place frame }
+        requires within { at < 1024 }
+        ensures { result ≡ slice_index (frame_bytes self.now.kernel frame) at }
+    {
+        let _frames = self.tables.core.frames();
+        self.tables.core.bytes(frame)[at as usize]
+    }
+
+    // A byte of a valid page of data or stack is written. The page's space stands at `index`.
+    fn write_byte(&mut self, index: usize, page: Page, frame: u32, at: u32, byte: u8)
+        requires running { self.old.kernel.stopped ≡ false }
+        requires own { IsOwnPage self.old.kernel.place index page }
+        requires writable { IsWritable page }
+        requires valid { state_of self.old.kernel.place page ≡ Valid frame }
+        requires within { at < 1024 }
+        ensures step { self.new ≡ record self.old { kernel = write_step self.old.kernel page frame at byte } }
+        ensures owner { OwnsFrames self.old.kernel.place }
+        ensures whole { AreWhole self.old.kernel }
+    {
+        let _frames = self.tables.core.frames();
+        self.tables.write_byte(index, page, frame, at, byte);
+    }
+
+    // How the space of a process is laid out.
+    fn layout_of(&self, pid: u32) -> Layout
+        requires running { self.now.kernel.stopped ≡ false }
+        requires can { CanLend self.now.kernel pid }
+        ensures laid_out { IsLaidOut self.now.kernel result.index result.sid result.image result.text_len result.data_len result.stack_len }
+        ensures space { life_in self.now.kernel pid ≡ HoldsSpace result.sid }
+    {
+        let _frames = self.tables.core.frames();
+        let Some(sid) = self.tables.space_of(pid) else {
+            unreachable!()
+        };
+        let Some(index) = self.tables.spaces.index_of(sid) else {
+            unreachable!()
+        };
+        layout_at(&self.tables.spaces, index, sid)
+    }
+
+    /// The memory of a process that is in. When the loan ends, the machine is what the writes through it left.
+    pub fn memory(&mut self, pid: u32) -> SpaceMemory<'_>
+        requires running { self.old.kernel.stopped ≡ false }
+        requires can { CanLend self.old.kernel pid }
+        ensures same_reference { result.machine.ghost_name ≡ self.entry.ghost_name }
+        ensures now { result.machine.now ≡ self.old }
+        ensures space { life_in self.old.kernel pid ≡ HoldsSpace result.layout.sid }
+    {
+        let layout = self.layout_of(pid);
+        SpaceMemory {
+            machine: self,
+            layout,
+        }
+    }
+}
+
+impl SpaceMemory<'_> {
+    /// The page of the byte that an address names; None exactly where the address is in no segment.
+    pub fn page_of(&self, address: u32) -> Option<Page>
+        ensures { result ≡ page_in self.now.machine.now.kernel.place self.now.layout.sid address }
+    {
+        match self.spot(address) {
+            Spot::Text(at) => Some(self.text_page(at)),
+            Spot::Data(at) => Some(self.data_page(at)),
+            Spot::Stack(at) => Some(self.stack_page(at)),
+            Spot::Below | Spot::Outside => None,
+        }
+    }
+
+    // What an address names.
+    fn spot(&self, address: u32) -> Spot
+        ensures { result ≡ spot_in self.now.machine.now.kernel.place self.now.layout.sid address }
+    {
+        locate(
+            self.layout.text_len,
+            self.layout.data_len,
+            self.layout.stack_len,
+            address,
+        )
+    }
+
+    fn text_page(&self, at: u32) -> Page
+        ensures page { result ≡ TextPage (image_of self.now.machine.now.kernel.place self.now.layout.sid) (at / 1024) }
+        ensures own { IsOwnPage self.now.machine.now.kernel.place self.now.layout.index result }
+    {
+        Page::Text {
+            image: self.layout.image,
+            v: at / PAGE,
+        }
+    }
+
+    fn data_page(&self, at: u32) -> Page
+        ensures page { result ≡ DataPage self.now.layout.sid (at / 1024) }
+        ensures own { IsOwnPage self.now.machine.now.kernel.place self.now.layout.index result }
+    {
+        Page::Data {
+            sid: self.layout.sid,
+            v: at / PAGE,
+        }
+    }
+
+    fn stack_page(&self, at: u32) -> Page
+        ensures page { result ≡ StackPage self.now.layout.sid (at / 1024) }
+        ensures own { IsOwnPage self.now.machine.now.kernel.place self.now.layout.index result }
+    {
+        Page::Stack {
+            sid: self.layout.sid,
+            v: at / PAGE,
+        }
+    }
+
+    // A byte of a page.
+    fn read_page(&self, page: Page, at: u32) -> ByteRead
+        requires own { IsOwnPage self.now.machine.now.kernel.place self.now.layout.index page }
+        requires within { at < 1024 }
+        ensures { result ≡ read_page self.now.machine.now.kernel page at }
+    {
+        match self.machine.valid_frame(self.layout.index, page) {
+            Some(frame) => ByteRead::Is(self.machine.frame_byte(frame, at)),
+            None => ByteRead::Miss,
+        }
+    }
+
+    fn may_write_page(&self, page: Page) -> MayWrite
+        requires { IsOwnPage self.now.machine.now.kernel.place self.now.layout.index page }
+        ensures { result ≡ may_write_by (state_of self.now.machine.now.kernel.place page) }
+    {
+        match self.machine.valid_frame(self.layout.index, page) {
+            Some(_) => MayWrite::May,
+            None => MayWrite::Miss,
+        }
+    }
+
+    fn write_page(&mut self, page: Page, at: u32, byte: u8)
+        requires own { IsOwnPage self.old.machine.now.kernel.place self.old.layout.index page }
+        requires writable { IsWritable page }
+        requires may { may_write_by (state_of self.old.machine.now.kernel.place page) ≡ MayWrite.May }
+        requires within { at < 1024 }
+        ensures same_reference { self.new.machine.ghost_name ≡ self.old.machine.ghost_name }
+        ensures layout { self.new.layout ≡ self.old.layout }
+        ensures wrote { WrotePage self.old.machine.now self.new.machine.now page at byte }
+    {
+        match self.machine.valid_frame(self.layout.index, page) {
+            Some(frame) => self
+                .machine
+                .write_byte(self.layout.index, page, frame, at, byte),
+            None => unreachable!(),
+        }
+    }
+}
+
+impl Memory for SpaceMemory<'_> {
+    ghost use Rattle.machine_state.specs.UserMemory.{kernel_answers};
+    ghost use Rattle.machine_state.specs.Lent.{WroteThrough};
+
+    ghost answers = { λ m. kernel_answers m.machine.now.kernel m.layout.sid };
+
+    ghost wrote = { λ m ws n. WroteThrough m.machine m.layout ws n.machine n.layout };
+
+    fn read(&self, address: u32) -> ByteRead {
+        match self.spot(address) {
+            Spot::Text(at) => self.read_page(self.text_page(at), at % PAGE),
+            Spot::Data(at) => self.read_page(self.data_page(at), at % PAGE),
+            Spot::Stack(at) => self.read_page(self.stack_page(at), at % PAGE),
+            Spot::Below => ByteRead::Below,
+            Spot::Outside => ByteRead::Outside,
+        }
+    }
+
+    fn may_write(&self, address: u32) -> MayWrite {
+        match self.spot(address) {
+            Spot::Text(_) => MayWrite::Text,
+            Spot::Data(at) => self.may_write_page(self.data_page(at)),
+            Spot::Stack(at) => self.may_write_page(self.stack_page(at)),
+            Spot::Below => MayWrite::Below,
+            Spot::Outside => MayWrite::Outside,
+        }
+    }
+
+    fn write(&mut self, address: u32, byte: u8) {
+        match self.spot(address) {
+            Spot::Data(at) => self.write_page(self.data_page(at), at % PAGE, byte),
+            Spot::Stack(at) => self.write_page(self.stack_page(at), at % PAGE, byte),
+            Spot::Text(_) | Spot::Below | Spot::Outside => unreachable!(),
+        }
+    }
+
+    ghost use Rattle.machine_state.specs.UserMemoryLaws.{through_none, through_more, through_answers};
+
+    ghost wrote_none = { λ m. through_none m.machine m.layout };
+
+    ghost wrote_more = { λ l m n xs ys. through_more l.machine m.machine n.machine l.layout m.layout n.layout xs ys };
+
+    ghost wrote_answers = { λ m n ws. through_answers m.machine n.machine m.layout n.layout ws };
+}
