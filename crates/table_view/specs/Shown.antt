@@ -1,12 +1,12 @@
 -- What the entry of a page and the slot of its frame show of the page.
-use Rattle.std.specs.Prelude.{◌≡◌, ℕ, Bool, true, false, List}
+use Rattle.std.specs.Prelude.{◌≡◌, ℕ, Bool, true, false, List, IsTrue}
 use Rattle.vm_facts.specs.declared.page.PageState.{PageState}
 use Rattle.vm_facts.specs.declared.page.PageState.TheVariants.{Unfilled, Valid, Invalid, Coming, Going, OnSwap}
 use Rattle.vax_pte.specs.declared.Place.{Place}
 use Rattle.vax_pte.specs.declared.Place.TheVariants as places
 use Rattle.core_map.specs.declared.slot.Slot.{Slot}
 use Rattle.core_map.specs.declared.slot.Slot.TheVariants.{Free, Resident, Away}
-use Rattle.core_map.specs.Slots.{slot_at}
+use Rattle.core_map.specs.Slots.{slot_at, is_resident}
 
 -- the core map hasn't the frame's token, since it is in a transfer
 abbrev pub is_away : Slot → Bool
@@ -40,3 +40,11 @@ ShowsMark slots places.Zero dirty = Unit {0}
 ShowsMark slots (places.Image v) dirty = Unit {0}
 ShowsMark slots places.Swap dirty = Unit {0}
 ShowsMark slots (places.Frame f valid changed) dirty = MarkShown (slot_at slots f) valid dirty
+
+-- a valid page is in a resident frame
+abbrev pub IsSeatedIfValid : List Slot → Place → Type 0
+IsSeatedIfValid slots places.Zero = Unit {0}
+IsSeatedIfValid slots (places.Image v) = Unit {0}
+IsSeatedIfValid slots places.Swap = Unit {0}
+IsSeatedIfValid slots (places.Frame f true changed) = IsTrue (is_resident (slot_at slots f))
+IsSeatedIfValid slots (places.Frame f false changed) = Unit {0}

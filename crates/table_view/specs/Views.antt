@@ -7,7 +7,7 @@ use Rattle.core_map.specs.declared.slot.Slot.{Slot}
 use Rattle.core_map.specs.Frames.{Frames}
 use Rattle.space_map.specs.Space.{Places, place_in}
 use Rattle.page_model.specs.Placement.{Placement, IsThere, state_of, is_dirty}
-use Rattle.table_view.specs.Shown.{state_shown, ShowsMark}
+use Rattle.table_view.specs.Shown.{state_shown, ShowsMark, IsSeatedIfValid}
 
 -- the page is named by the space's number, or as text by its image's
 abbrev pub IsNamedBy : Places → Page → Type 0
@@ -25,3 +25,7 @@ ShowsPage p slots q (Some place) = IsThere p q × (state_of p q ≡ state_shown 
 pub record ShowsSpace (p : Placement) (core : Frames) (s : Places) : Type 0 where
   pub free : p.free ≡ core.free
   pub pages : (q : Page) → IsNamedBy s q → ShowsPage p core.slots q (place_in s q)
+
+-- each valid page of the space is in a resident frame
+abbrev pub ValidAreSeated : Frames → Places → Type 0
+ValidAreSeated core s = (q : Page) (place : Place) → place_in s q ≡ Some place → IsSeatedIfValid core.slots place

@@ -6,3 +6,13 @@
 //!   page beside it.
 //! - Views: `ShowsSpace`, the core map and the entries of a space show a placement.
 #![tactic(auto)]
+
+ghost use Rattle.core_map.specs.Frames.{Frames};
+ghost use Rattle.space_map.specs.Space.{Places};
+ghost use Rattle.page_model.specs.Placement.{Placement};
+ghost use Rattle.table_view.specs.Views.{ShowsSpace, ValidAreSeated};
+
+/// A law: every core map and space whose valid pages are in resident frames show some placement.
+pub fn some_placement_is_shown()
+    ensures { (core : Frames) (s : Places) → ValidAreSeated core s → (p : Placement) × ShowsSpace p core s }
+{}
