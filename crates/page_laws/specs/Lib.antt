@@ -1,3 +1,6 @@
 pub mod Neighbours
 pub mod Sweeping
 pub mod Leaving
+pub mod Owners
+pub mod Memory
+pub mod Dues

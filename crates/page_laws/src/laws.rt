@@ -1,29 +1,26 @@
 ghost use Rattle.std.specs.Prelude.{◌≡◌, ◌≢◌, ◌⊎◌, ℕ, ◌+◌, ◌*◌, ◌<◌, ◌≤◌, Bool, true, false, List, [], ◌∷◌, length, Some, None, IsSome};
-ghost use Rattle.flat_state.specs.Flat.{FlatState, process_of};
 ghost use Rattle.vm_facts.specs.declared.page.Page.{Page};
-ghost use Rattle.vm_facts.specs.declared.page.Page.TheVariants.{Data, Stack, Text};
+ghost use Rattle.vm_facts.specs.declared.page.Page.TheVariants.{Text};
 ghost use Rattle.vm_facts.specs.declared.page.PageState.TheVariants.{Valid, Going, Unfilled, OnSwap};
 ghost use Rattle.vm_facts.specs.declared.entry.Entry.{Entry};
 ghost use Rattle.aout_image.specs.declared.Image.{Image};
-ghost use Rattle.aout_image.specs.Image.{data_pages_of};
 ghost use Rattle.swap_book.specs.Holdings.{Holdings, block_in};
 ghost use Rattle.swap_book.specs.declared.Owner.TheVariants.{U};
 ghost use Rattle.swap_book.specs.Book.{IsBook};
 ghost use Rattle.flat_state.specs.declared.change.Change.{Change as AnyChange};
 ghost use Rattle.page_model.specs.Pages.{is_valid};
 ghost use Rattle.flat_state.specs.PageNames.{number_of};
-ghost use Rattle.page_model.specs.Placement.{Placement, Transfer, Source, Reads, slots_of, state_of, is_dirty, page_of, IsThere, data_filling, mark_of, Starting, start_placement};
-ghost use Rattle.page_model.specs.Moves.{touch_all, touch, reclaim, done, get_run, drop_all, launch_run};
+ghost use Rattle.page_model.specs.Placement.{Placement, Transfer, slots_of, state_of, is_dirty, page_of, IsThere, mark_of, Starting, start_placement};
+ghost use Rattle.page_model.specs.Moves.{touch, reclaim, done, launch_run};
 ghost use Rattle.page_model.specs.Hands.{hand_move, hand_run, expire, advance};
-ghost use Rattle.page_model.specs.Place.{due_after, moved, place_entry, place_step, place_change, filled, put_step, space_of_process, resize, fork_space, enter_space, remove_space, pages_of_space, leave_text};
-ghost use Rattle.flat_state.specs.Change.{is_borrower};
+ghost use Rattle.page_model.specs.Place.{due_after, moved, place_entry, place_change, filled, put_step, resize, fork_space, enter_space, leave_text};
 ghost use Rattle.page_model.specs.Serve.{force, serve_unit, serve_entry, serve_step, read_step, source_for};
 ghost use Rattle.vm_facts.specs.Swap.{most_in_flight};
 ghost use Rattle.page_model.specs.Swapper.{Runner, In, Out, Nothing, residence_of, is_settled, swap_choice, is_out, put_out_unit};
-ghost use Rattle.page_model.specs.Conditions.{begins, HaveParts, CanBegin, EachPage, AllApart, CanEnter, HasSeat, IsNew, IsSettled, CanPlace, CanChange, EntryShared, MayForget, Spares, ApartFrom};
+ghost use Rattle.page_model.specs.Conditions.{begins, HaveParts, CanBegin, EachPage, AllApart, CanEnter, HasSeat, IsNew, IsSettled, CanPlace, Spares};
 ghost use Rattle.page_model.specs.Rank.{far, rank, HandsStand, HasRoom, EndsForcing, EndsServing};
-ghost use Rattle.page_model.specs.Ownership.{OwnsFrames, OneOwner, TextAside, block_of, needs_blocks, OwnsBlocks};
-ghost use Rattle.page_model.specs.PageBytes.{zeros, Bytes, CouplesPages, SamePage, SameBytes, with_frame, ReadsFrom, IsWritable, WritesBoth, Stores, BytesAfter, Copies, FillsBy, NotIn};
+ghost use Rattle.page_model.specs.Ownership.{OwnsFrames, OneOwner, TextAside, block_of, needs_blocks};
+ghost use Rattle.page_model.specs.PageBytes.{Bytes, CouplesPages, SamePage, SameBytes, with_frame, ReadsFrom, IsWritable, WritesBoth, BytesAfter, NotIn};
 ghost use Rattle.page_model.specs.Stored.{stored, store_at};
 ghost use Rattle.page_model.specs.Swapping.{ComesIn, GoesOut, NoneMoves};
 ghost use Rattle.page_model.specs.PuttingOut.{IsResident, put_rank, EndsPuttingOut};
@@ -34,6 +31,9 @@ ghost use Rattle.page_laws.specs.Sweeping.{MayBeSwept};
 ghost use Rattle.page_model.specs.Pages.{frame_of};
 ghost use Rattle.page_laws.specs.Leaving.{StaysOrTaken, StaysOrGivenUp, IsDirtyIn, DirtyOrGivenUp, IsUnwritten, StaysOrWritten};
 ghost use Rattle.page_model.specs.Dues.{DueStand, LeavesDue, NotDue};
+ghost use Rattle.page_laws.specs.Owners.{StartHasOneOwner, ChangeKeepsFrames, EntryKeepsOwners, ChangeLeavesTextAside, StoreWritesOnePage};
+ghost use Rattle.page_laws.specs.Memory.{FillKeepsBytes, UserWriteKeepsBytes, ResizeKeepsBytes, ForkKeepsBytes, NewSpaceKeepsBytes, RemovedSpaceKeepsBytes, ReadLeavesOthersSame};
+ghost use Rattle.page_laws.specs.Dues.{ChangeKeepsDue};
 
 /// What a run begins with is as the other laws ask: no page is filled, dirty or saved; each frame is free; and the hands
 /// stand a quarter of the frames apart.
@@ -43,18 +43,14 @@ pub fn start_stands()
     ensures frames { (images : List Image) (first : List Starting) (frames : ℕ) → OwnsFrames (start_placement images first frames) }
     ensures hands { (images : List Image) (first : List Starting) (frames : ℕ) → 0 < frames → HandsStand (start_placement images first frames) }
     ensures text { (images : List Image) (first : List Starting) (frames : ℕ) → TextAside (start_placement images first frames) }
-    ensures owner { (size : ℕ) (lives : ℕ → Bool) (images : List Image) (first : List Starting) (frames : ℕ) (hs : Holdings)
-        → OwnsBlocks size lives (start_placement images first frames) hs → OneOwner size lives (start_placement images first frames) hs }
+    ensures owner { StartHasOneOwner }
 {}
 
 /// Each frame keeps one owner: through each paging entry, each entry of a process with its change, and each unit
 /// of serving a page.
 pub fn ownership_kept()
     ensures entry { (locked : List Page) (at : ℕ) (p : Placement) (e : Entry) → OwnsFrames p → CanPlace p e → OwnsFrames (place_entry locked at p e) }
-    ensures change { (images : List Image) (flat : FlatState) (pid at : ℕ) (written : List Page) (change : AnyChange) (p : Placement)
-        → OwnsFrames p
-        → CanChange (touch_all p written) (space_of_process (process_of flat pid)) (is_borrower flat.processes pid) flat.next_sid change
-        → OwnsFrames (place_step images flat pid at written change p) }
+    ensures change { ChangeKeepsFrames }
     ensures serve { (p : Placement) (locked : List Page) (q : Page) → OwnsFrames p → IsThere p q → OwnsFrames (serve_step p locked q) }
     ensures settled { (p : Placement) (sid : ℕ) → OwnsFrames p → is_settled p sid ≡ true → IsSettled p sid }
 {}
@@ -64,26 +60,19 @@ pub fn ownership_kept()
 /// different pages don't meet, so that a write of one page leaves what the image has of all others. Changes of
 /// processes leave text that nobody shares unsaved and, at most, in a free frame.
 pub fn blocks_kept()
-    ensures entry { (size : ℕ) (lives : ℕ → Bool) (hs : Holdings) (locked : List Page) (at : ℕ) (p : Placement) (e : Entry)
-        → OneOwner size lives p hs → CanPlace p e → EntryShared p e → OneOwner size lives (place_entry locked at p e) hs }
-    ensures text { (images : List Image) (p : Placement) (pid sid : ℕ) (borrowed : Bool) (next_sid at : ℕ) (change : AnyChange)
-        → TextAside p → MayForget images p sid borrowed next_sid change
-        → TextAside (place_change images p pid sid borrowed next_sid at change) }
+    ensures entry { EntryKeepsOwners }
+    ensures text { ChangeLeavesTextAside }
     ensures places { (size : ℕ) (lives : ℕ → Bool) (p : Placement) (hs : Holdings) (q : Page) → OneOwner size lives p hs
         → needs_blocks p q ≡ true → IsSome (block_of hs q) }
     ensures apart { (size : ℕ) (hs : Holdings) (q r : Page) (x y : ℕ) → IsBook size hs → q ≢ r → block_of hs q ≡ Some x
         → block_of hs r ≡ Some y → (x + 2 ≤ y) ⊎ (y + 2 ≤ x) }
-    ensures stores { (size : ℕ) (hs : Holdings) (image bytes : List ℕ) (q : Page) (x : ℕ) (b : Bytes) → IsBook size hs
-        → 512 * size ≤ length image → length bytes ≡ 1024 → block_of hs q ≡ Some x
-        → Stores (record b { swap = stored hs image }) (record b { swap = stored hs (store_at image (block_of hs q) bytes) }) q bytes }
+    ensures stores { StoreWritesOnePage }
 {}
 
 /// The flat bytes of each page stay where its state says, whatever the swap image and the files: through a fill, a
 /// reclaim, the beginning of a read and of a write, a move of the hands, the end of a transfer, and a user write.
 pub fn memory_kept()
-    ensures fill { (p : Placement) (q : Page) (f : ℕ) (rest : List ℕ) (b : Bytes) (bytes : List ℕ) → OwnsFrames p → CanEnter p q
-        → p.free ≡ f ∷ rest → length b.frames ≡ length p.holds → IsWritable q → bytes ≡ b.memory q → CouplesPages p b
-        → CouplesPages (filled p q) (with_frame b f bytes) }
+    ensures fill { FillKeepsBytes }
     ensures reclaim { (p : Placement) (q : Page) (b : Bytes) → OwnsFrames p → CouplesPages p b → CouplesPages (reclaim p q) b }
     ensures read { (p : Placement) (q : Page) (b : Bytes) → OwnsFrames p → CanEnter p q → ReadsFrom p (source_for (state_of p q)) q q
         → CouplesPages p b → CouplesPages (read_step p q) b }
@@ -92,29 +81,16 @@ pub fn memory_kept()
         → AllApart qs → CouplesPages p b → CouplesPages (put_step p q qs) b }
     ensures done { (p : Placement) (b c : Bytes) → OwnsFrames p → length b.frames ≡ length p.holds → BytesAfter b p.transfers c
         → CouplesPages p b → CouplesPages (done p) c }
-    ensures write { (p : Placement) (q : Page) (f : ℕ) (b c : Bytes) (bytes : List ℕ) → OwnsFrames p → state_of p q ≡ Valid f → IsWritable q
-        → p.due ≡ [] → length b.frames ≡ length p.holds → WritesBoth b c q f bytes → CouplesPages p b → CouplesPages (touch p q) c }
+    ensures write { UserWriteKeepsBytes }
 {}
 
 /// The same through growth and break, a fork, a new image, a space that goes, and text that nobody shares any more:
 /// the pages that stay keep their bytes, and the new ones have those that fill them.
 pub fn spaces_kept()
-    ensures resize { (p : Placement) (sid d s : ℕ) (b c : Bytes) → CouplesPages p b → p.due ≡ []
-        → ((w : Page) → IsThere (resize p sid d s) w → IsThere p w → SameBytes b c w)
-        → ((w : Page) → IsThere (resize p sid d s) w → length (slots_of p w) ≤ number_of w → zeros ≡ c.memory w)
-        → ((image v : ℕ) → c.file (Text image v) ≡ c.memory (Text image v)) → CouplesPages (resize p sid d s) c }
-    ensures fork { (p : Placement) (parent child : ℕ) (b c : Bytes) → CouplesPages p b → IsNew p child → p.due ≡ []
-        → ((w : Page) → IsThere p w → SameBytes b c w) → ((v : ℕ) → Copies b c (Data child v) (Data parent v))
-        → ((v : ℕ) → Copies b c (Stack child v) (Stack parent v)) → ((image v : ℕ) → c.file (Text image v) ≡ c.memory (Text image v))
-        → CouplesPages (fork_space p parent child) c }
-    ensures enter { (p : Placement) (sid image : ℕ) (facts : Image) (b c : Bytes) → CouplesPages p b → IsNew p sid → p.due ≡ []
-        → ((w : Page) → IsThere p w → SameBytes b c w) → ((v : ℕ) → v < data_pages_of facts → FillsBy c (Data sid v) (data_filling facts v))
-        → c.start (Stack sid 0) ≡ c.memory (Stack sid 0) → ((i v : ℕ) → c.file (Text i v) ≡ c.memory (Text i v))
-        → CouplesPages (enter_space p sid image facts) c }
-    ensures removed { (p : Placement) (sid : ℕ) (b c : Bytes) → CouplesPages p b → p.due ≡ []
-        → ((w : Page) → IsThere (remove_space (drop_all p (pages_of_space p sid)) sid) w → IsThere p w → SameBytes b c w)
-        → ((image v : ℕ) → c.file (Text image v) ≡ c.memory (Text image v))
-        → CouplesPages (remove_space (drop_all p (pages_of_space p sid)) sid) c }
+    ensures resize { ResizeKeepsBytes }
+    ensures fork { ForkKeepsBytes }
+    ensures enter { NewSpaceKeepsBytes }
+    ensures removed { RemovedSpaceKeepsBytes }
     ensures text { (p : Placement) (image : ℕ) (b : Bytes) → OwnsFrames p → CouplesPages p b → CouplesPages (leave_text p image) b }
 {}
 
@@ -126,8 +102,7 @@ pub fn others_same()
     ensures hands { (p : Placement) (locked : List Page) (b : Bytes) (w : Page) → SamePage p (hand_move p locked) b b w }
     ensures fill { (p : Placement) (q : Page) (f : ℕ) (rest : List ℕ) (b : Bytes) (bytes : List ℕ) (w : Page) → OwnsFrames p
         → p.free ≡ f ∷ rest → w ≢ q → SamePage p (filled p q) b (with_frame b f bytes) w }
-    ensures read { (p : Placement) (source : Source) (demanded : Page) (qs : List Page) (b : Bytes) (w : Page) → OwnsFrames p
-        → EachPage (CanEnter p) qs → AllApart qs → EachPage (λ r. w ≢ r) qs → SamePage p (get_run p (Reads source demanded) qs) b b w }
+    ensures read { ReadLeavesOthersSame }
     ensures done { (p : Placement) (t : Transfer) (ts : List Transfer) (b c : Bytes) (w : Page) → OwnsFrames p → p.transfers ≡ t ∷ ts
         → BytesAfter b (t ∷ ts) c → NotIn w t.parts → SamePage p (done p) b c w }
     ensures put { (p : Placement) (q : Page) (qs : List Page) (b : Bytes) (w : Page) → SamePage p (put_step p q qs) b b w }
@@ -228,9 +203,7 @@ pub fn due_kept()
     ensures fork { (p : Placement) (parent child : ℕ) → IsNew p child → DueStand (fork_space p parent child) }
     ensures enter { (p : Placement) (sid image : ℕ) (facts : Image) → IsNew p sid → DueStand (enter_space p sid image facts) }
     ensures write { (p : Placement) (q : Page) → DueStand p → DueStand (touch p q) }
-    ensures changes { (images : List Image) (p : Placement) (pid sid : ℕ) (borrowed : Bool) (next_sid at : ℕ) (change : AnyChange)
-        → p.due ≡ [] → CanChange p sid borrowed next_sid change → ApartFrom sid borrowed next_sid change
-        → DueStand (place_change images p pid sid borrowed next_sid at change) }
+    ensures changes { ChangeKeepsDue }
 {}
 
 /// Putting a process out ends: each unit may be made, keeps frames owned, no more than 16 transfers in flight, each with

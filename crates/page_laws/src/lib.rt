@@ -27,7 +27,8 @@
 //! - `frames_are_left`: when a page leaves its frame, and that what must be written stays in its till it was.
 //!
 //! Lemmas, by folder of proofs/: Lists, Ownership, Moves, Bytes, Blocks, Due, Ends, Swapper, Runs
-//! and Leaving. What the laws say more than once, by file of specs/: Neighbours, Sweeping and Leaving.
+//! and Leaving. What the laws say more than once, by file of specs/: Neighbours, Sweeping and Leaving; and the longer laws by
+//! name: Owners, Memory and Dues.
 #![tactic(auto)]
 
 pub mod laws;
