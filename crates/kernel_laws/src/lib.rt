@@ -13,7 +13,7 @@
 //!   another.
 //!
 //! Lemmas, by folder of proofs/: Pieces, Sound, Flat, Machine and Stands, of each step by itself; and Kept, the cases of
-//! `machine_kept`.
+//! `machine_kept`. The longer laws by name, by file of specs/: Paging, Processes, Beginning and Waiting.
 #![tactic(auto)]
 
 pub mod laws;

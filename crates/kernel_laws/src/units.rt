@@ -1,16 +1,13 @@
-ghost use Rattle.std.specs.Prelude.{◌≡◌, ℕ, List, map, Ok};
+ghost use Rattle.std.specs.Prelude.{◌≡◌, ℕ, List};
 ghost use Rattle.swap_book.specs.Holdings.{Holdings};
-ghost use Rattle.swap_book.specs.Placing.{place_all};
 ghost use Rattle.flat_state.specs.Flat.{NamedImage, Inputs};
-ghost use Rattle.flat_state.specs.declared.change.Change.{Change as AnyChange};
 ghost use Rattle.page_model.specs.Placement.{Starting};
 ghost use Rattle.kernel_model.specs.Kernel.{image_after};
 ghost use Rattle.kernel_model.specs.Coupled.{Coupled};
 ghost use Rattle.kernel_model.specs.Start.{ImagesFit};
-ghost use Rattle.kernel_model.specs.Asks.{asked};
-ghost use Rattle.kernel_model.specs.Unit.{KernelUnit, KernelState, FindUnit, DoneUnit, with_found, state_after, states_after};
-ghost use Rattle.kernel_model.specs.Invariant.{Invariant, May, MayAll, Waits, CanStart, started};
-ghost use Rattle.page_model.specs.Place.{facts_of};
+ghost use Rattle.kernel_model.specs.Unit.{KernelUnit, KernelState, with_found, state_after, states_after};
+ghost use Rattle.kernel_model.specs.Invariant.{Invariant, May, MayAll, CanStart, started};
+ghost use Rattle.kernel_laws.specs.Waiting.{FoundPiecesWait, PiecesWaitOn};
 
 /// All that is so of the kernel between two units is so at the start of a run, after each unit that it may make, and after
 /// each list of units, one after another: each frame and each block of swap has one owner, no two numbers are one, what is
@@ -33,10 +30,6 @@ pub fn pieces_wait()
         → Coupled (with_found m) images m.image m.flat }
     ensures image { (size : ℕ) (images : List NamedImage) (m : KernelState) → Invariant size images m
         → image_after (with_found m) m.image ≡ image_after m.kernel m.image }
-    ensures found { (size : ℕ) (images : List NamedImage) (m : KernelState) (found : Holdings) (pid : ℕ) (change : AnyChange)
-        → Invariant size images m → place_all size m.kernel.holdings (asked (facts_of images) m.kernel pid change) ≡ Ok found
-        → Waits size images (state_after images m (FindUnit found)) pid change }
-    ensures waits { (size : ℕ) (images : List NamedImage) (reads : List (List (List ℕ))) (m : KernelState) (pid : ℕ) (change : AnyChange)
-        → Waits size images m pid change → MayAll size images m (map DoneUnit reads)
-        → Waits size images (states_after images m (map DoneUnit reads)) pid change }
+    ensures found { FoundPiecesWait }
+    ensures waits { PiecesWaitOn }
 {}

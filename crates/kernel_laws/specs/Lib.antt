@@ -1,0 +1,4 @@
+pub mod Processes
+pub mod Paging
+pub mod Beginning
+pub mod Waiting
