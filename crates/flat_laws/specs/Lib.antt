@@ -1,2 +1,5 @@
 pub mod Shown
 pub mod Others
+pub mod Determined
+pub mod Enough
+pub mod Pieces

@@ -14,56 +14,38 @@
 //!   state whose spaces are of whole pages; so with 64 frames there is room beside all that is locked.
 #![tactic(auto)]
 
-ghost use Rattle.std.specs.Prelude.{◌≡◌, ◌≢◌, ℕ, ◌≤◌, Bool, true, false, List, length, Some, Ok};
-ghost use Rattle.flat_state.specs.Space.{Space, answers_of, puts};
-ghost use Rattle.flat_state.specs.Flat.{Holds, Process, FlatState, NamedImage, Inputs, start_state, process_of, is_ready, can_step};
+ghost use Rattle.std.specs.Prelude.{◌≡◌, ◌≢◌, ℕ, ◌≤◌, Bool, List, length, Some};
+ghost use Rattle.flat_state.specs.Space.{Space};
+ghost use Rattle.flat_state.specs.Flat.{FlatState, Inputs, start_state};
 ghost use Rattle.vm_facts.specs.declared.entry.Entry.{Entry};
-ghost use Rattle.user_vax.specs.Effects.{Effect};
 ghost use Rattle.user_vax.specs.Instruction.{instruction};
 ghost use Rattle.user_vax.specs.Program.{run};
-ghost use Rattle.flat_state.specs.declared.change.Change.{Change};
-ghost use Rattle.kernel_model.specs.Kernel.{Kernel};
-ghost use Rattle.kernel_model.specs.Coupled.{SameTables};
-ghost use Rattle.kernel_model.specs.Sound.{TextFits};
-ghost use Rattle.kernel_model.specs.Asks.{asked};
 ghost use Rattle.flat_state.specs.Numbers.{AllDistinct, pids_of, IsNumbered};
-ghost use Rattle.kernel_model.specs.Numbers.{Numbered};
 ghost use Rattle.kernel_model.specs.Start.{ImagesFit};
-ghost use Rattle.flat_model.specs.Asked.{change_wanted, asks};
-ghost use Rattle.flat_model.specs.declared.calls.SystemCall.{SystemCall};
-ghost use Rattle.flat_model.specs.Instruction.{instruction_in};
-ghost use Rattle.flat_model.specs.Step.{flat_step, reply_asked};
-ghost use Rattle.flat_model.specs.Run.{Point, is_refused, act, process_of_entry, flat_entry, flat_run};
+ghost use Rattle.flat_model.specs.Step.{flat_step};
+ghost use Rattle.flat_model.specs.Run.{Point, flat_run};
 ghost use Rattle.flat_model.specs.Touched.{touched};
-ghost use Rattle.flat_model.specs.Shown.{shown};
 ghost use Rattle.touch_laws.specs.Whole.{EachWhole};
-ghost use Rattle.flat_laws.specs.Shown.{AreOf, IsCallOf};
-ghost use Rattle.flat_laws.specs.Others.{HoldsStill, is_refusal, is_writing};
-ghost use Rattle.page_model.specs.Place.{facts_of};
+ghost use Rattle.flat_laws.specs.Others.{HoldsStill};
+ghost use Rattle.flat_laws.specs.Determined.{NextEntryIsDetermined, NextEntriesAreOne};
+ghost use Rattle.flat_laws.specs.Enough.{InstructionNeedsTouchedAlone, ReplyNeedsTouchedAlone, WritesAreTouched};
+ghost use Rattle.flat_laws.specs.Pieces.{ChangeAsksAgree, StepAsksAgree};
 
 /// The next entry of a process's step follows from the flat state, from whether its pieces were refused, and from
 /// whether it has bytes out. So two entries of a process that may come next, neither of which says that pieces found no
 /// place, are one.
 pub fn entries_are_determined()
-    ensures next { (A : Inputs) (point other : Point) (pid : ℕ) → other.flat ≡ point.flat
-        → is_refused other.last pid ≡ is_refused point.last pid → is_writing other.last pid ≡ is_writing point.last pid
-        → act A other pid ≡ act A point pid }
-    ensures one { (A : Inputs) (point p q : Point) (pid : ℕ) (e f : Entry) → process_of_entry e ≡ Some pid → process_of_entry f ≡ Some pid
-        → is_refusal e ≡ false → is_refusal f ≡ false → flat_entry A point e ≡ Some p → flat_entry A point f ≡ Some q → e ≡ f }
+    ensures next { NextEntryIsDetermined }
+    ensures one { NextEntriesAreOne }
 {}
 
 /// Where the touched pages alone are there, the next instruction of a process comes to what it comes to in the whole
 /// space, and so does the reply of its call, behind what the instruction wrote. Each byte that the step writes is of a
 /// touched page.
 pub fn touched_is_enough()
-    ensures instruction { (A : Inputs) (F : FlatState) (pid : ℕ) (p : Process) (s : Space) → process_of F pid ≡ Some p → is_ready p ≡ true
-        → p.holding ≡ Holds s → run (shown s (touched A F pid)) (instruction p.regs) ≡ instruction_in s p.regs }
-    ensures reply { (A : Inputs) (F : FlatState) (pid : ℕ) (p : Process) (s : Space) (effect : Effect) (call : SystemCall)
-        → process_of F pid ≡ Some p → is_ready p ≡ true → p.holding ≡ Holds s → instruction_in s p.regs ≡ Ok effect → IsCallOf effect call
-        → run (shown (puts s effect.writes) (touched A F pid)) (reply_asked A.images F p s call effect)
-        ≡ run (answers_of (puts s effect.writes)) (reply_asked A.images F p s call effect) }
-    ensures writes { (A : Inputs) (F : FlatState) (pid : ℕ) (p : Process) (s : Space) (refused : Bool) → process_of F pid ≡ Some p
-        → is_ready p ≡ true → p.holding ≡ Holds s → AreOf s (touched A F pid) (flat_step A F pid refused).writes }
+    ensures instruction { InstructionNeedsTouchedAlone }
+    ensures reply { ReplyNeedsTouchedAlone }
+    ensures writes { WritesAreTouched }
 {}
 
 /// Behind a step of a process every other process that holds a space holds it still, byte for byte.
@@ -84,12 +66,8 @@ pub fn numbers_are_kept()
 /// swap space by the placement that it wants by the flat state. So the change by which a process's next step ends wants
 /// just those that the step asks for.
 pub fn asks_agree()
-    ensures change { (images : List NamedImage) (k : Kernel) (flat : FlatState) (pid : ℕ) (p : Process) (s : Space) (change : Change)
-        → ImagesFit images → TextFits images k.place → Numbered k → IsNumbered flat → SameTables k flat → process_of flat pid ≡ Some p
-        → p.holding ≡ Holds s → asked (facts_of images) k pid change ≡ change_wanted images flat s change }
-    ensures step { (A : Inputs) (k : Kernel) (flat : FlatState) (pid : ℕ) → ImagesFit A.images → TextFits A.images k.place → Numbered k
-        → IsNumbered flat → SameTables k flat → can_step flat pid ≡ true
-        → asked (facts_of A.images) k pid (flat_step A flat pid false).change ≡ asks A flat pid }
+    ensures change { ChangeAsksAgree }
+    ensures step { StepAsksAgree }
 {}
 
 /// A process's next instruction, with its call where it is one, touches 28 pages at most, in each state whose spaces
