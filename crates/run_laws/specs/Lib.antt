@@ -6,3 +6,5 @@ pub mod Images
 pub mod Sized
 pub mod Files
 pub mod KernelUnits
+pub mod Agreeing
+pub mod Bytes

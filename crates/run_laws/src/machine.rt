@@ -1,52 +1,38 @@
-ghost use Rattle.std.specs.Prelude.{◌≡◌, ℕ, ◌+◌, ◌*◌, ◌^◌, ◌<◌, ◌≤◌, Bool, true, List, [], length, map, Some, slice_index};
+ghost use Rattle.std.specs.Prelude.{◌≡◌, ℕ, ◌+◌, ◌^◌, ◌<◌, Bool, true, List, length, map, Some};
 ghost use Rattle.vm_facts.specs.declared.page.Page.{Page};
 ghost use Rattle.vm_facts.specs.declared.entry.Entry.{Entry};
 ghost use Rattle.vm_facts.specs.declared.entry.Entry.TheVariants as entries;
-ghost use Rattle.swap_book.specs.declared.Owner.TheVariants as owners;
-ghost use Rattle.swap_book.specs.Holdings.{Holdings, block_in};
-ghost use Rattle.flat_state.specs.Flat.{Inputs, start_state, FlatState, process_of, Process, Holds};
-ghost use Rattle.flat_state.specs.Space.{Space, byte_at};
-ghost use Rattle.flat_state.specs.declared.spot.Spot.{Spot as AnySpot};
-ghost use Rattle.vm_facts.specs.declared.memory.ByteRead.TheVariants as reads;
-ghost use Rattle.vm_facts.specs.declared.page.PageState.TheVariants.{Valid};
-ghost use Rattle.page_model.specs.Placement.{state_of};
-ghost use Rattle.flat_model.specs.Touched.{page_read};
+ghost use Rattle.swap_book.specs.Holdings.{Holdings};
+ghost use Rattle.flat_state.specs.Flat.{Inputs, start_state, FlatState, process_of};
 ghost use Rattle.flat_model.specs.Step.{flat_step};
-ghost use Rattle.flat_model.specs.Run.{Point, flat_run, step_at};
+ghost use Rattle.flat_model.specs.Run.{Point, flat_run};
 ghost use Rattle.register_laws.specs.Longwords.{AllFit, AllImages};
 ghost use Rattle.run_laws.specs.Files.{AreInputs, MayBegin};
 ghost use Rattle.page_model.specs.Place.{space_of_process};
-ghost use Rattle.page_model.specs.PuttingOut.{IsResident, put_rank, EndsPuttingOut};
+ghost use Rattle.page_model.specs.PuttingOut.{IsResident, EndsPuttingOut};
 ghost use Rattle.run_model.specs.declared.mark.Mark.TheVariants as marks;
-ghost use Rattle.run_model.specs.Next.{next_unit};
 ghost use Rattle.run_laws.specs.Sized.{FlatSized, InputsSized, PlaceSized};
 ghost use Rattle.run_model.specs.Lawful.{Reaches, Follows};
-ghost use Rattle.kernel_model.specs.Kernel.{frame_bytes, Kernel, Proc, plain_step, zero_step, copy_step, get_step, reclaim_step, push_step, done_step, note_step, out_step, in_step, image_after};
-ghost use Rattle.kernel_model.specs.UPage.{AreRegs, regs_in};
-ghost use Rattle.kernel_model.specs.Coupled.{AreRead, beside_kernel, Coupled};
-ghost use Rattle.page_model.specs.Stored.{stored_at, store_at};
+ghost use Rattle.kernel_model.specs.Kernel.{Kernel, plain_step, zero_step, copy_step, get_step, reclaim_step, push_step, note_step};
 ghost use Rattle.kernel_model.specs.Sound.{lives};
-ghost use Rattle.kernel_model.specs.Start.{ImagesFit, kept_of, start_kernel};
-ghost use Rattle.run_model.specs.State.{State, starting, start};
+ghost use Rattle.kernel_model.specs.Start.{ImagesFit, kept_of};
+ghost use Rattle.run_model.specs.State.{State, start};
 ghost use Rattle.run_model.specs.Wanted.{locked};
 ghost use Rattle.run_model.specs.After.{after};
 ghost use Rattle.run_laws.specs.Running.{IsRun, CanRun};
-ghost use Rattle.flat_state.specs.Change.{apply_writes};
-ghost use Rattle.kernel_model.specs.Unit.{proc_of, u_bytes};
-ghost use Rattle.run_laws.specs.Machine.{place_in, written_step, taken_step, EndsStep, process_step, ran_step, unit_step, unit_image, IsGiven, StandsAt, Makes, IsNote, Completes, Next};
+ghost use Rattle.run_laws.specs.Machine.{process_step, ran_step, unit_step, unit_image, IsGiven, StandsAt, Makes, IsNote, Completes, Next};
 ghost use Rattle.run_laws.specs.Images.{AllFlat, HasSwapped};
-ghost use Rattle.flat_state.specs.Journal.{appended};
-ghost use Rattle.run_model.specs.Swapped.{image_behind, swapped_from, swapped};
+ghost use Rattle.run_model.specs.Swapped.{image_behind, swapped_from};
+ghost use Rattle.run_laws.specs.Bytes.{StartStands, UnitStands, DoneStands, LeavingFillsUPage, ComingReadsUPage, WrittenIsCoupled, TakenIsCoupled};
+ghost use Rattle.run_laws.specs.Agreeing.{JournalSaysImage, RunHasSwapped, PuttingOutFalls, ReadsAreFlat};
 
 /// A machine with its bytes along a whole run. At the start it stands at the run's start, whatever its frames hold and
 /// whatever is in the swap image; behind each next unit it stands at the next state, with that state's placement,
 /// holdings and journal, with one owner of each frame and block, and coupled to the flat state; and so behind each
 /// list of next units. No unit stops it.
 pub fn machines_stand()
-    ensures start { (A : Inputs) (hs : Holdings) (frames : List (List ℕ)) (image : List ℕ) → CanRun A hs → length frames ≡ A.frames
-        → 512 * A.swap_blocks ≤ length image → StandsAt A (start A hs) (start_kernel A (starting A.images A.first) hs frames) image }
-    ensures unit { (A : Inputs) (s : State) (k : Kernel) (image : List ℕ) (read : List (List ℕ)) (u : Entry) → Next A s k image u
-        → IsGiven A s k image read u → StandsAt A (after A s u) (unit_step A s k image read u) (unit_image k image u) }
+    ensures start { StartStands }
+    ensures unit { UnitStands }
     ensures units { (A : Inputs) (us : List Entry) (s t : State) (k l : Kernel) (image behind : List ℕ) → ImagesFit A.images → IsRun A s
         → StandsAt A s k image → Makes A s k image us t l behind → StandsAt A t l behind }
     ensures follows { (A : Inputs) (us : List Entry) (s t : State) (k l : Kernel) (image behind : List ℕ) → Makes A s k image us t l behind
@@ -73,24 +59,17 @@ pub fn machine_units()
         → StandsAt A (after A s (entries.Hands n)) (plain_step k (locked A s) (entries.Hands n)) image }
     ensures put { (A : Inputs) (s : State) (k : Kernel) (image : List ℕ) (q : Page) (n : ℕ) → Next A s k image (entries.Put q n)
         → StandsAt A (after A s (entries.Put q n)) (push_step k q n) image }
-    ensures done { (A : Inputs) (s : State) (k : Kernel) (image : List ℕ) (read : List (List ℕ)) → Next A s k image entries.Done
-        → AreRead (beside_kernel k A.images image s.point.flat) k.place.transfers read
-        → StandsAt A (after A s entries.Done) (done_step k read) (image_after k image) }
-    ensures out { (A : Inputs) (s : State) (k : Kernel) (image : List ℕ) (pid : ℕ) (p : Proc) → Next A s k image (entries.SwapOut pid)
-        → proc_of k pid ≡ Some p → AreRegs p.regs
-        → StandsAt A (after A s (entries.SwapOut pid)) (out_step k pid) (store_at image (block_in k.holdings (owners.U pid) 0) (u_bytes k (Some p))) }
-    ensures comes { (A : Inputs) (s : State) (k : Kernel) (image : List ℕ) (pid : ℕ) → Next A s k image (entries.SwapIn pid)
-        → StandsAt A (after A s (entries.SwapIn pid)) (in_step k pid (regs_in (stored_at image (block_in k.holdings (owners.U pid) 0)))) image }
+    ensures done { DoneStands }
+    ensures out { LeavingFillsUPage }
+    ensures comes { ComingReadsUPage }
     ensures note { (A : Inputs) (s : State) (k : Kernel) (image : List ℕ) (u : Entry) → Next A s k image u → IsNote u
         → StandsAt A (after A s u) (note_step k u) image }
     ensures ran { (A : Inputs) (s : State) (k : Kernel) (image : List ℕ) (pid n : ℕ) → Next A s k image (entries.Ran pid n)
         → StandsAt A (after A s (entries.Ran pid n)) (ran_step A s k pid n) image }
     ensures step { (A : Inputs) (s : State) (k : Kernel) (image : List ℕ) (pid : ℕ) (u : Entry) → Next A s k image u → Completes pid u
         → StandsAt A (after A s u) (process_step A s k pid u) image }
-    ensures written { (A : Inputs) (s : State) (k : Kernel) (image : List ℕ) (pid : ℕ) (u : Entry) → Next A s k image u → EndsStep pid u
-        → Coupled (written_step A s k pid) A.images image (apply_writes s.point.flat pid (step_at A s.point pid).writes) }
-    ensures taken { (A : Inputs) (s : State) (k : Kernel) (image : List ℕ) (pid : ℕ) (u : Entry) → Next A s k image u → EndsStep pid u
-        → Coupled (taken_step A s k pid) A.images image (apply_writes s.point.flat pid (step_at A s.point pid).writes) }
+    ensures written { WrittenIsCoupled }
+    ensures taken { TakenIsCoupled }
 {}
 
 /// The swap image of a machine along a run is the one that the run's units say: what is in flight to swap has its flat
@@ -103,12 +82,9 @@ pub fn images_agree()
         → unit_image k image u ≡ image_behind A s u image }
     ensures units { (A : Inputs) (us : List Entry) (s t : State) (k l : Kernel) (image behind : List ℕ) → ImagesFit A.images → IsRun A s
         → StandsAt A s k image → Makes A s k image us t l behind → behind ≡ swapped_from A s us image }
-    ensures journal { (A : Inputs) (hs : Holdings) (us journal : List Entry) (t : State) (image : List ℕ) → CanRun A hs
-        → Follows A (start A hs) us t → appended [] us ≡ journal → swapped_from A (start A hs) us image ≡ swapped A journal image }
+    ensures journal { JournalSaysImage }
     ensures there { (A : Inputs) (s : State) (k : Kernel) (image : List ℕ) → StandsAt A s k image → HasSwapped A s image }
-    ensures run { (A : Inputs) (hs : Holdings) (us journal : List Entry) (t : State) (image : List ℕ) → CanRun A hs → AllImages A.images
-        → length A.first + 1 + A.limit < 2 ^ 32 → Follows A (start A hs) us t → appended [] us ≡ journal
-        → 512 * A.swap_blocks ≤ length image → HasSwapped A t (swapped A journal image) }
+    ensures run { RunHasSwapped }
 {}
 
 /// At most 4,096 pages of data and 512 of stack in each space, and at most 64 processes: at the start, behind each step of
@@ -136,9 +112,7 @@ pub fn inputs_fit()
 pub fn residents_stand()
     ensures each { (A : Inputs) (s : State) (pid : ℕ) → IsRun A s → lives (map kept_of s.point.flat.processes) pid ≡ true
         → IsResident s.place pid }
-    ensures falls { (A : Inputs) (s : State) (u : Entry) (pid : ℕ) → IsRun A s → s.mark ≡ marks.PutOut pid
-        → next_unit A s ≡ Some u
-        → put_rank (after A s u).place pid (space_of_process (process_of s.point.flat pid)) < put_rank s.place pid (space_of_process (process_of s.point.flat pid)) }
+    ensures falls { PuttingOutFalls }
     ensures whole { (A : Inputs) (s : State) (pid at : ℕ) → IsRun A s → s.mark ≡ marks.PutOut pid
         → EndsPuttingOut at s.place pid (space_of_process (process_of s.point.flat pid)) }
 {}
@@ -156,8 +130,5 @@ pub fn registers_stand()
 /// What a process reads in the flat machine is what the frames hold: a byte of a page that is valid, of text, data or stack,
 /// is the byte at its place in the page's frame, whatever the files and the swap image are.
 pub fn reads_are_flat()
-    ensures { (A : Inputs) (s : State) (k : Kernel) (image : List ℕ) (pid : ℕ) (q : Process) (x : Space) (spot : AnySpot) (v : Page) (f : ℕ)
-        → IsRun A s → StandsAt A s k image → process_of s.point.flat pid ≡ Some q → q.holding ≡ Holds x
-        → page_read x spot ≡ Some v → state_of k.place v ≡ Valid f
-        → byte_at x spot ≡ reads.Is (slice_index (frame_bytes k f) (place_in spot)) }
+    ensures { ReadsAreFlat }
 {}
