@@ -2,3 +2,4 @@ pub mod Spans
 pub mod Worth
 pub mod Stretch
 pub mod Finishes
+pub mod Short

@@ -1,25 +1,21 @@
-ghost use Rattle.std.specs.Prelude.{◌≡◌, ℕ, ◌+◌, ◌*◌, ◌<◌, ◌≤◌, Bool, true, List, [], ◌∷◌, ◌++◌, length, Some};
+ghost use Rattle.std.specs.Prelude.{◌≡◌, ℕ, ◌+◌, ◌<◌, ◌≤◌, Bool, true, List, ◌++◌, length};
 ghost use Rattle.swap_book.specs.Holdings.{Holdings};
 ghost use Rattle.vm_facts.specs.declared.page.Page.{Page};
 ghost use Rattle.vm_facts.specs.declared.entry.Entry.{Entry};
 ghost use Rattle.flat_state.specs.Flat.{Inputs};
 ghost use Rattle.flat_state.specs.Journal.{appended};
-ghost use Rattle.page_model.specs.Pages.{is_valid};
-ghost use Rattle.flat_state.specs.PageNames.{is_among};
-ghost use Rattle.page_model.specs.Placement.{Placement, state_of, IsThere};
+ghost use Rattle.page_model.specs.Placement.{Placement, IsThere};
 ghost use Rattle.page_model.specs.Serve.{Forces, Serves};
 ghost use Rattle.page_model.specs.Rank.{HandsStand, HasRoom};
 ghost use Rattle.page_model.specs.Ownership.{OwnsFrames};
 ghost use Rattle.run_model.specs.State.{State, start};
-ghost use Rattle.run_model.specs.After.{after};
 ghost use Rattle.kernel_model.specs.Start.{ImagesFit};
-ghost use Rattle.run_model.specs.Next.{next_unit};
 ghost use Rattle.run_model.specs.Lawful.{Follows, Reaches, IsFinished};
 ghost use Rattle.run_laws.specs.Running.{IsRun, CanRun};
 ghost use Rattle.economy_laws.specs.Finishes.{Finishes};
 ghost use Rattle.economy_laws.specs.Spans.{ends_moving, added, takings, moves_of};
-ghost use Rattle.economy_laws.specs.Worth.{stored_pages, renews, Happens};
-ghost use Rattle.economy_laws.specs.Stretch.{begins_stretch, NoneBegins, copies_of, IsClosing, turns_of, NoneCounts, ready_count};
+ghost use Rattle.economy_laws.specs.Stretch.{turns_of, NoneCounts, ready_count};
+ghost use Rattle.economy_laws.specs.Short.{ServingAddsFew, ServingLeavesFlights, WritesAreWorthIt, StretchAddsFew, StretchAddsFewer, StretchTakesFew};
 
 /// Units lengthen a journal by no more than `added` says, and those of two parts by no more than both.
 pub fn entries_added()
@@ -43,12 +39,10 @@ pub fn forcing_is_short()
 /// come, and one of them at most takes frames for the page; where the page is valid at its end, no more transfers
 /// are in flight than at its start; and it makes no more moves of the hands than there are frames.
 pub fn serving_is_short()
-    ensures few { (p r : Placement) (locked : List Page) (q : Page) (now : Bool) (journal us : List Entry) → OwnsFrames p → IsThere p q
-        → Serves us p locked q now r → length (appended journal us) + length r.transfers ≤ length journal + length p.transfers + 5 }
+    ensures few { ServingAddsFew }
     ensures takings { (p r : Placement) (locked : List Page) (q : Page) (now : Bool) (us : List Entry) → OwnsFrames p → IsThere p q
         → Serves us p locked q now r → takings us ≤ 1 }
-    ensures flights { (p r : Placement) (locked : List Page) (q : Page) (now : Bool) (us : List Entry) → OwnsFrames p → IsThere p q
-        → Serves us p locked q now r → is_valid (state_of r q) ≡ true → length r.transfers ≤ length p.transfers }
+    ensures flights { ServingLeavesFlights }
     ensures moves { (p r : Placement) (locked : List Page) (q : Page) (now : Bool) (us : List Entry) → OwnsFrames p → HandsStand p
         → HasRoom p locked → IsThere p q → Serves us p locked q now r → moves_of us ≤ length p.holds }
 {}
@@ -56,22 +50,15 @@ pub fn serving_is_short()
 /// No page is written to swap twice for nothing: between two writes of a data or stack page the user writes it, or it is
 /// filled by `Zero`, `Copy` or the image; and between two writes of a text page its image's text pieces were given back.
 pub fn writes_are_worth_it()
-    ensures { (A : Inputs) (s t : State) (u w : Entry) (us : List Entry) (q : Page) → ImagesFit A.images → IsRun A s
-        → Follows A s (u ∷ us) t → next_unit A t ≡ Some w → is_among q (stored_pages s.place u) ≡ true
-        → is_among q (stored_pages t.place w) ≡ true → Happens (λ B x e. renews B x e q) A (after A s u) us }
+    ensures { WritesAreWorthIt }
 {}
 
 /// A stretch of the closing phase, from a turn or a counted instruction up to the next of either or to the end, has few
 /// entries: at most 512, and 16 for each copy; and at most 33 fills with zeros and reads, and one read for each copy.
 pub fn stretches_are_short()
-    ensures entries { (A : Inputs) (s t : State) (u : Entry) (us journal : List Entry) (pid : ℕ) → ImagesFit A.images → IsRun A s
-        → Follows A s (u ∷ us) t → begins_stretch u ≡ true → IsClosing A (after A s u) pid → NoneBegins us
-        → length (appended journal (u ∷ us)) ≤ length journal + 512 + 16 * copies_of us }
-    ensures tight { (A : Inputs) (s t : State) (u : Entry) (us journal : List Entry) (pid : ℕ) → ImagesFit A.images → IsRun A s
-        → Follows A s (u ∷ us) t → begins_stretch u ≡ true → IsClosing A (after A s u) pid → NoneBegins us
-        → length (appended journal (u ∷ us)) ≤ length journal + 219 + 8 * copies_of us }
-    ensures takings { (A : Inputs) (s t : State) (u : Entry) (us : List Entry) (pid : ℕ) → ImagesFit A.images → IsRun A s
-        → Follows A s (u ∷ us) t → begins_stretch u ≡ true → IsClosing A (after A s u) pid → NoneBegins us → takings us ≤ 33 + copies_of us }
+    ensures entries { StretchAddsFew }
+    ensures tight { StretchAddsFewer }
+    ensures takings { StretchTakesFew }
 {}
 
 /// In the closing phase no more turns in a row count no instruction than there are processes that can step. There are
