@@ -4,13 +4,12 @@ ghost use Rattle.std.specs.Prelude.{◌≡◌, ℕ, ◌+◌, ◌-◌, ◌<◌, �
 ghost use Rattle.core_map.specs.declared.slot.Slot.{Slot};
 ghost use Rattle.flat_state.specs.PageNames.{number_of, beside, same_page, is_among};
 ghost use Rattle.space_map.specs.Space.{place_in};
-ghost use Rattle.page_model.specs.Placement.{Placement, state_of, is_dirty};
+ghost use Rattle.page_model.specs.Placement.{Placement};
 ghost use Rattle.page_model.specs.Pages.{is_on_swap, is_unfilled, is_valid};
-ghost use Rattle.page_model.specs.Runs.{chunk_of, is_seated_by, goes_along, passing_above, passing_below, run_both, run_up};
-ghost use Rattle.page_model.specs.Hands.{expire};
+ghost use Rattle.page_model.specs.Runs.{chunk_of, is_seated_by, passing_above, passing_below, run_both, run_up};
 ghost use Rattle.table_view.specs.Shown.{state_shown, ShowsMark};
-ghost use Rattle.kluster_io.specs.Front.{Expires, is_front};
-ghost use Rattle.kluster_io.specs.Joining.{joins, IsShownBy};
+ghost use Rattle.kluster_io.specs.Front.{is_front};
+ghost use Rattle.kluster_io.specs.Joining.{joins, IsShownBy, SaysTaken};
 
 use core_map::{CoreMap, Whose};
 use space_map::SpaceMap;
@@ -148,9 +147,7 @@ fn may_take(page: Page, place: Place, locked: &[Page], front: Option<Page>) -> b
 
 // Whether the back hand takes a page along: it is dirty in a frame off the free list, and may be taken.
 fn is_taken(core: &CoreMap, page: Page, place: Place, locked: &[Page], front: Option<Page>) -> bool
-    ensures { (p : Placement) → p.free ≡ core.now.free → state_of p page ≡ state_shown core.now.slots place
-        → ShowsMark core.now.slots place (is_dirty p page) → Expires p locked.now front
-        → result ≡ goes_along (expire p locked.now) locked.now page }
+    ensures { SaysTaken core.now.free core.now.slots page place locked.now front result }
 {
     let _frames = core.frames();
     is_dirty_seat(core, place) && may_take(page, place, locked, front)
