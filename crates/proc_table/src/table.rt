@@ -101,6 +101,7 @@ impl ProcTable {
         ensures records { IsTrue result → Changes self.old self.new p.pid (Some p) }
         ensures absent { result ≡ false → self.new ≡ self.old }
         ensures count { length self.new ≡ length self.old }
+        ensures sound { IsTable self.new }
     {
         let Some(key) = key_of(&self.records, p.pid) else {
             return false;
