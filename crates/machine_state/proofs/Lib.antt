@@ -51,4 +51,5 @@ pub mod Copying
 pub mod Puttings
 pub mod MovesOn
 pub mod Joins
+pub mod Instructions
 pub mod Hands

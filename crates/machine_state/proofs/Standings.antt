@@ -1,8 +1,10 @@
 -- What holds of a machine beside its kernel is kept by its steps.
-use Rattle.std.proofs.Common.{◌≡◌, inl, inr, ℕ, ◌+◌, ◌-◌, ◌<◌, ◌≤◌, Bool, false, List, [], ◌∷◌, ◌++◌, length, map, take, Option, refl, sym, ap, ◌∙◌, subst, arith}
+use Rattle.std.proofs.Common.{◌≡◌, inl, inr, ℕ, ◌+◌, ◌-◌, ◌<◌, ◌≤◌, Bool, false, List, [], ◌∷◌, ◌++◌, length, map, take, Option, Some, None, Vec, refl, sym, ap, ◌∙◌, subst, arith}
 use Rattle.std.proofs.lemmas.Bool.{cases_eq}
 use Rattle.std.proofs.lemmas.List.{length-append}
+use Rattle.std.specs.Vec.{vec_len, vec_capacity}
 use Rattle.vm_facts.specs.declared.entry.Entry.{Entry}
+use Rattle.machine_state.specs.Joined.{instructions_in, last_says}
 use Rattle.vm_facts.specs.declared.page.Page.{Page}
 use Rattle.vm_facts.specs.declared.page.Page.TheVariants.{Data, Stack, Text}
 use Rattle.vm_facts.specs.declared.params.Params.{Params}
@@ -25,7 +27,7 @@ use Rattle.machine_state.specs.Sourced.{ImageNamed, IsRangeOf, named_at, IsSourc
 use Rattle.machine_state.specs.View.{source_shown}
 use Rattle.machine_state.specs.Machine.{Standing, Runs, Stands, WereFound, lists_of, kernel_by, images_of, image_at, image_shown, before_of}
 use Rattle.machine_state.specs.Alike.{AreBorrowed}
-use Rattle.machine_state.specs.Fields.{standing_of, RunsNow, RunsInside}
+use Rattle.machine_state.specs.Fields.{standing_of, HasRoom, RunsNow, RunsInside}
 use Rattle.machine_state.proofs.Entries.{Head, head_of}
 use Rattle.machine_state.proofs.Shows.{hit, miss}
 
@@ -41,6 +43,15 @@ stands_now m s h e r = h (ap (λ (x : Standing). x.kernel.stopped) e ∙ r)
 
 pub whole_now : (m : Inside) (s : Standing) → standing_of m ≡ s → s.before ≡ s.kernel.holdings → before_of m.tables ≡ m.tables.book.holdings
 whole_now m s e w = ap (λ (x : Standing). x.before) e ∙ w ∙ sym (ap (λ (x : Standing). x.kernel.holdings) e)
+
+-- no room was made for an instruction
+pub no_room : {A : Type 0} (room : Option ℕ) (journal : Vec Entry A) (limit : ℕ) → room ≡ None → HasRoom room journal limit
+no_room None journal limit e = tt
+no_room (Some pid) journal limit e = absurd cc
+
+-- room was made for an instruction of a process
+pub room_of : (m : Inside) (pid : ℕ) → RunsNow m → m.room ≡ Some pid → last_says (instructions_in pid) m.journal.items ≡ None → (length m.journal.items < m.tables.params.journal) × (vec_len m.journal < vec_capacity m.journal)
+room_of m pid n e = subst (λ (o : Option ℕ). HasRoom o m.journal m.tables.params.journal) e n.room
 
 -- what no step but those of processes changes
 pub record Still (t w : Tables) : Type 0 where

@@ -1,6 +1,9 @@
 -- What the calls ask, and what they leave where the machine stops.
 use Rattle.std.specs.Prelude.{◌≡◌, ◌≢◌, ℕ, ◌+◌, ◌<◌, ◌≤◌, ◌^◌, true, List, length}
 use Rattle.flat_state.specs.Flat.{FlatState, NamedImage}
+use Rattle.vm_facts.specs.declared.regs.Regs.{Regs}
+use Rattle.flat_state.specs.Change.{apply_change}
+use Rattle.flat_state.specs.declared.change.Change.{Change}
 use Rattle.vm_facts.specs.declared.page.Page.{Page}
 use Rattle.vm_facts.specs.declared.page.PageState.TheVariants.{Unfilled, Invalid}
 use Rattle.page_model.specs.Pages.{Zeros}
@@ -62,3 +65,7 @@ pub record CanReclaim (p : Placement) (q : Page) : Type 0 where
 -- every page has the same bytes in its frame and on swap
 abbrev pub SameEverywhere : Kernel → Kernel → Type 0
 SameEverywhere old new = (images : List NamedImage) (image : List ℕ) (flat : FlatState) (w : Page) → SamePage old.place new.place (beside_kernel old images image flat) (beside_kernel new images image flat) w
+
+-- whatever the images and the swap image, the machine stands for what a change makes of the flat states that it stood for
+abbrev pub ChangesFlat : Kernel → Kernel → ℕ → Regs → Change → Type 0
+ChangesFlat old new pid regs change = (images : List NamedImage) (image : List ℕ) (flat : FlatState) → Coupled old images image flat → Coupled new images image (apply_change images flat pid regs change)

@@ -1,5 +1,8 @@
 -- A machine by its fields.
-use Rattle.std.specs.Prelude.{◌≡◌, false, None}
+use Rattle.std.specs.Prelude.{◌≡◌, ℕ, ◌<◌, false, length, Option, Some, None, Vec}
+use Rattle.std.specs.Vec.{vec_capacity, vec_len}
+use Rattle.vm_facts.specs.declared.entry.Entry.{Entry}
+use Rattle.machine_state.specs.Joined.{instructions_in, last_says}
 use Rattle.machine_state.specs.declared.machine.Machine.TheInside.{Inside}
 use Rattle.machine_state.specs.Machine.{Standing, Stands, images_of, before_of, kernel_by}
 
@@ -12,11 +15,18 @@ standing_of m = record {
   room = m.room;
 }
 
+-- where the journal has room for one more instruction of a process, the instruction joins the last entry, or it has room
+-- for an entry
+abbrev pub HasRoom : {A : Type 0} → Option ℕ → Vec Entry A → ℕ → Type 0
+HasRoom None journal limit = Unit {0}
+HasRoom (Some pid) journal limit = last_says (instructions_in pid) journal.items ≡ None → (length journal.items < limit) × (vec_len journal < vec_capacity journal)
+
 -- what holds of a machine that hasn't stopped
 pub record RunsNow (m : Inside) : Type 0 where
   pub stands : Stands m.tables m.journal.items m.stopped
   -- no transfer failed
   pub none_lost : m.lost ≡ None
+  pub room : HasRoom m.room m.journal m.tables.params.journal
 
 abbrev pub RunsInside : Inside → Type 0
 RunsInside m = m.stopped ≡ false → RunsNow m

@@ -1,5 +1,5 @@
 -- The last entry of the journal, where a further unit of its kind joins it.
-use Rattle.std.specs.Prelude.{ℕ, List, [], ◌∷◌, Option, Some, None}
+use Rattle.std.specs.Prelude.{ℕ, ◌==◌, cond, List, [], ◌∷◌, Option, Some, None}
 use Rattle.vm_facts.specs.declared.entry.Entry.{Entry}
 use Rattle.vm_facts.specs.declared.entry.Entry.TheVariants as entries
 
@@ -7,6 +7,11 @@ use Rattle.vm_facts.specs.declared.entry.Entry.TheVariants as entries
 abbrev pub moves_in : Entry → Option ℕ
 moves_in (entries.Hands count) = Some count
 moves_in _ = None
+
+-- how many instructions of a process an entry counts, where it counts such
+abbrev pub instructions_in : ℕ → Entry → Option ℕ
+instructions_in pid (entries.Ran other count) = cond (other == pid) (Some count) None
+instructions_in pid _ = None
 
 -- what the last entry says
 abbrev pub last_says : (Entry → Option ℕ) → List Entry → Option ℕ

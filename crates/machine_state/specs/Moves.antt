@@ -20,6 +20,9 @@ use Rattle.vax_pte.specs.declared.Place.TheVariants as places
 use Rattle.frame_state.specs.Frame.{Frame}
 use Rattle.core_map.specs.declared.slot.Slot.TheVariants as tokens
 use Rattle.core_map.specs.Slots.{slot_at, page_of, with_byte, with_dirty}
+use Rattle.vm_facts.specs.declared.regs.Regs.{Regs}
+use Rattle.proc_table.specs.declared.process.Proc.{Proc as Record}
+use Rattle.proc_table.specs.Records.{find, Changes, IsTable as AreRecords}
 use Rattle.machine_state.specs.declared.tables.Tables.{Tables}
 use Rattle.machine_state.specs.Shown.{placed}
 use Rattle.vm_facts.specs.Lists.{without}
@@ -134,3 +137,12 @@ pub record LandedAll (t u : Tables) (was : Lists) : Type 0 where
   pub tied : Tied (lists_of u)
   pub images : (sid : ℕ) → image_at u sid ≡ image_at t sid
   pub rest : u ≡ record t { core = u.core; spaces = u.spaces; texts = u.texts }
+
+-- a process's record has other registers
+pub record LeftRegs (t u : Tables) (pid : ℕ) (regs : Regs) : Type 0 where
+  pub was : Record
+  pub there : find pid t.processes ≡ Some was
+  pub changes : Changes t.processes u.processes pid (Some (record was { regs = regs }))
+  pub sound : AreRecords t.processes
+  pub still_sound : AreRecords u.processes
+  pub rest : u ≡ record t { processes = u.processes }

@@ -1,12 +1,18 @@
 //! Entries that move no page.
-ghost use Rattle.std.specs.Prelude.{◌≡◌, ◌⊎◌, ◌≤◌, ◌↔◌, false, length, None, IfOk, OnOk, OnErr, Ok, Err};
+ghost use Rattle.std.specs.Prelude.{◌≡◌, ◌⊎◌, ℕ, ◌+◌, ◌<◌, ◌≤◌, ◌↔◌, ◌^◌, ◌∷◌, ◌++◌, [], List, false, length, Some, None, IfOk, OnOk, OnErr, Ok, Err};
+ghost use Rattle.vm_facts.specs.declared.entry.Entry.{Entry as Line};
+ghost use Rattle.vm_facts.specs.declared.entry.Entry.TheVariants.{Ran};
+ghost use Rattle.flat_state.specs.Journal.{append};
+ghost use Rattle.flat_state.specs.declared.change.Change.TheVariants.{Keep};
 ghost use Rattle.kernel_model.specs.Kernel.{note_step};
+ghost use Rattle.kernel_model.specs.ChangeStep.{ran_by};
 ghost use Rattle.machine_state.specs.Calls.{IsNote};
-ghost use Rattle.machine_state.specs.Conditions.{HasStopped, KeepsFlat, SameEverywhere};
+ghost use Rattle.machine_state.specs.Conditions.{HasStopped, KeepsFlat, ChangesFlat, SameEverywhere};
+ghost use Rattle.machine_state.specs.UserMemory.{CanLend};
 
 use crate::machine::Machine;
-use crate::notes;
-use vm_facts::{Entry, NoMemory, Stop};
+use crate::{joining, notes};
+use vm_facts::{Entry, NoMemory, Regs, Stop};
 
 impl Machine {
     /// What a caller made, or the machine stops for want of memory.
@@ -40,5 +46,40 @@ impl Machine {
         )?;
         self.journal.push_reserved(e);
         Ok(())
+    }
+
+    /// Makes room for one more instruction of a process, and appends no entry.
+    pub fn room(&mut self, pid: u32) -> Result<(), Stop>
+        requires running { self.old.kernel.stopped ≡ false }
+        ensures ok { OnOk result (self.new ≡ record self.old { room = Some pid }) }
+        ensures stop { OnErr result (HasStopped self.old self.new) }
+        ensures cause { OnErr result ((result ≡ Err Stop.JournalFull) ⊎ (result ≡ Err Stop.NoMemory)) }
+        ensures full { (result ≡ Err Stop.JournalFull) ↔ ((self.old.params.journal ≤ length self.old.kernel.journal) × (length self.old.kernel.journal < length (append self.old.kernel.journal (Ran pid 1)))) }
+    {
+        joining::make_room_to_run(
+            &mut self.journal,
+            &mut self.stopped,
+            &mut self.room,
+            self.tables.params.journal,
+            pid,
+        )?;
+        self.room = Some(pid);
+        Ok(())
+    }
+
+    /// The step of `Ran`: one more instruction of a process is counted, which leaves these registers. Its writes were
+    /// made before.
+    pub fn ran(&mut self, pid: u32, regs: &Regs)
+        requires running { self.old.kernel.stopped ≡ false }
+        requires can { CanLend self.old.kernel pid }
+        requires room { self.old.room ≡ Some pid }
+        requires fits { (count : ℕ) (before : List Line) → self.old.kernel.journal ≡ before ++ Ran pid count ∷ [] → count + 1 < 2 ^ 32 }
+        ensures step { self.new.kernel ≡ ran_by self.old.kernel pid regs.now (Ran pid 1) }
+        ensures rest { self.new ≡ record self.old { kernel = self.new.kernel; room = None } }
+        ensures keeps { ChangesFlat self.old.kernel self.new.kernel pid regs.now Keep }
+    {
+        self.room = None;
+        self.tables.set_regs(pid, regs);
+        joining::add_instruction(&mut self.journal, pid);
     }
 }

@@ -1,9 +1,9 @@
 //! Units of one kind, one after another, which the journal counts in one entry.
 ghost use Rattle.std.specs.Prelude.{◌≡◌, ◌⊎◌, ℕ, ◌+◌, ◌<◌, ◌≤◌, ◌↔◌, ◌^◌, true, length, Some, None, OnOk, OnErr, Err};
 ghost use Rattle.std.specs.Vec.{vec_capacity, vec_len};
-ghost use Rattle.vm_facts.specs.declared.entry.Entry.TheVariants.{Hands};
+ghost use Rattle.vm_facts.specs.declared.entry.Entry.TheVariants.{Hands, Ran};
 ghost use Rattle.flat_state.specs.Journal.{append};
-ghost use Rattle.machine_state.specs.Joined.{moves_in, last_says};
+ghost use Rattle.machine_state.specs.Joined.{moves_in, instructions_in, last_says};
 
 use crate::notes;
 use vm_facts::{Entry, Stop};
@@ -59,5 +59,63 @@ pub(crate) fn add_move(journal: &mut Vec<Entry>)
             journal[last] = Entry::Hands { count: count + 1 };
         }
         None => journal.push_reserved(Entry::Hands { count: 1 }),
+    }
+}
+
+// The instructions of a process that an entry counts, where it counts such.
+fn instructions_in(e: &Entry, of: u32) -> Option<u32>
+    ensures { result ≡ instructions_in of e.now }
+{
+    match e {
+        Entry::Ran { pid, count } if *pid == of => Some(*count),
+        _ => None,
+    }
+}
+
+// The instructions of a process that the last entry counts, where it counts such.
+fn last_instructions(journal: &[Entry], pid: u32) -> Option<u32>
+    ensures { result ≡ last_says (instructions_in pid) journal.now }
+{
+    instructions_in(journal.last()?, pid)
+}
+
+/// Room for one more instruction of a process, which a last entry that counts its instructions has.
+pub(crate) fn make_room_to_run(
+    journal: &mut Vec<Entry>,
+    stopped: &mut bool,
+    room: &mut Option<u32>,
+    limit: u32,
+    pid: u32,
+) -> Result<(), Stop>
+    ensures same { journal.new.items ≡ journal.old.items }
+    ensures ok { OnOk result (stopped.new ≡ stopped.old) }
+    ensures has_room { OnOk result (last_says (instructions_in pid) journal.old.items ≡ None → (length journal.old.items < limit) × (vec_len journal.new < vec_capacity journal.new)) }
+    ensures room { room.new ≡ None }
+    ensures err { OnErr result (stopped.new ≡ true) }
+    ensures full { (result ≡ Err Stop.JournalFull) ↔ ((limit ≤ length journal.old.items) × (length journal.old.items < length (append journal.old.items (Ran pid 1)))) }
+    ensures cause { OnErr result ((result ≡ Err Stop.JournalFull) ⊎ (result ≡ Err Stop.NoMemory)) }
+{
+    if last_instructions(journal.as_slice(), pid).is_some() {
+        *room = None;
+        return Ok(());
+    }
+    notes::make_room(journal, stopped, room, limit)
+}
+
+/// Counts one more instruction of a process, for which there is room.
+pub(crate) fn add_instruction(journal: &mut Vec<Entry>, pid: u32)
+    requires fits { (count : ℕ) → last_says (instructions_in pid) journal.old.items ≡ Some count → count + 1 < 2 ^ 32 }
+    requires room { last_says (instructions_in pid) journal.old.items ≡ None → vec_len journal.old < vec_capacity journal.old }
+    ensures { journal.new.items ≡ append journal.old.items (Ran pid 1) }
+{
+    match last_instructions(journal.as_slice(), pid) {
+        Some(count) => {
+            let last = journal.len() - 1;
+            journal[last] = Entry::Ran {
+                pid,
+                count: count + 1,
+            };
+        }
+        None => journal.push_reserved(Entry::Ran { pid, count: 1 }),
     }
 }

@@ -10,7 +10,7 @@ fn a_machine_begins_takes_a_note_and_ends(rt: HostRuntime) -> Result<(), Fail> {
         frames: 64,
         swap_blocks: 256,
         limit: 1,
-        journal: 1,
+        journal: 2,
     };
     let mut machine = Machine::new(rt.alloc(), params, Vec::new(rt.alloc())).expect(
         &rt,
@@ -19,6 +19,7 @@ fn a_machine_begins_takes_a_note_and_ends(rt: HostRuntime) -> Result<(), Fail> {
     machine
         .note(Entry::Turn { pid: 1 })
         .expect(&rt, "room for an entry");
+    machine.room(1).expect(&rt, "room for an instruction");
     let seen = (machine.journal().len(), machine.free_frames());
     let hands = machine.hands();
     machine.end();

@@ -12,7 +12,7 @@ use Rattle.machine_state.specs.Machine.{Standing, Runs, lists_of, kernel_by, ima
 use Rattle.machine_state.specs.Sourced.{IsFlightSourced, AreSourced}
 use Rattle.machine_state.specs.Conditions.{CanBringIn, KeepsFlat, SameOutside}
 use Rattle.machine_state.proofs.Knows.{known_of}
-use Rattle.machine_state.proofs.Standings.{running, stands_now, whole_now, Still, stands_on, rest_of, pushed, sourced_more}
+use Rattle.machine_state.proofs.Standings.{no_room, running, stands_now, whole_now, Still, stands_on, rest_of, pushed, sourced_more}
 use Rattle.machine_state.proofs.Sources.{run_sources}
 use Rattle.machine_state.proofs.Gets.{get_kernel, get_runs, get_keeps, get_same}
 use Rattle.machine_state.proofs.machine.Machine.begin_get.Goals as goal
@@ -52,6 +52,7 @@ invariant_of-self-2 c _ =
           (sourced_more (images_of t) (image_at t) (before_of t) t.book.size t.ring c.read_run.ensures.flight now.stands.ring own))
           c.read_run.ensures.images (pushed c.self.inside.journal.items c.make_room.new.journal.items c.push_reserved.new.self.items _ t.params.journal c.make_room.ensures.same c.push_reserved.ensures.items c.in_ok-make_room.ensures.ok.1);
       none_lost = now.none_lost;
+      room = no_room _ _ _ c.make_room.ensures.room;
     }
 
 pub returns-clause-rest : goal.returns-clause-rest

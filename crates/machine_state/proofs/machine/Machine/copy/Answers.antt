@@ -17,7 +17,7 @@ use Rattle.machine_state.proofs.Evicts.{head_below}
 use Rattle.machine_state.proofs.Knows.{known_of, texts_here, not_held}
 use Rattle.machine_state.proofs.Residing.{Resides, seat_resides}
 use Rattle.machine_state.proofs.Copying.{Copying, copying_rest, copy_ties, copy_kernel, copy_runs, copy_keeps, copy_same}
-use Rattle.machine_state.proofs.Standings.{running, stands_now, whole_now, Still, stands_same, rest_of, pushed}
+use Rattle.machine_state.proofs.Standings.{no_room, running, stands_now, whole_now, Still, stands_same, rest_of, pushed}
 use Rattle.machine_state.proofs.machine.Machine.copy.Goals as goal
 
 pub copy_frame-copy-requires-clause-frame : goal.copy_frame-copy-requires-clause-frame
@@ -86,6 +86,7 @@ invariant_of-self-2 c _ =
           c.make_room.new.journal.items c.make_room.new.stopped r can z c.make_room.ensures.same c.in_ok-make_room.ensures.ok.0))
           (ap (λ (x : Tables). x.ring) e2) ties.heads (pushed c.self.inside.journal.items c.make_room.new.journal.items c.push_reserved.new.self.items _ c.self.inside.tables.params.journal c.make_room.ensures.same c.push_reserved.ensures.items c.in_ok-make_room.ensures.ok.1);
       none_lost = now.none_lost;
+      room = no_room _ _ _ c.make_room.ensures.room;
     }
 
 pub returns-clause-rest : goal.returns-clause-rest

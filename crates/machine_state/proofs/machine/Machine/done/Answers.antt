@@ -14,7 +14,7 @@ use Rattle.machine_state.specs.Sourced.{AreSourced}
 use Rattle.machine_state.specs.Files.{AreFiles, AreImages}
 use Rattle.machine_state.specs.Machine.{Standing, lists_of, kernel_by, image_at, images_of, before_of}
 use Rattle.machine_state.proofs.Knows.{known_of}
-use Rattle.machine_state.proofs.Standings.{running, stands_now, whole_now, Still, stands_on, pushed}
+use Rattle.machine_state.proofs.Standings.{no_room, running, stands_now, whole_now, Still, stands_on, pushed}
 use Rattle.machine_state.proofs.Reaches.{reachable}
 use Rattle.machine_state.proofs.Dones.{Came, came, done_back, was_lists, back_known, Doing, done_kernel, done_runs, Before, head_sourced, rest_sourced, done_image, spoiled_image, done_keeps}
 use Rattle.machine_state.proofs.machine.Machine.done.Goals as goal
@@ -71,6 +71,7 @@ invariant_of-self-in-Done g c _ =
           d.all.images
           (pushed c.self.inside.journal.items c.make_room.new.journal.items c.push_reserved.new.self.items _ t.params.journal c.make_room.ensures.same c.push_reserved.ensures.items c.in_ok-make_room.ensures.ok.1);
       none_lost = now.none_lost;
+      room = no_room _ _ _ c.make_room.ensures.room;
     }
 
 pub returns-in-Done-clause-step : goal.returns-in-Done-clause-step

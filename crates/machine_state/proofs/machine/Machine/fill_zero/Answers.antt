@@ -12,7 +12,7 @@ use Rattle.machine_state.proofs.Knows.{known_of, texts_here, not_held}
 use Rattle.machine_state.proofs.Zeros.{Zeroing}
 use Rattle.machine_state.proofs.ZeroKeeps.{zero_keeps, zero_same}
 use Rattle.machine_state.proofs.Kernels.{zeroing_rest, zero_ties, zero_kernel, zero_runs}
-use Rattle.machine_state.proofs.Standings.{running, stands_now, whole_now, Still, stands_same, rest_of, pushed}
+use Rattle.machine_state.proofs.Standings.{no_room, running, stands_now, whole_now, Still, stands_same, rest_of, pushed}
 use Rattle.machine_state.proofs.machine.Machine.fill_zero.Goals as goal
 
 pub take_frame-token-requires-clause-texts : goal.take_frame-token-requires-clause-texts
@@ -54,6 +54,7 @@ invariant_of-self-2 c _ =
           c.make_room.new.journal.items c.make_room.new.stopped r can z c.make_room.ensures.same c.in_ok-make_room.ensures.ok.0))
           (ap (λ (x : Tables). x.ring) e) ties.heads (pushed c.self.inside.journal.items c.make_room.new.journal.items c.push_reserved.new.self.items _ c.self.inside.tables.params.journal c.make_room.ensures.same c.push_reserved.ensures.items c.in_ok-make_room.ensures.ok.1);
       none_lost = now.none_lost;
+      room = no_room _ _ _ c.make_room.ensures.room;
     }
 
 pub returns-clause-rest : goal.returns-clause-rest

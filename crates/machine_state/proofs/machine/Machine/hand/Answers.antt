@@ -1,4 +1,4 @@
-use Rattle.std.proofs.Common.{◌≡◌, List, refl, sym, ap, ◌∙◌, subst}
+use Rattle.std.proofs.Common.{ℕ, ◌≡◌, List, refl, sym, ap, ◌∙◌, subst}
 use Rattle.vm_facts.specs.declared.entry.Entry.{Entry}
 use Rattle.vm_facts.specs.declared.entry.Entry.TheVariants as entries
 use Rattle.flat_state.specs.Journal.{append}
@@ -16,9 +16,9 @@ use Rattle.machine_state.specs.Joined.{moves_in, last_says}
 use Rattle.machine_state.proofs.Knows.{known_of}
 use Rattle.machine_state.proofs.Puttings.{all_blocks}
 use Rattle.machine_state.proofs.Hands.{hands_low, hand_few, hand_keeps, hand_alike}
-use Rattle.machine_state.proofs.Joins.{last_is, joined_within}
+use Rattle.machine_state.proofs.Joins.{moves_kind, last_is, joined_within}
 use Rattle.machine_state.proofs.MovesOn.{Moving, moved_still, moving_kernel, moving_stands}
-use Rattle.machine_state.proofs.Standings.{running, stands_now, whole_now, rest_of}
+use Rattle.machine_state.proofs.Standings.{no_room, running, stands_now, whole_now, rest_of}
 use Rattle.machine_state.proofs.machine.Machine.hand.Goals as goal
 
 pub move_hands-requires-clause-known : goal.move_hands-requires-clause-known
@@ -58,7 +58,7 @@ move_hands-requires-clause-blocks c =
 
 pub add_move-requires-clause-fits : goal.add_move-requires-clause-fits
 add_move-requires-clause-fits c count h =
-    let l = last_is c.self.inside.journal.items count (sym (ap (last_says moves_in) c.make_room_to_move.ensures.same) ∙ h) in
+    let l = last_is moves_in (λ (count : ℕ). entries.Hands count) moves_kind c.self.inside.journal.items count (sym (ap (last_says moves_in) c.make_room_to_move.ensures.same) ∙ h) in
     c.requires.fits count l.0 (sym (ap (λ (s : Standing). s.kernel.journal) c.self.view_is) ∙ l.1)
 
 pub invariant_of-self-2 : goal.invariant_of-self-2
@@ -85,8 +85,9 @@ invariant_of-self-2 c _ =
     let whole = whole_now c.self.inside c.args.self.now c.self.view_is c.requires.whole in
     record {
       stands = moving_stands c.self.inside c.move_hands.new.self p c.args.locked.now (entries.Hands 1) c.add_move.new.journal.items c.or_stop.new.stopped g now.stands whole ej es
-          (joined_within c.self.inside.journal.items c.add_move.new.journal.items t.params.journal ej now.stands.within (λ h. (c.in_ok-make_room_to_move.ensures.has_room h).0));
+          (joined_within moves_in (λ (count : ℕ). entries.Hands count) moves_kind c.self.inside.journal.items c.add_move.new.journal.items t.params.journal ej now.stands.within (λ h. (c.in_ok-make_room_to_move.ensures.has_room h).0));
       none_lost = now.none_lost;
+      room = no_room _ _ _ c.make_room_to_move.ensures.room;
     }
 
 pub returns-clause-rest : goal.returns-clause-rest

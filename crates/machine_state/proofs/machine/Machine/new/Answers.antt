@@ -36,6 +36,7 @@ invariant_of-result c _ =
     record {
       stands = new_stands t c.new-8.result.items n.holdings n.ring c.new-8.ensures.items (ap (λ (b : Book). b.size) c.in_ok-book.ensures) c.in_ok-processes.ensures runs;
       none_lost = refl;
+      room = tt;
     }
 
 pub returns : goal.returns

@@ -17,7 +17,7 @@ use Rattle.machine_state.proofs.Knows.{known_of}
 use Rattle.machine_state.proofs.Dirty.{dirty_is}
 use Rattle.machine_state.proofs.Puttings.{push_is, push_seat, push_there, push_may, push_few, push_keeps, push_alike, all_blocks}
 use Rattle.machine_state.proofs.MovesOn.{Moving, moved_still, moving_kernel, moving_stands}
-use Rattle.machine_state.proofs.Standings.{running, stands_now, whole_now, rest_of, pushed}
+use Rattle.machine_state.proofs.Standings.{no_room, running, stands_now, whole_now, rest_of, pushed}
 use Rattle.machine_state.proofs.machine.Machine.push.Goals as goal
 
 pub put_out-requires-clause-known : goal.put_out-requires-clause-known
@@ -69,6 +69,7 @@ invariant_of-self-2 c _ =
       stands = moving_stands c.self.inside c.put_out.new.self p [] (entries.Put c.args.lo c.args.n) c.push_reserved.new.self.items c.or_stop.new.stopped g now.stands whole ej es
           (pushed c.self.inside.journal.items c.make_room.new.journal.items c.push_reserved.new.self.items _ t.params.journal c.make_room.ensures.same c.push_reserved.ensures.items c.in_ok-make_room.ensures.ok.1);
       none_lost = now.none_lost;
+      room = no_room _ _ _ c.make_room.ensures.room;
     }
 
 pub returns-clause-rest : goal.returns-clause-rest

@@ -17,7 +17,7 @@ use Rattle.machine_state.specs.Moves.{RevivedPage}
 use Rattle.machine_state.specs.Conditions.{CanReclaim, KeepsFlat, SameEverywhere}
 use Rattle.machine_state.proofs.Knows.{known_of, text_low}
 use Rattle.machine_state.proofs.Entries.{head_of, placed_heads}
-use Rattle.machine_state.proofs.Standings.{running, stands_now, whole_now, Still, stands_same, rest_of, pushed}
+use Rattle.machine_state.proofs.Standings.{no_room, running, stands_now, whole_now, Still, stands_same, rest_of, pushed}
 use Rattle.machine_state.proofs.Revives.{below_held}
 use Rattle.machine_state.proofs.Evicts.{held_above}
 use Rattle.machine_state.proofs.Reclaims.{InvalidEntry, invalid_entry, Reclaiming, reclaim_kernel, reclaim_runs, reclaim_keeps, reclaim_alike}
@@ -94,6 +94,7 @@ invariant_of-self-2 c _ =
           (reclaim_runs c.self.inside c.revive.new.self c.args.page can.frame c.make_room.new.journal.items c.make_room.new.stopped r can.shared g c.make_room.ensures.same c.in_ok-make_room.ensures.ok.0))
           (ap (λ (x : Tables). x.ring) e) (ap (map head_of) v.spaces ∙ placed_heads t.spaces c.args.page (Frame can.frame true (dirty_shown t.spaces t.texts c.args.page))) (pushed c.self.inside.journal.items c.make_room.new.journal.items c.push_reserved.new.self.items _ c.self.inside.tables.params.journal c.make_room.ensures.same c.push_reserved.ensures.items c.in_ok-make_room.ensures.ok.1);
       none_lost = now.none_lost;
+      room = no_room _ _ _ c.make_room.ensures.room;
     }
 
 pub returns-clause-rest : goal.returns-clause-rest

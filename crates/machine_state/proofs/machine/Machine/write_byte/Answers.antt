@@ -7,6 +7,7 @@ use Rattle.kernel_model.specs.Kernel.{write_step}
 use Rattle.machine_state.specs.declared.tables.Tables.{Tables}
 use Rattle.machine_state.specs.View.{placement_of}
 use Rattle.machine_state.specs.Known.{Known}
+use Rattle.machine_state.specs.Fields.{HasRoom}
 use Rattle.machine_state.specs.Machine.{Standing, lists_of}
 use Rattle.machine_state.specs.UserMemory.{IsOwnPage, AreWhole}
 use Rattle.machine_state.proofs.Standings.{stands_now}
@@ -65,7 +66,7 @@ invariant_of-self c _ =
     let k : Known (lists_of t) = known_by t c.self.inside.journal.items c.self.inside.stopped c.frames-frames.ensures.sound now.stands in
     let valid : state_of (placement_of (lists_of t)) c.args.page ≡ Valid c.args.frame = subst (λ (s : Standing). state_of s.kernel.place c.args.page ≡ Valid c.args.frame) (sym c.self.view_is) c.requires.valid in
     let w : Writing t c.write_byte.new.self c.args.page c.args.frame c.args.at c.args.byte = record { known = k; valid = valid; writable = c.requires.writable; wrote = c.write_byte.ensures } in
-    record { stands = write_stands t c.write_byte.new.self c.args.page c.args.frame c.args.at c.args.byte c.self.inside.journal.items c.self.inside.stopped now.stands w; none_lost = now.none_lost }
+    record { stands = write_stands t c.write_byte.new.self c.args.page c.args.frame c.args.at c.args.byte c.self.inside.journal.items c.self.inside.stopped now.stands w; none_lost = now.none_lost; room = subst (λ (x : Tables). HasRoom c.self.inside.room c.self.inside.journal x.params.journal) (sym c.write_byte.ensures.rest) now.room }
 
 pub returns-clause-step : goal.returns-clause-step
 returns-clause-step c =
