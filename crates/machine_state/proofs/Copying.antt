@@ -121,7 +121,8 @@ copy_place t u v w token copy q parent f others z =
     ∙ ap (λ (ds : List Due). record (fill (placement_of (lists_of t)) q) { due = ds }) (due_next t.fills.items q parent others z.due)
 
 -- the bytes of the parent's page
-copied_is : (t : Tables) (journal : List Entry) (stopped : Bool) (q parent : Page) (f : ℕ) (others : List Due) → Known (lists_of t) → state_of (placement_of (lists_of t)) parent ≡ Valid f → map due_shown t.fills.items ≡ CopyOf q parent ∷ others
+copied_is : (t : Tables) (journal : List Entry) (stopped : Bool) (q parent : Page) (f : ℕ) (others : List Due) → Known (lists_of t) → state_of (placement_of (lists_of t)) parent ≡ Valid f
+    → map due_shown t.fills.items ≡ CopyOf q parent ∷ others
     → copied_bytes (kernel_by t journal stopped) (due_at (map due_shown t.fills.items) q) ≡ (token_of (slot_at t.core.slots f)).bytes
 copied_is t journal stopped q parent f others known valid due =
     let k : Kernel = kernel_by t journal stopped in

@@ -241,6 +241,7 @@ write_bytes (x ∷ xs) t pre post e a o =
       write_bytes xs t (pre ++ y ∷ []) post (e ∙ sym (append_assoc pre (y ∷ []) ys)) a.1 o,
     )
 
-pub written_bytes : (t : Tables) (xs : List Outbound) (o : Flight) → flown_in o ≡ map outbound_flown xs → flying (map (moving (transfer_shown o).errand) (transfer_shown o).parts) ≡ map flown_number (map outbound_flown xs) → Known (ending t o) → AreBytes (frames_of (ending t o)) xs
+pub written_bytes : (t : Tables) (xs : List Outbound) (o : Flight) → flown_in o ≡ map outbound_flown xs
+    → flying (map (moving (transfer_shown o).errand) (transfer_shown o).parts) ≡ map flown_number (map outbound_flown xs) → Known (ending t o) → AreBytes (frames_of (ending t o)) xs
 written_bytes t xs o e n k =
     write_bytes xs (ending t o) [] (flown t.ring) (ap (λ (fs : List Flown). fs ++ flown t.ring) e) (subst (AllFly (ending t o)) n (first_fly t o k)) (flown_once (ending t o) k)

@@ -107,7 +107,8 @@ sweep_at p locked q f h b e z =
     ap (sweep_of p locked p.back) h ∙ ap (λ (s : PageState). sweep_to p locked q s (times p.back p.free) (is_among q locked)) e
     ∙ ap (λ (n : ℕ). sweep_to p locked q (Invalid f) n (is_among q locked)) z ∙ ap (sweep_to p locked q (Invalid f) zero) b
 
-write_at : (p : Placement) (locked : List Page) (q : Page) (f : ℕ) → page_of p p.back ≡ Some q → is_among q locked ≡ false → state_of p q ≡ Invalid f → times p.back p.free ≡ 0 → write_of p locked p.back (page_of p p.back) ≡ write_by p locked q (is_dirty p q)
+write_at : (p : Placement) (locked : List Page) (q : Page) (f : ℕ) → page_of p p.back ≡ Some q → is_among q locked ≡ false → state_of p q ≡ Invalid f → times p.back p.free ≡ 0
+    → write_of p locked p.back (page_of p p.back) ≡ write_by p locked q (is_dirty p q)
 write_at p locked q f h b e z =
     ap (write_of p locked p.back) h ∙ ap (λ (s : PageState). write_to p locked q s (times p.back p.free) (is_among q locked)) e
     ∙ ap (λ (n : ℕ). write_to p locked q (Invalid f) n (is_among q locked)) z ∙ ap (write_to p locked q (Invalid f) zero) b

@@ -33,7 +33,8 @@ use Rattle.machine_state.proofs.Zeros.{Zeroing, zeroed, zeroing_lists, zero_plac
 use Rattle.machine_state.proofs.Likes.{placed_alike, evicted_alike, placed_filled, evicted_filled, frame_fits}
 use Rattle.machine_state.proofs.Kept.{Ties, tied_still, still_there, evicted_there, evicted_heads, whole_rest, once_rest, left_due}
 
-pub kernel_ext : (a b : Kernel) → a.place ≡ b.place → a.holdings ≡ b.holdings → a.processes ≡ b.processes → a.next_pid ≡ b.next_pid → a.next_sid ≡ b.next_sid → a.starts ≡ b.starts → a.frames ≡ b.frames → a.journal ≡ b.journal → a.stopped ≡ b.stopped → a ≡ b
+pub kernel_ext : (a b : Kernel) → a.place ≡ b.place → a.holdings ≡ b.holdings → a.processes ≡ b.processes → a.next_pid ≡ b.next_pid → a.next_sid ≡ b.next_sid → a.starts ≡ b.starts
+    → a.frames ≡ b.frames → a.journal ≡ b.journal → a.stopped ≡ b.stopped → a ≡ b
 kernel_ext a b e1 e2 e3 e4 e5 e6 e7 e8 e9 =
     ap (λ (x : Placement). record a { place = x }) e1
     ∙ ap (λ (x : Holdings). record a { place = b.place; holdings = x }) e2

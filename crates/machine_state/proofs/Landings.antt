@@ -135,7 +135,8 @@ landed_by : (t u : Tables) (e : Errand) (xs : List Part) (q : Page) (token : Fra
     → closing u e xs fs ≡ landed (closing t e (record { page = q; frame = token.number } ∷ xs) (record { page = q; token = token } ∷ fs)) q token.number x place free texts (record { errand = e; parts = xs } ∷ map transfer_shown t.ring) (fs ++ flown t.ring)
     → turn (placement_of (closing t e (record { page = q; frame = token.number } ∷ xs) (record { page = q; token = token } ∷ fs))) q s m free (record { errand = e; parts = xs } ∷ map transfer_shown t.ring)
     ≡ land (placement_of (closing t e (record { page = q; frame = token.number } ∷ xs) (record { page = q; token = token } ∷ fs))) e (record { page = q; frame = token.number }) (record { errand = e; parts = xs } ∷ map transfer_shown t.ring)
-    → IsSound u.core.free u.core.slots → u ≡ record t { core = u.core; spaces = u.spaces; texts = u.texts } → map head_of u.spaces ≡ map head_of t.spaces → Landed t u e (record { page = q; frame = token.number }) xs (record { page = q; token = token }) fs
+    → IsSound u.core.free u.core.slots → u ≡ record t { core = u.core; spaces = u.spaces; texts = u.texts } → map head_of u.spaces ≡ map head_of t.spaces
+    → Landed t u e (record { page = q; frame = token.number }) xs (record { page = q; token = token }) fs
 landed_by t u e xs q token fs x place texts free s m l is turns core rest heads =
     let f : ℕ = token.number in
     let part : Part = record { page = q; frame = f } in
@@ -255,7 +256,8 @@ rest_lands t u b demanded xs q token fs same k s core =
     core (rest_texts t u s.rest) (ap (map head_of) s.spaces ∙ placed_heads t.spaces q (places.Frame f false false))
 
 pub read_lands : (t u : Tables) (b : Bool) (demanded : Page) (xs : List Part) (q : Page) (token : Frame) (fs : List Flown)
-    → Known (closing t (Reads (source_by b) demanded) (record { page = q; frame = token.number } ∷ xs) (record { page = q; token = token } ∷ fs)) → LandedIn (same_page q demanded) t u token q (arrives_dirty t.texts q b) → IsSound u.core.free u.core.slots
+    → Known (closing t (Reads (source_by b) demanded) (record { page = q; frame = token.number } ∷ xs) (record { page = q; token = token } ∷ fs))
+    → LandedIn (same_page q demanded) t u token q (arrives_dirty t.texts q b) → IsSound u.core.free u.core.slots
     → Landed t u (Reads (source_by b) demanded) (record { page = q; frame = token.number }) xs (record { page = q; token = token }) fs
 read_lands t u b demanded xs q token fs k l core = go (same_page q demanded) refl l
   where
@@ -336,7 +338,8 @@ may_write t xs rest x e k = may_land t Writes (map out_part rest) x.page x.token
 
 -- The loops.
 
-pub reads_step : (t u : Tables) (b : Bool) (demanded : Page) (xs rest : List Inbound) (x : Inbound) → xs ≡ x ∷ rest → Known (closing_in t b demanded xs) → LandedIn (same_page x.page demanded) t u x.token x.page (arrives_dirty t.texts x.page b) → IsSound u.core.free u.core.slots
+pub reads_step : (t u : Tables) (b : Bool) (demanded : Page) (xs rest : List Inbound) (x : Inbound) → xs ≡ x ∷ rest → Known (closing_in t b demanded xs)
+    → LandedIn (same_page x.page demanded) t u x.token x.page (arrives_dirty t.texts x.page b) → IsSound u.core.free u.core.slots
     → Landed t u (Reads (source_by b) demanded) (in_part x) (map in_part rest) (inbound_flown x) (map inbound_flown rest)
 reads_step t u b demanded xs rest x e k l core =
     read_lands t u b demanded (map in_part rest) x.page x.token (map inbound_flown rest) (subst (λ (ys : List Inbound). Known (closing_in t b demanded ys)) e k) l core

@@ -59,7 +59,8 @@ held_by (tokens.Free token page) q o e = e
 held_by (tokens.Resident token page dirty) q o e = e
 held_by tokens.Away q o e = none_some q e
 
-pub land_is : (t : Lists) (q : Page) (f : ℕ) (token : Frame) (rest : List Flown) (x : Token) (place : Place) (texts : List SharedText) (s : PageState) (m : Bool) (free : List ℕ) (ts : List Transfer) → Landing t q f token rest x place texts s m
+pub land_is : (t : Lists) (q : Page) (f : ℕ) (token : Frame) (rest : List Flown) (x : Token) (place : Place) (texts : List SharedText) (s : PageState) (m : Bool) (free : List ℕ) (ts : List Transfer)
+    → Landing t q f token rest x place texts s m
     → placement_of (landed t q f x place free texts ts rest) ≡ turn (placement_of t) q s m free ts
 land_is t q f token rest x place texts s m free ts l =
     let p : Placement = placement_of t in
@@ -92,7 +93,8 @@ land_is t q f token rest x place texts s m free ts l =
     refl refl refl refl refl refl
 
 -- The bytes of the frames stay.
-pub land_frames : (t : Lists) (q : Page) (f : ℕ) (token : Frame) (rest : List Flown) (x : Token) (place : Place) (texts : List SharedText) (s : PageState) (m : Bool) (free : List ℕ) (ts : List Transfer) → Landing t q f token rest x place texts s m
+pub land_frames : (t : Lists) (q : Page) (f : ℕ) (token : Frame) (rest : List Flown) (x : Token) (place : Place) (texts : List SharedText) (s : PageState) (m : Bool) (free : List ℕ) (ts : List Transfer)
+    → Landing t q f token rest x place texts s m
     → frames_of (landed t q f x place free texts ts rest) ≡ frames_of t
 land_frames t q f token rest x place texts s m free ts l =
     let n : Lists = landed t q f x place free texts ts rest in

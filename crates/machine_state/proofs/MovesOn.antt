@@ -89,7 +89,8 @@ added_sources : (ns : List ImageNamed) (f : ℕ → ℕ) (hs : Holdings) (size :
 added_sources ns f hs size old new book (inl e) h = subst (AreSourced ns f hs size) (sym e) h
 added_sources ns f hs size old new book (inr a) h = subst (AreSourced ns f hs size) (sym a.1) (sourced_more ns f hs size old a.0 h (own_flight ns f hs size a.0 book a.2))
 
-pub moving_stands : (m : Inside) (u : Tables) (p : Placement) (locked : List Page) (e : Entry) (journal : List Entry) (stopped : Bool) → Moving m u p locked e → Stands m.tables m.journal.items m.stopped → before_of m.tables ≡ m.tables.book.holdings
+pub moving_stands : (m : Inside) (u : Tables) (p : Placement) (locked : List Page) (e : Entry) (journal : List Entry) (stopped : Bool) → Moving m u p locked e
+    → Stands m.tables m.journal.items m.stopped → before_of m.tables ≡ m.tables.book.holdings
     → journal ≡ append m.journal.items e → stopped ≡ m.stopped → length journal ≤ m.tables.params.journal → Stands u journal stopped
 moving_stands m u p locked e journal stopped g stands whole ej es within =
     let t : Tables = m.tables in

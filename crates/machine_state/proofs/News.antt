@@ -238,7 +238,8 @@ new_before t e = ap (λ (hs : Holdings). take (length hs - t.found) hs) e ∙ no
     none zero = refl
     none (suc n) = refl
 
-pub new_stands : (t : Tables) (journal : List Entry) → t.book.holdings ≡ [] → t.ring ≡ [] → journal ≡ [] → t.book.size ≡ t.params.swap_blocks → t.processes ≡ [] → Runs (kernel_by t journal false) (lists_of t) t.book.size → Stands t journal false
+pub new_stands : (t : Tables) (journal : List Entry) → t.book.holdings ≡ [] → t.ring ≡ [] → journal ≡ [] → t.book.size ≡ t.params.swap_blocks → t.processes ≡ []
+    → Runs (kernel_by t journal false) (lists_of t) t.book.size → Stands t journal false
 unfolding place_all
 new_stands t journal hs ring none size processes r =
     let same : t.book.holdings ≡ before_of t = hs ∙ sym (new_before t hs) in

@@ -54,7 +54,8 @@ opened_step t u xs s q c x b =
     ∙ ap (λ (fs : List Flown). record (next_lists t u xs s q x) { flown = fs })
     (ap (λ (fs : List Flown). flown t.ring ++ fs) (map-append inbound_flown xs (x ∷ [])) ∙ sym (append_assoc (flown t.ring) (map inbound_flown xs) (y ∷ [])))
 
-pub brought_head : (t u : Tables) (xs : List Inbound) (s : Source) (q : Page) (b : Bool) (x : Inbound) → BroughtPage t u x.page b x → Head (opened t xs s q) x.token.number x.token (token_page (slot_at t.core.slots x.token.number)) u.core.free
+pub brought_head : (t u : Tables) (xs : List Inbound) (s : Source) (q : Page) (b : Bool) (x : Inbound) → BroughtPage t u x.page b x
+    → Head (opened t xs s q) x.token.number x.token (token_page (slot_at t.core.slots x.token.number)) u.core.free
 brought_head t u xs s q c x b = record { free = b.free; was = b.was }
 
 -- What one page more gives, where a run of these pages may take frames.
@@ -63,7 +64,8 @@ pub record Brings (t u : Tables) (xs : List Inbound) (s : Source) (q : Page) (x 
   pub frames : frames_of (opened u (xs ++ x ∷ []) s q) ≡ frames_of (opened t xs s q)
   pub may : MayBring (opened u (xs ++ x ∷ []) s q) q (lo + 1) m
 
-pub brings : (t u : Tables) (xs : List Inbound) (s : Source) (q : Page) (b : Bool) (x : Inbound) (lo m : ℕ) → x.page ≡ beside q lo → BroughtPage t u x.page b x → IsSound u.core.free u.core.slots → MayBring (opened t xs s q) q lo (suc m) → Brings t u xs s q x lo m
+pub brings : (t u : Tables) (xs : List Inbound) (s : Source) (q : Page) (b : Bool) (x : Inbound) (lo m : ℕ) → x.page ≡ beside q lo → BroughtPage t u x.page b x → IsSound u.core.free u.core.slots
+    → MayBring (opened t xs s q) q lo (suc m) → Brings t u xs s q x lo m
 brings t u xs s q c x lo m is b core may =
     let l : Lists = opened t xs s q in
     let e : Errand = Reads s q in

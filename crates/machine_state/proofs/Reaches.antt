@@ -60,7 +60,8 @@ range_there n files text v id offset count f r =
       subst (λ (x : ℕ). offset + count ≤ length (bytes_at files x)) (sym r.file) (omega arith),
     )
 
-some_range : (ns : List ImageNamed) (files : List NamedFile) (i : ℕ) (text : Bool) (v id offset count : ℕ) (o : Option ImageNamed) → HaveFiles ns files → named_at ns i ≡ o → IsRangeOf o text v id offset count → HasRange (Some files) id offset count
+some_range : (ns : List ImageNamed) (files : List NamedFile) (i : ℕ) (text : Bool) (v id offset count : ℕ) (o : Option ImageNamed) → HaveFiles ns files → named_at ns i ≡ o
+    → IsRangeOf o text v id offset count → HasRange (Some files) id offset count
 some_range ns files i text v id offset count None h e r = absurd r
 some_range ns files i text v id offset count (Some n) h e r = range_there n files text v id offset count (named_file ns files i n h e) r
 
@@ -77,7 +78,8 @@ source_there : (ns : List ImageNamed) (f : ℕ → ℕ) (hs : Holdings) (size bl
 source_there ns f hs size blocks holds q (froms.Swap block) l h s = block_there size blocks block l s.place
 source_there ns f hs size blocks holds q (froms.File id offset count) l h s = page_range ns f holds q id offset count h s
 
-parts_there : (ns : List ImageNamed) (f : ℕ → ℕ) (hs : Holdings) (size blocks : ℕ) (holds : Option (List NamedFile)) (s : Source) (xs : List Inbound) → size ≤ blocks → AreFiles ns holds → AreSourcedIn ns f hs size s xs → AreThere holds blocks xs
+parts_there : (ns : List ImageNamed) (f : ℕ → ℕ) (hs : Holdings) (size blocks : ℕ) (holds : Option (List NamedFile)) (s : Source) (xs : List Inbound) → size ≤ blocks → AreFiles ns holds
+    → AreSourcedIn ns f hs size s xs → AreThere holds blocks xs
 parts_there ns f hs size blocks holds s [] l h a = tt
 parts_there ns f hs size blocks holds s (x ∷ xs) l h a = (source_there ns f hs size blocks holds x.page x.source l h a.1, parts_there ns f hs size blocks holds s xs l h a.2)
 

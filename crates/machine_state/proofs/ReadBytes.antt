@@ -66,7 +66,8 @@ loaded_at (m ∷ ms) files [] i n h e = absurd h
 loaded_at (m ∷ ms) files (x ∷ xs) zero n h e = let same : m ≡ n = cc in (x, refl, subst (λ (y : ImageNamed). x.image ≡ loaded y.facts (bytes_at files y.file)) same h.0)
 loaded_at (m ∷ ms) files (x ∷ xs) (suc i) n h e = loaded_at ms files xs i n h.1 e
 
-text_read : (ns : List ImageNamed) (files : List NamedFile) (images : List NamedImage) (i v id offset count : ℕ) (bytes : List ℕ) (o : Option ImageNamed) → HaveFiles ns files → AreLoaded ns files images → named_at ns i ≡ o → IsRangeOf o true v id offset count → length bytes ≡ 1024
+text_read : (ns : List ImageNamed) (files : List NamedFile) (images : List NamedImage) (i v id offset count : ℕ) (bytes : List ℕ) (o : Option ImageNamed) → HaveFiles ns files
+    → AreLoaded ns files images → named_at ns i ≡ o → IsRangeOf o true v id offset count → length bytes ≡ 1024
     → HoldsRange (Some files) id offset (take count bytes) → drop count bytes ≡ replicate (1024 - count) 0 → bytes ≡ page_at v (text_of (image_numbered images i))
 text_read ns files images i v id offset count bytes None f l e r w h z = absurd r
 text_read ns files images zero v id offset count bytes (Some n) f l e r w h z = absurd cc
@@ -75,7 +76,8 @@ text_read ns files images (suc i) v id offset count bytes (Some n) f l e r w h z
     range_read n files true v id offset count bytes (file_at ns files i n f e) r w h z
     ∙ ap (λ (y : Loaded). page_at v y.text) (sym x.2) ∙ sym (ap (λ (y : Option NamedImage). page_at v (text_of y)) x.1)
 
-data_read : (ns : List ImageNamed) (files : List NamedFile) (images : List NamedImage) (i v id offset count : ℕ) (bytes : List ℕ) (o : Option ImageNamed) → HaveFiles ns files → AreLoaded ns files images → named_at ns i ≡ o → IsRangeOf o false v id offset count → length bytes ≡ 1024
+data_read : (ns : List ImageNamed) (files : List NamedFile) (images : List NamedImage) (i v id offset count : ℕ) (bytes : List ℕ) (o : Option ImageNamed) → HaveFiles ns files
+    → AreLoaded ns files images → named_at ns i ≡ o → IsRangeOf o false v id offset count → length bytes ≡ 1024
     → HoldsRange (Some files) id offset (take count bytes) → drop count bytes ≡ replicate (1024 - count) 0 → bytes ≡ page_at v (data_of (image_numbered images i))
 data_read ns files images i v id offset count bytes None f l e r w h z = absurd r
 data_read ns files images zero v id offset count bytes (Some n) f l e r w h z = absurd cc
@@ -84,7 +86,8 @@ data_read ns files images (suc i) v id offset count bytes (Some n) f l e r w h z
     range_read n files false v id offset count bytes (file_at ns files i n f e) r w h z
     ∙ ap (λ (y : Loaded). page_at v y.data) (sym x.2) ∙ sym (ap (λ (y : Option NamedImage). page_at v (data_of y)) x.1)
 
-file_read : (ns : List ImageNamed) (p : Placement) (files : List NamedFile) (images : List NamedImage) (q : Page) (id offset count : ℕ) (bytes : List ℕ) → HaveFiles ns files → AreLoaded ns files images → IsPageRange ns (image_of p) q id offset count → length bytes ≡ 1024
+file_read : (ns : List ImageNamed) (p : Placement) (files : List NamedFile) (images : List NamedImage) (q : Page) (id offset count : ℕ) (bytes : List ℕ) → HaveFiles ns files
+    → AreLoaded ns files images → IsPageRange ns (image_of p) q id offset count → length bytes ≡ 1024
     → HoldsRange (Some files) id offset (take count bytes) → drop count bytes ≡ replicate (1024 - count) 0 → bytes ≡ file_of images p q
 file_read ns p files images (Data sid v) id offset count bytes f l r w h z = data_read ns files images (image_of p sid) v id offset count bytes (named_at ns (image_of p sid)) f l refl r w h z
 file_read ns p files images (Stack sid v) id offset count bytes f l r w h z = absurd r
@@ -113,7 +116,8 @@ pages_read ns k size holds images image flat s (x ∷ xs) (y ∷ ys) f l r p w h
 
 -- Pages that were written.
 
-pub pages_written : (k : Kernel) (size : ℕ) (image : List ℕ) (xs : List Outbound) (new : Option (List ℕ)) → AreOwnBlocks k.holdings size xs → AreBytes k.frames xs → WritesParts xs (Some image) new → new ≡ Some (store_all k image (map out_part xs))
+pub pages_written : (k : Kernel) (size : ℕ) (image : List ℕ) (xs : List Outbound) (new : Option (List ℕ)) → AreOwnBlocks k.holdings size xs → AreBytes k.frames xs → WritesParts xs (Some image) new
+    → new ≡ Some (store_all k image (map out_part xs))
 pages_written k size image [] new o b h = h
 pages_written k size image (x ∷ xs) new o b h =
     let next : List ℕ = store_at image (block_of k.holdings x.page) (frame_bytes k x.token.number) in

@@ -145,7 +145,8 @@ revived_bytes tokens.Away q c o = refl
 below : (t : Lists) (f : ℕ) (q : Page) → token_page (slot_at t.slots f) ≡ Some q → f < length t.slots
 below t f q e = below_length t.slots f (λ n. none_some q (sym (ap token_page n) ∙ e))
 
-pub reclaim_is : (t : Lists) (q : Page) (f : ℕ) (i : InvalidEntry t q f) → Known t → state_of (placement_of t) q ≡ Invalid f → placement_of (reclaimed t q f (revived (slot_at t.slots f) q (dirty_shown t.spaces t.texts q)) (dirty_shown t.spaces t.texts q)) ≡ reclaim (placement_of t) q
+pub reclaim_is : (t : Lists) (q : Page) (f : ℕ) (i : InvalidEntry t q f) → Known t → state_of (placement_of t) q ≡ Invalid f
+    → placement_of (reclaimed t q f (revived (slot_at t.slots f) q (dirty_shown t.spaces t.texts q)) (dirty_shown t.spaces t.texts q)) ≡ reclaim (placement_of t) q
 reclaim_is t q f i k e =
     let s : Token = revived (slot_at t.slots f) q (dirty_shown t.spaces t.texts q) in
     let n : Lists = reclaimed t q f s (dirty_shown t.spaces t.texts q) in

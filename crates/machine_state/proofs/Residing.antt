@@ -157,7 +157,8 @@ seat_resides t q f k s = go (slot_at t.slots f) refl
         resides t q f token dirty k (h ∙ ap (λ (r : Page). tokens.Resident token r dirty) same)
 
 -- and the other way round
-state_by : (slots : List Token) (f : ℕ) (token : Frame) (q : Page) (dirty valid changed : Bool) → slot_at slots f ≡ tokens.Resident token q dirty → state_shown slots (places.Frame f valid changed) ≡ Rattle.std.proofs.Common.cond valid (Valid f) (Invalid f)
+state_by : (slots : List Token) (f : ℕ) (token : Frame) (q : Page) (dirty valid changed : Bool) → slot_at slots f ≡ tokens.Resident token q dirty
+    → state_shown slots (places.Frame f valid changed) ≡ Rattle.std.proofs.Common.cond valid (Valid f) (Invalid f)
 state_by slots f token q dirty true changed h = refl
 state_by slots f token q dirty false changed h = ap (λ (s : Token). idle_state f (is_away s) changed) h
 

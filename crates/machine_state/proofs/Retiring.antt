@@ -84,7 +84,8 @@ retired_lists t u q f r m =
     ∙ ap (λ (fs : List ℕ). record (lists_of t) { slots = set t.core.slots f (tokens.Free r.token (Some q)); free = fs; spaces = u.spaces }) m.free
     ∙ ap (λ (ss : List Places). record (retired (lists_of t) q f r.token) { spaces = ss }) m.spaces
 
-pub retire_moves : (t u : Tables) (q : Page) (f : ℕ) → Known (lists_of t) → Resides (lists_of t) q f → is_marked_dirty q (mark_of (placement_of (lists_of t)) q) ≡ false → RetiredPage t u q f → MovedOn t u (retire (placement_of (lists_of t)) q)
+pub retire_moves : (t u : Tables) (q : Page) (f : ℕ) → Known (lists_of t) → Resides (lists_of t) q f → is_marked_dirty q (mark_of (placement_of (lists_of t)) q) ≡ false → RetiredPage t u q f
+    → MovedOn t u (retire (placement_of (lists_of t)) q)
 retire_moves t u q f k r clean m =
     let l : Lists = lists_of t in
     let n : Lists = retired l q f r.token in
@@ -107,7 +108,8 @@ retire_moves t u q f k r clean m =
         ∙ ap (λ (n : ℕ). record t { core = u.core; spaces = u.spaces; ring = u.ring; front = u.front; back = n }) (sym (ap (λ (x : Tables). x.back) e))
 
 -- From a frame that was lifted.
-pub retired_by : (t u : Tables) (core : Frames) (token given : Frame) (q : Page) (f g : ℕ) → g ≡ f → token ≡ token_of (slot_at t.core.slots g) → token.number ≡ g → core.free ≡ t.core.free → core.slots ≡ set t.core.slots g tokens.Away → given ≡ token
+pub retired_by : (t u : Tables) (core : Frames) (token given : Frame) (q : Page) (f g : ℕ) → g ≡ f → token ≡ token_of (slot_at t.core.slots g) → token.number ≡ g → core.free ≡ t.core.free
+    → core.slots ≡ set t.core.slots g tokens.Away → given ≡ token
     → RestedPage (record t { core = core }) u given q → RetiredPage t u q f
 retired_by t u core token given q f g e is number free slots same m =
     let n : given.number ≡ f = ap (λ (x : Frame). x.number) same ∙ number ∙ e in

@@ -4,7 +4,6 @@ use Rattle.std.specs.List.{list_any}
 use Rattle.std.proofs.lemmas.Bool.{cases_eq}
 use Rattle.std.proofs.lemmas.Bool.Decides.{nat_tests}
 use Rattle.vm_facts.specs.declared.page.Page.{Page}
-use Rattle.vm_facts.specs.declared.page.Page.TheVariants.{Data, Stack, Text}
 use Rattle.aout_image.specs.declared.Image.{Image}
 use Rattle.core_map.specs.declared.slot.Slot.{Slot as Token}
 use Rattle.space_map.specs.Space.{Places}
@@ -54,16 +53,6 @@ ring_names o test (t ∷ ts) h =
     ap (λ (b : Bool). b || list_any (names_page_of o) ts) (one_names o test t h)
     ∙ ap (λ (b : Bool). names_page test (map (moving (transfer_shown t).errand) (transfer_shown t).parts) || b) (ring_names o test ts h)
     ∙ sym (names_append test (map (moving (transfer_shown t).errand) (transfer_shown t).parts) (parts_of (map transfer_shown ts)))
-
-space_test : (sid : ℕ) (q : Page) → is_page_of (whose.Space sid) q ≡ is_of_space sid q
-space_test sid (Data t v) = refl
-space_test sid (Stack t v) = refl
-space_test sid (Text i v) = refl
-
-text_test : (image : ℕ) (q : Page) → is_page_of (whose.Image image) q ≡ is_of_text image q
-text_test image (Data t v) = refl
-text_test image (Stack t v) = refl
-text_test image (Text i v) = refl
 
 -- The image of the space.
 
@@ -135,13 +124,13 @@ none_shares facts slots (s ∷ ss) h =
 pub settled_names : (t : Tables) (sid : ℕ) → list_any (names_space sid) t.ring ≡ true → is_settled (placement_of (lists_of t)) sid ≡ false
 settled_names t sid e =
     ap (λ (b : Bool). not b && not ((sharers (placement_of (lists_of t)) (image_of (placement_of (lists_of t)) sid) == 1) && names_page (is_of_text (image_of (placement_of (lists_of t)) sid)) (parts_of (map transfer_shown t.ring))))
-    (sym (ring_names (whose.Space sid) (is_of_space sid) t.ring (space_test sid)) ∙ e)
+    (sym (ring_names (whose.Space sid) (is_of_space sid) t.ring (λ q. refl)) ∙ e)
 
 settled_rest : (t : Tables) (sid : ℕ) → list_any (names_space sid) t.ring ≡ false
     → is_settled (placement_of (lists_of t)) sid ≡ not ((sharers (placement_of (lists_of t)) (image_of (placement_of (lists_of t)) sid) == 1) && names_page (is_of_text (image_of (placement_of (lists_of t)) sid)) (parts_of (map transfer_shown t.ring)))
 settled_rest t sid e =
     ap (λ (b : Bool). not b && not ((sharers (placement_of (lists_of t)) (image_of (placement_of (lists_of t)) sid) == 1) && names_page (is_of_text (image_of (placement_of (lists_of t)) sid)) (parts_of (map transfer_shown t.ring))))
-    (sym (ring_names (whose.Space sid) (is_of_space sid) t.ring (space_test sid)) ∙ e)
+    (sym (ring_names (whose.Space sid) (is_of_space sid) t.ring (λ q. refl)) ∙ e)
 
 pub settled_none : (t : Tables) (sid : ℕ) → Tied (lists_of t) → list_any (names_space sid) t.ring ≡ false → image_found t.spaces sid ≡ None → is_settled (placement_of (lists_of t)) sid ≡ true
 settled_none t sid k e m =
@@ -156,7 +145,7 @@ settled_text t sid i count k e m c =
     settled_rest t sid e
     ∙ ap (λ (j : ℕ). not ((sharers (placement_of (lists_of t)) j == 1) && names_page (is_of_text j) (parts_of (map transfer_shown t.ring)))) (found_is t.core.slots t.spaces sid ∙ ap or_zero m)
     ∙ ap (λ (n : ℕ). not ((n == 1) && names_page (is_of_text i) (parts_of (map transfer_shown t.ring)))) (sym (k.counted i r.0 r.1) ∙ sym c)
-    ∙ ap (λ (b : Bool). not ((count == 1) && b)) (sym (ring_names (whose.Image i) (is_of_text i) t.ring (text_test i)))
+    ∙ ap (λ (b : Bool). not ((count == 1) && b)) (sym (ring_names (whose.Image i) (is_of_text i) t.ring (λ q. refl)))
 
 -- with nothing in flight each space is settled
 pub settled_idle : (p : Placement) (sid : ℕ) → p.transfers ≡ [] → is_settled p sid ≡ true

@@ -244,11 +244,13 @@ sources_snoc : (xs : List Inbound) (x : Inbound) → AreSources xs → IsSource 
 sources_snoc [] x h n = (n, tt)
 sources_snoc (y ∷ ys) x h n = (h.0, sources_snoc ys x h.1 n)
 
-sourced_snoc : (ns : List ImageNamed) (f : ℕ → ℕ) (hs : Holdings) (size : ℕ) (s : Source) (xs : List Inbound) (x : Inbound) → AreSourcedIn ns f hs size s xs → source_of x.source ≡ s → IsSourced ns f hs size x.page x.source → AreSourcedIn ns f hs size s (xs ++ x ∷ [])
+sourced_snoc : (ns : List ImageNamed) (f : ℕ → ℕ) (hs : Holdings) (size : ℕ) (s : Source) (xs : List Inbound) (x : Inbound) → AreSourcedIn ns f hs size s xs → source_of x.source ≡ s
+    → IsSourced ns f hs size x.page x.source → AreSourcedIn ns f hs size s (xs ++ x ∷ [])
 sourced_snoc ns f hs size s [] x h k n = (k, n, tt)
 sourced_snoc ns f hs size s (y ∷ ys) x h k n = (h.0, h.1, sourced_snoc ns f hs size s ys x h.2 k n)
 
-pub from_snoc : (t : Tables) (b : Bool) (xs : List Inbound) (x : Inbound) → AreFrom t b xs → source_of x.source ≡ source_by b → IsSource x.source → IsSourced (images_of t) (image_at t) t.book.holdings t.book.size x.page x.source → AreFrom t b (xs ++ x ∷ [])
+pub from_snoc : (t : Tables) (b : Bool) (xs : List Inbound) (x : Inbound) → AreFrom t b xs → source_of x.source ≡ source_by b → IsSource x.source
+    → IsSourced (images_of t) (image_at t) t.book.holdings t.book.size x.page x.source → AreFrom t b (xs ++ x ∷ [])
 from_snoc t b xs x h k r n = record {
   ranges = sources_snoc xs x h.ranges r;
   sourced = sourced_snoc (images_of t) (image_at t) t.book.holdings t.book.size (source_by b) xs x h.sourced k n;

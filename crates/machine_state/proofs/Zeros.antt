@@ -101,7 +101,8 @@ zeroing_lists t u v w token filling q z =
     ∙ ap (λ (ds : List DueFill). record (lists_of v) { fills = drop 1 ds }) (ap (λ (x : Tables). x.fills.items) z.seat.rest ∙ ap (λ (x : Tables). x.fills.items) z.took.rest)
     ∙ ap (λ (l : Lists). record l { fills = drop 1 t.fills.items }) (seated_lists u v filling q true z.seat ∙ ap (λ (l : Lists). seated l filling q true) (took_lists t u token z.took))
 
-pub zero_place : (t : Lists) (f : ℕ) (token filling : Frame) (page : Option Page) (rest : List ℕ) (q : Page) → Known t → Head t f token page rest → filling.number ≡ f → IsWritable q → IsThere (placement_of t) q → IsFirstStart (map due_shown t.fills) q
+pub zero_place : (t : Lists) (f : ℕ) (token filling : Frame) (page : Option Page) (rest : List ℕ) (q : Page) → Known t → Head t f token page rest → filling.number ≡ f → IsWritable q
+    → IsThere (placement_of t) q → IsFirstStart (map due_shown t.fills) q
     → placement_of (zeroed t f page rest filling q) ≡ filled (placement_of t) q
 zero_place t f token filling page rest q k h n w there first =
     let u : Lists = taken t f page rest in
@@ -109,7 +110,8 @@ zero_place t f token filling page rest q k h n w there first =
     ap (λ (p : Placement). record p { due = map due_shown (drop 1 t.fills) }) (fill_is t u filling q took w there refl)
     ∙ ap (λ (ds : List Due). record (fill (placement_of t) q) { due = ds }) (due_first t.fills q first)
 
-pub zero_frames : (t : Lists) (f : ℕ) (token filling : Frame) (page : Option Page) (rest : List ℕ) (q : Page) → Known t → Head t f token page rest → filling.number ≡ f → filling.bytes ≡ first_bytes t.fills → IsFirstStart (map due_shown t.fills) q
+pub zero_frames : (t : Lists) (f : ℕ) (token filling : Frame) (page : Option Page) (rest : List ℕ) (q : Page) → Known t → Head t f token page rest → filling.number ≡ f
+    → filling.bytes ≡ first_bytes t.fills → IsFirstStart (map due_shown t.fills) q
     → frames_of (zeroed t f page rest filling q) ≡ put_first t.free (frames_of t) (start_bytes (starts_of t.fills) q)
 zero_frames t f token filling page rest q k h n b first =
     let u : Lists = taken t f page rest in
