@@ -52,4 +52,5 @@ pub mod Puttings
 pub mod MovesOn
 pub mod Joins
 pub mod Instructions
+pub mod Sharers
 pub mod Hands

@@ -19,6 +19,7 @@ pub mod Fields
 pub mod Files
 pub mod Done
 pub mod Settled
+pub mod Sharing
 pub mod PlaceOf
 pub mod Lives
 pub mod UserMemory

@@ -1,8 +1,10 @@
 //! What the machine tells of its tables.
 ghost use Rattle.std.specs.Prelude.{◌≡◌, length, map};
+ghost use Rattle.proc_table.specs.Records.{Lowest};
 ghost use Rattle.page_model.specs.Placement.{parts_of};
 ghost use Rattle.machine_state.specs.Machine.{image_shown};
 ghost use Rattle.machine_state.specs.Calls.{first_due};
+ghost use Rattle.machine_state.specs.Sharing.{IsSharer};
 
 use crate::machine::Machine;
 use crate::named::Named;
@@ -59,6 +61,13 @@ impl Machine {
         ensures space { result.1 ≡ self.now.kernel.next_sid }
     {
         (self.tables.next_pid, self.tables.next_sid)
+    }
+
+    /// The space of the lowest number that shares an image's text; None exactly where none does.
+    pub fn sharer(&self, image: u32) -> Option<u32>
+        ensures { Lowest (IsSharer self.now.kernel.place image) result }
+    {
+        self.tables.spaces.sharer(image)
     }
 
     /// The first page that is due for a fill; None exactly where none is.

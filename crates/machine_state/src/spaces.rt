@@ -7,6 +7,7 @@ ghost use Rattle.machine_state.specs.Rising.{sids_of, AreRising, StandsAt, IsHom
 ghost use Rattle.machine_state.specs.Shown.{entry_in, placed, is_frame, frame_named, changed_named};
 ghost use Rattle.machine_state.specs.Launches.{valid_named};
 ghost use Rattle.machine_state.specs.Settled.{image_found};
+ghost use Rattle.machine_state.specs.Sharing.{first_sharer};
 
 use space_map::SpaceMap;
 use std::alloc::Global;
@@ -69,6 +70,18 @@ fn first_entry(maps: &[SpaceMap], page: Page) -> Option<Place>
     for space in maps {
         if let Some(place) = space.place(page) {
             return Some(place);
+        }
+    }
+    None
+}
+
+// The number of the first space that shares an image's text.
+fn first_sharer(maps: &[SpaceMap], image: u32) -> Option<u32>
+    ensures { result ≡ first_sharer maps.now image }
+{
+    for space in maps {
+        if space.image() == image {
+            return Some(space.sid());
         }
     }
     None
@@ -157,6 +170,14 @@ impl Spaces {
             None => first_entry(&self.maps, page),
             Some(sid) => self.find(sid)?.place(page),
         }
+    }
+
+    /// The number of the first space that shares an image's text.
+    pub(crate) fn sharer(&self, image: u32) -> Option<u32>
+        ensures first { result ≡ first_sharer self.now image }
+        ensures rising { AreRising (sids_of self.now) }
+    {
+        first_sharer(&self.maps, image)
     }
 
     /// The frame that the entry of a page names, and whether the page was changed.
