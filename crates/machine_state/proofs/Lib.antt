@@ -44,6 +44,9 @@ pub mod PlaceStates
 pub mod Lives
 pub mod Residing
 pub mod Turning
+pub mod UPages
+pub mod MovedRecords
+pub mod Goings
 pub mod Retiring
 pub mod Launchings
 pub mod FewPages

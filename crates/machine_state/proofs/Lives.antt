@@ -13,25 +13,19 @@ use Rattle.kernel_model.specs.Kernel.{HoldsSpace, Proc}
 use Rattle.kernel_model.specs.ChangeStep.{life_of_proc}
 use Rattle.machine_state.specs.Machine.{life_shown, proc_shown, proc_of, processes_of}
 use Rattle.machine_state.specs.Lives.{space_by, space_held}
-use Rattle.machine_state.proofs.Records.{found_pid}
+use Rattle.machine_state.proofs.Records.{keeps_none, keeps_some, found_pid}
 
-abbrev pid_of : Proc → ℕ
+abbrev pub pid_of : Proc → ℕ
 pid_of p = p.pid
 
-hit : (n : ℕ) (p : Proc) (ps : List Proc) → p.pid ≡ n → numbered pid_of n (p ∷ ps) ≡ Some p
+pub hit : (n : ℕ) (p : Proc) (ps : List Proc) → p.pid ≡ n → numbered pid_of n (p ∷ ps) ≡ Some p
 hit n p ps e = grind (arith, nat_tests)
 
-miss : (n : ℕ) (p : Proc) (ps : List Proc) → p.pid ≢ n → numbered pid_of n (p ∷ ps) ≡ numbered pid_of n ps
+pub miss : (n : ℕ) (p : Proc) (ps : List Proc) → p.pid ≢ n → numbered pid_of n (p ∷ ps) ≡ numbered pid_of n ps
 miss n p ps e = grind (arith, nat_tests)
 
 some_is : {A : Type 0} (a b : A) → Some a ≡ Some b → a ≡ b
 some_is a b e = cc
-
-keeps_none : {A B : Type 0} (h : A → Option B) (x : A) (xs : List A) → h x ≡ None → filter_map h (x ∷ xs) ≡ filter_map h xs
-keeps_none h x xs e = rw e refl
-
-keeps_some : {A B : Type 0} (h : A → Option B) (x : A) (xs : List A) (y : B) → h x ≡ Some y → filter_map h (x ∷ xs) ≡ y ∷ filter_map h xs
-keeps_some h x xs y e = rw e refl
 
 -- the record of a process that the kernel has
 pub record HasRecord (ps : List Record) (pid : ℕ) (q : Proc) : Type 0 where

@@ -16,16 +16,16 @@ use Rattle.vm_facts.proofs.Tests.{eq_self}
 use Rattle.machine_state.specs.Alike.{lends_to_by, lends_to, AreBorrowed}
 use Rattle.machine_state.specs.Machine.{proc_shown, proc_of, processes_of, residence_by, residence_of, residents_of}
 
-keeps_none : {A B : Type 0} (h : A → Option B) (x : A) (xs : List A) → h x ≡ None → filter_map h (x ∷ xs) ≡ filter_map h xs
+pub keeps_none : {A B : Type 0} (h : A → Option B) (x : A) (xs : List A) → h x ≡ None → filter_map h (x ∷ xs) ≡ filter_map h xs
 keeps_none h x xs e = rw e refl
 
-keeps_some : {A B : Type 0} (h : A → Option B) (x : A) (xs : List A) (y : B) → h x ≡ Some y → filter_map h (x ∷ xs) ≡ y ∷ filter_map h xs
+pub keeps_some : {A B : Type 0} (h : A → Option B) (x : A) (xs : List A) (y : B) → h x ≡ Some y → filter_map h (x ∷ xs) ≡ y ∷ filter_map h xs
 keeps_some h x xs y e = rw e refl
 
-find_hit : (n : ℕ) (p : Record) (ps : List Record) → p.pid ≡ n → find n (p ∷ ps) ≡ Some p
+pub find_hit : (n : ℕ) (p : Record) (ps : List Record) → p.pid ≡ n → find n (p ∷ ps) ≡ Some p
 find_hit n p ps e = grind (arith, nat_tests)
 
-find_miss : (n : ℕ) (p : Record) (ps : List Record) → p.pid ≢ n → find n (p ∷ ps) ≡ find n ps
+pub find_miss : (n : ℕ) (p : Record) (ps : List Record) → p.pid ≢ n → find n (p ∷ ps) ≡ find n ps
 find_miss n p ps e = grind (arith, nat_tests)
 
 some_is : {A : Type 0} (a b : A) → Some a ≡ Some b → a ≡ b

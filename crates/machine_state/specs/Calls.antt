@@ -11,7 +11,10 @@ use Rattle.page_model.specs.PageBytes.{IsWritable}
 use Rattle.page_model.specs.Conditions.{EachPage, HasSeat}
 use Rattle.page_model.specs.Runs.{Run}
 use Rattle.page_model.specs.Hands.{hand_run, wants_moves}
-use Rattle.kernel_model.specs.Kernel.{Life, Kernel, Proc}
+use Rattle.page_model.specs.Place.{pages_of_space}
+use Rattle.page_model.specs.Swapper.{is_out, is_settled, first_seated}
+use Rattle.kernel_model.specs.Kernel.{Life, HoldsSpace, Kernel, Proc}
+use Rattle.kernel_model.specs.Asks.{HasSpace}
 use Rattle.kernel_model.specs.ChangeStep.{life_of_proc}
 
 -- the page that is due first
@@ -66,3 +69,18 @@ IsNote _ = ⊥
 -- what the process with this number has
 abbrev pub life_in : Kernel → ℕ → Life
 life_in k pid = life_of_proc (numbered (λ (p : Proc). p.pid) pid k.processes)
+
+-- a process that is in, in a space that is there and settled, none of whose pages is in a frame off the free list
+pub record CanGoOut (k : Kernel) (pid : ℕ) : Type 0 where
+  pub clear : k.place.due ≡ []
+  pub sid : ℕ
+  pub holds : life_in k pid ≡ HoldsSpace sid
+  pub there : HasSpace k.place sid
+  pub resident : is_out k.place pid ≡ false
+  pub settled : is_settled k.place sid ≡ true
+  pub empty : first_seated k.place (pages_of_space k.place sid) ≡ None
+
+-- a process that is out
+pub record CanComeIn (k : Kernel) (pid : ℕ) : Type 0 where
+  pub clear : k.place.due ≡ []
+  pub out : is_out k.place pid ≡ true

@@ -67,11 +67,11 @@ abbrev pub CountsPages : Result Bool Stop → ℕ → ℕ → Type 0
 CountsPages (Err stops.FileFault) old new = Rose old new
 CountsPages _ old new = new ≡ old
 
-abbrev pub CountsReads : Result Bool Stop → ℕ → ℕ → Type 0
+abbrev pub CountsReads : {A : Type 0} → Result A Stop → ℕ → ℕ → Type 0
 CountsReads (Err stops.SwapReadFault) old new = Rose old new
 CountsReads _ old new = new ≡ old
 
-abbrev pub CountsWrites : Result Bool Stop → ℕ → ℕ → Type 0
+abbrev pub CountsWrites : {A : Type 0} → Result A Stop → ℕ → ℕ → Type 0
 CountsWrites (Err stops.SwapWriteFault) old new = Rose old new
 CountsWrites _ old new = new ≡ old
 

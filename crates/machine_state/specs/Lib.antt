@@ -20,6 +20,7 @@ pub mod Files
 pub mod Done
 pub mod Settled
 pub mod Sharing
+pub mod Swapping
 pub mod PlaceOf
 pub mod Lives
 pub mod UserMemory

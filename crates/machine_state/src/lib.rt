@@ -17,7 +17,9 @@ mod places;
 mod processes;
 mod reading;
 mod spaces;
+mod swapping;
 mod tables;
+mod u_pages;
 mod user_memory;
 
 pub use laws::memory_is_flat;

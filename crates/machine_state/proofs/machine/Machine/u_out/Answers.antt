@@ -1,0 +1,138 @@
+use Rattle.std.proofs.Common.{◌≡◌, ℕ, ◌+◌, ◌*◌, ◌≤◌, true, List, [], ◌∷◌, ◌++◌, length, Some, sym, ap, ◌∙◌, subst, arith}
+use Rattle.vm_facts.specs.declared.entry.Entry.{Entry}
+use Rattle.vm_facts.specs.declared.entry.Entry.TheVariants as entries
+use Rattle.kernel_model.specs.Kernel.{Kernel, out_step}
+use Rattle.machine_state.specs.declared.tables.Tables.{Tables}
+use Rattle.machine_state.specs.Machine.{Standing, kernel_by}
+use Rattle.machine_state.specs.Calls.{CanGoOut}
+use Rattle.machine_state.specs.Swapping.{WritesU, KeepsOut}
+use Rattle.machine_state.proofs.Standings.{running, stands_now, whole_now}
+use Rattle.machine_state.proofs.Goings.{Gone, with_records, out_is, out_stands, Leaving, leaving, leaving_alive, leaving_held, leaving_lasts, bytes_are, block_there, block_place, written, out_keeps}
+use Rattle.machine_state.proofs.machine.Machine.u_out.Goals as goal
+
+pub u_page_of-page-requires : goal.u_page_of-page-requires
+u_page_of-page-requires u c =
+    let m = c.self.inside in
+    let t : Tables = m.tables in
+    let k : Kernel = kernel_by t m.journal.items m.stopped in
+    let can : CanGoOut k c.args.pid = subst (λ (s : Standing). CanGoOut s.kernel c.args.pid) (sym c.self.view_is) c.requires.can in
+    let l : Leaving t k c.args.pid = leaving t m.journal.items m.stopped c.args.pid can in
+    record { holds = (l.sid, leaving_held t k c.args.pid l, l.space) }
+
+pub u_block-block-requires : goal.u_block-block-requires
+u_block-block-requires u c =
+    let m = c.self.inside in
+    let t : Tables = m.tables in
+    let k : Kernel = kernel_by t m.journal.items m.stopped in
+    let can : CanGoOut k c.args.pid = subst (λ (s : Standing). CanGoOut s.kernel c.args.pid) (sym c.self.view_is) c.requires.can in
+    let l : Leaving t k c.args.pid = leaving t m.journal.items m.stopped c.args.pid can in
+    let r = running m c.args.self.now c.self.invariant c.self.view_is c.requires.running c.requires.whole in
+    block_there t.book.size k c.args.pid r.sound (leaving_alive t k c.args.pid l)
+
+pub write-requires-clause-even : goal.write-requires-clause-even
+write-requires-clause-even u c =
+    let m = c.self.inside in
+    let t : Tables = m.tables in
+    let k : Kernel = kernel_by t m.journal.items m.stopped in
+    let r = running m c.args.self.now c.self.invariant c.self.view_is c.requires.running c.requires.whole in
+    let e = sym c.u_block-block.ensures in
+    let p = block_place t.book.size k c.args.pid c.u_block-block.result r.sound e in
+    p.even
+
+pub write-requires-clause-inside : goal.write-requires-clause-inside
+write-requires-clause-inside u c =
+    let m = c.self.inside in
+    let t : Tables = m.tables in
+    let k : Kernel = kernel_by t m.journal.items m.stopped in
+    let r = running m c.args.self.now c.self.invariant c.self.view_is c.requires.running c.requires.whole in
+    let now = stands_now m c.args.self.now c.self.invariant c.self.view_is c.requires.running in
+    let whole = whole_now m c.args.self.now c.self.view_is c.requires.whole in
+    let e = sym c.u_block-block.ensures in
+    let p = block_place t.book.size k c.args.pid c.u_block-block.result r.sound e in
+    let within = p.within in
+    let area = c.requires.area in
+    let size = now.stands.book in
+    let ps = ap (λ (s : Standing). s.params.swap_blocks) c.self.view_is in
+    omega arith
+
+pub invariant_of-self-in-Done : goal.invariant_of-self-in-Done
+invariant_of-self-in-Done u c _ =
+    let m = c.self.inside in
+    let t : Tables = m.tables in
+    let k : Kernel = kernel_by t m.journal.items m.stopped in
+    let can : CanGoOut k c.args.pid = subst (λ (s : Standing). CanGoOut s.kernel c.args.pid) (sym c.self.view_is) c.requires.can in
+    let l : Leaving t k c.args.pid = leaving t m.journal.items m.stopped c.args.pid can in
+    let r = running m c.args.self.now c.self.invariant c.self.view_is c.requires.running c.requires.whole in
+    let now = stands_now m c.args.self.now c.self.invariant c.self.view_is c.requires.running in
+    let whole = whole_now m c.args.self.now c.self.view_is c.requires.whole in
+    let g : Gone m c.move_record.new.processes c.push_reserved.new.self.items c.make_room.new.stopped c.args.pid c.no_regs.result true c.next_place-since.result (entries.SwapOut c.args.pid) = record {
+      moved = c.move_record.ensures;
+      lasts = leaving_lasts t k c.args.pid c.move_record.ensures.was l c.move_record.ensures.found;
+      since_is = c.next_place-since.ensures ∙ ap (λ (j : List Entry). length j + 1) (c.as_slice.ensures.value ∙ c.make_room.ensures.same);
+      journal_is = c.push_reserved.ensures.items ∙ ap (λ (j : List Entry). j ++ entries.SwapOut c.args.pid ∷ []) c.make_room.ensures.same;
+      stopped_is = c.in_ok-make_room.ensures.ok.0;
+    } in
+    let is : kernel_by (with_records t c.move_record.new.processes) c.push_reserved.new.self.items c.make_room.new.stopped ≡ out_step k c.args.pid =
+    out_is m c.move_record.new.processes c.push_reserved.new.self.items c.make_room.new.stopped c.args.pid c.no_regs.result c.next_place-since.result g c.no_regs.ensures in
+    record {
+      stands = out_stands m c.move_record.new.processes c.push_reserved.new.self.items c.make_room.new.stopped c.args.pid c.no_regs.result c.next_place-since.result g c.no_regs.ensures now.stands whole r (omega (arith, c.in_ok-make_room.ensures.ok.1));
+      none_lost = now.none_lost;
+    }
+
+pub returns-in-Done-clause-step : goal.returns-in-Done-clause-step
+returns-in-Done-clause-step u c =
+    let m = c.self.inside in
+    let t : Tables = m.tables in
+    let k : Kernel = kernel_by t m.journal.items m.stopped in
+    let can : CanGoOut k c.args.pid = subst (λ (s : Standing). CanGoOut s.kernel c.args.pid) (sym c.self.view_is) c.requires.can in
+    let l : Leaving t k c.args.pid = leaving t m.journal.items m.stopped c.args.pid can in
+    let g : Gone m c.move_record.new.processes c.push_reserved.new.self.items c.make_room.new.stopped c.args.pid c.no_regs.result true c.next_place-since.result (entries.SwapOut c.args.pid) = record {
+      moved = c.move_record.ensures;
+      lasts = leaving_lasts t k c.args.pid c.move_record.ensures.was l c.move_record.ensures.found;
+      since_is = c.next_place-since.ensures ∙ ap (λ (j : List Entry). length j + 1) (c.as_slice.ensures.value ∙ c.make_room.ensures.same);
+      journal_is = c.push_reserved.ensures.items ∙ ap (λ (j : List Entry). j ++ entries.SwapOut c.args.pid ∷ []) c.make_room.ensures.same;
+      stopped_is = c.in_ok-make_room.ensures.ok.0;
+    } in
+    let is : kernel_by (with_records t c.move_record.new.processes) c.push_reserved.new.self.items c.make_room.new.stopped ≡ out_step k c.args.pid =
+    out_is m c.move_record.new.processes c.push_reserved.new.self.items c.make_room.new.stopped c.args.pid c.no_regs.result c.next_place-since.result g c.no_regs.ensures in
+    is ∙ ap (λ (s : Standing). out_step s.kernel c.args.pid) c.self.view_is
+
+pub returns-in-Done-clause-keeps : goal.returns-in-Done-clause-keeps
+returns-in-Done-clause-keeps u c =
+    let m = c.self.inside in
+    let t : Tables = m.tables in
+    let k : Kernel = kernel_by t m.journal.items m.stopped in
+    let can : CanGoOut k c.args.pid = subst (λ (s : Standing). CanGoOut s.kernel c.args.pid) (sym c.self.view_is) c.requires.can in
+    let l : Leaving t k c.args.pid = leaving t m.journal.items m.stopped c.args.pid can in
+    let r = running m c.args.self.now c.self.invariant c.self.view_is c.requires.running c.requires.whole in
+    let now = stands_now m c.args.self.now c.self.invariant c.self.view_is c.requires.running in
+    let whole = whole_now m c.args.self.now c.self.view_is c.requires.whole in
+    let g : Gone m c.move_record.new.processes c.push_reserved.new.self.items c.make_room.new.stopped c.args.pid c.no_regs.result true c.next_place-since.result (entries.SwapOut c.args.pid) = record {
+      moved = c.move_record.ensures;
+      lasts = leaving_lasts t k c.args.pid c.move_record.ensures.was l c.move_record.ensures.found;
+      since_is = c.next_place-since.ensures ∙ ap (λ (j : List Entry). length j + 1) (c.as_slice.ensures.value ∙ c.make_room.ensures.same);
+      journal_is = c.push_reserved.ensures.items ∙ ap (λ (j : List Entry). j ++ entries.SwapOut c.args.pid ∷ []) c.make_room.ensures.same;
+      stopped_is = c.in_ok-make_room.ensures.ok.0;
+    } in
+    let is : kernel_by (with_records t c.move_record.new.processes) c.push_reserved.new.self.items c.make_room.new.stopped ≡ out_step k c.args.pid =
+    out_is m c.move_record.new.processes c.push_reserved.new.self.items c.make_room.new.stopped c.args.pid c.no_regs.result c.next_place-since.result g c.no_regs.ensures in
+    let w : WritesU k c.args.pid (u.D.SwapDev.image c.args.swap.now) (u.D.SwapDev.image c.write.new.self) =
+    written k c.args.pid c.u_block-block.result c.u_page_of-page.result (u.D.SwapDev.image c.args.swap.now) (u.D.SwapDev.image c.write.new.self) (sym c.u_block-block.ensures) (bytes_are t m.journal.items m.stopped c.args.pid c.u_page_of-page.result l c.u_page_of-page.ensures) c.in-Done.ensures.done in
+    let area = c.requires.area in
+    let size = now.stands.book in
+    let ps = ap (λ (s : Standing). s.params.swap_blocks) c.self.view_is in
+    let long : (image : List ℕ) → u.D.SwapDev.image c.args.swap.now ≡ Some image → 512 * t.book.size ≤ length image = λ image i. let long = u.met.D.SwapDev.whole c.args.swap.now image i in omega arith in
+    subst (λ (x : Kernel). KeepsOut c.args.self.now.kernel x (u.D.SwapDev.image c.args.swap.now) (u.D.SwapDev.image c.write.new.self)) (sym is)
+    (subst (λ (s : Standing). KeepsOut s.kernel (out_step k c.args.pid) (u.D.SwapDev.image c.args.swap.now) (u.D.SwapDev.image c.write.new.self)) c.self.view_is
+    (out_keeps t.book.size t k c.args.pid (u.D.SwapDev.image c.args.swap.now) (u.D.SwapDev.image c.write.new.self) l r.sound r.numbered can.resident c.u_page_of-page.result c.u_page_of-page.ensures long w))
+
+pub returns-in-Done-clause-swapped : goal.returns-in-Done-clause-swapped
+returns-in-Done-clause-swapped u c =
+    let m = c.self.inside in
+    let t : Tables = m.tables in
+    let k : Kernel = kernel_by t m.journal.items m.stopped in
+    let can : CanGoOut k c.args.pid = subst (λ (s : Standing). CanGoOut s.kernel c.args.pid) (sym c.self.view_is) c.requires.can in
+    let l : Leaving t k c.args.pid = leaving t m.journal.items m.stopped c.args.pid can in
+    let w : WritesU k c.args.pid (u.D.SwapDev.image c.args.swap.now) (u.D.SwapDev.image c.write.new.self) =
+    written k c.args.pid c.u_block-block.result c.u_page_of-page.result (u.D.SwapDev.image c.args.swap.now) (u.D.SwapDev.image c.write.new.self) (sym c.u_block-block.ensures) (bytes_are t m.journal.items m.stopped c.args.pid c.u_page_of-page.result l c.u_page_of-page.ensures) c.in-Done.ensures.done in
+    subst (λ (s : Standing). WritesU s.kernel c.args.pid (u.D.SwapDev.image c.args.swap.now) (u.D.SwapDev.image c.write.new.self)) c.self.view_is w

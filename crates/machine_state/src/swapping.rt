@@ -1,0 +1,188 @@
+//! Processes that go out and come in: their u pages.
+ghost use Rattle.std.specs.Prelude.{◌≡◌, ◌≢◌, ◌⊎◌, ℕ, ◌+◌, ◌<◌, ◌≤◌, ◌^◌, ◌↔◌, false, length, Some, None, IsSome, OnOk, OnErr, Err};
+ghost use Rattle.flat_state.specs.Flat.{cleared};
+ghost use Rattle.proc_table.specs.Records.{find, IsTable};
+ghost use Rattle.swap_book.specs.declared.Owner.TheVariants.{U as UOwner};
+ghost use Rattle.swap_book.specs.Holdings.{block_in};
+ghost use Rattle.page_model.specs.Pages.{numbered};
+ghost use Rattle.kernel_model.specs.Kernel.{out_step};
+ghost use Rattle.machine_state.specs.Lives.{space_held};
+ghost use Rattle.machine_state.specs.Calls.{CanGoOut, CanComeIn};
+ghost use Rattle.machine_state.specs.Conditions.{HasStopped};
+ghost use Rattle.machine_state.specs.Done.{CountsReads, CountsWrites};
+ghost use Rattle.machine_state.specs.Swapping.{IsIn, WritesU, SwapBehind, CallsNone, KeepsOut, KeepsIn, MovedRecord, IsUPage};
+
+use crate::machine::Machine;
+use crate::tables::Tables;
+use crate::{notes, u_pages};
+use io_edge::{Moved, SwapDev};
+use proc_table::{Life, Proc, ProcTable};
+use swap_book::Owner;
+use vm_facts::{Entry, Regs, Stop};
+
+// The registers in the record of a process that is out.
+fn no_regs() -> Regs
+    ensures { result ≡ cleared }
+{
+    Regs {
+        r: [0; 16],
+        n: false,
+        z: false,
+        v: false,
+        c: false,
+    }
+}
+
+// The record of a process that there is.
+fn record_of(processes: &ProcTable, pid: u32) -> Proc
+    requires { IsSome (find pid processes.now) }
+    ensures found { find pid processes.now ≡ Some result }
+    ensures table { IsTable processes.now }
+{
+    match processes.get(pid) {
+        Some(process) => *process,
+        None => unreachable!(),
+    }
+}
+
+// A process has other registers, and is out or in since this place in the journal.
+fn move_record(processes: &mut ProcTable, pid: u32, regs: Regs, out: bool, since: u32)
+    requires { IsSome (find pid processes.old) }
+    ensures { MovedRecord processes.old processes.new pid regs out since }
+{
+    let process = record_of(processes, pid);
+    let _known = processes.set(Proc {
+        regs,
+        out,
+        since,
+        ..process
+    });
+}
+
+// The place in a journal of the entry that comes next, where there is room for it.
+fn next_place(journal: &[Entry], limit: u32) -> u32
+    requires { length journal.now < limit }
+    ensures { result ≡ length journal.now + 1 }
+{
+    if journal.len() < limit as usize {
+        journal.len() as u32 + 1
+    } else {
+        unreachable!()
+    }
+}
+
+impl Tables {
+    // The first of the two blocks of a process's u page.
+    fn u_block(&self, pid: u32) -> u32
+        requires { IsSome (block_in self.now.book.holdings (UOwner pid) 0) }
+        ensures { Some result ≡ block_in self.now.book.holdings (UOwner pid) 0 }
+    {
+        match self.book.block_of(Owner::U(pid), 0) {
+            Some(block) => block,
+            None => unreachable!(),
+        }
+    }
+
+    // The u page of a process that holds a space.
+    fn u_page_of(&self, pid: u32) -> [u8; 1024]
+        requires holds { (sid : ℕ) × (space_held (find pid self.now.processes) ≡ Some sid) × IsSome (numbered (λ s. s.sid) sid self.now.spaces) }
+        ensures { IsUPage self.now pid result }
+    {
+        let process = record_of(&self.processes, pid);
+        let Life::Holds(sid) = process.state else {
+            unreachable!()
+        };
+        let Some(space) = self.spaces.find(sid) else {
+            unreachable!()
+        };
+        u_pages::u_page(&process.regs, space.data_pages(), space.stack_pages())
+    }
+}
+
+impl Machine {
+    /// The step of `SwapOut`: the u page of a process is written, and the process is out. Its registers are in its u
+    /// page alone then.
+    pub fn u_out<D: SwapDev>(&mut self, swap: &mut D, pid: u32) -> Result<(), Stop>
+        requires running { self.old.kernel.stopped ≡ false }
+        requires whole { self.old.before ≡ self.old.kernel.holdings }
+        requires area { self.old.params.swap_blocks ≤ D.blocks swap.old }
+        requires can { CanGoOut self.old.kernel pid }
+        ensures step { OnOk result (self.new.kernel ≡ out_step self.old.kernel pid) }
+        ensures rest { OnOk result (self.new ≡ record self.old { kernel = self.new.kernel; room = None }) }
+        ensures keeps { OnOk result (KeepsOut self.old.kernel self.new.kernel (D.image swap.old) (D.image swap.new)) }
+        ensures swapped { OnOk result (WritesU self.old.kernel pid (D.image swap.old) (D.image swap.new)) }
+        ensures spoiled { OnErr result (SwapBehind result self.old.kernel pid (D.image swap.old) (D.image swap.new)) }
+        ensures uncalled { CallsNone result swap.old swap.new }
+        ensures stop { OnErr result (HasStopped self.old self.new) }
+        ensures cause { OnErr result ((result ≡ Err Stop.JournalFull) ⊎ ((result ≡ Err Stop.NoMemory) ⊎ (result ≡ Err Stop.SwapWriteFault))) }
+        ensures full { (result ≡ Err Stop.JournalFull) ↔ (self.old.params.journal ≤ length self.old.kernel.journal) }
+        ensures leads { D.leads swap.old swap.new }
+        ensures blocks { D.blocks swap.new ≡ D.blocks swap.old }
+        ensures read_faults { CountsReads result (D.read_faults swap.old) (D.read_faults swap.new) }
+        ensures write_faults { CountsWrites result (D.write_faults swap.old) (D.write_faults swap.new) }
+    {
+        notes::make_room(
+            &mut self.journal,
+            &mut self.stopped,
+            &mut self.room,
+            self.tables.params.journal,
+        )?;
+        let page = self.tables.u_page_of(pid);
+        let block = self.tables.u_block(pid);
+        match swap.write(block, &page) {
+            Moved::Done => {
+                let since = next_place(self.journal.as_slice(), self.tables.params.journal);
+                move_record(&mut self.tables.processes, pid, no_regs(), true, since);
+                self.journal.push_reserved(Entry::SwapOut { pid });
+                Ok(())
+            }
+            Moved::Failed => {
+                self.stopped = true;
+                Err(Stop::SwapWriteFault)
+            }
+        }
+    }
+
+    /// The step of `SwapIn`: the u page of a process that is out is read, which gives it its registers, and the
+    /// process is in.
+    pub fn u_in<D: SwapDev>(&mut self, swap: &mut D, pid: u32) -> Result<(), Stop>
+        requires running { self.old.kernel.stopped ≡ false }
+        requires whole { self.old.before ≡ self.old.kernel.holdings }
+        requires area { self.old.params.swap_blocks ≤ D.blocks swap.old }
+        requires can { CanComeIn self.old.kernel pid }
+        ensures step { OnOk result (IsIn self.old.kernel self.new.kernel pid (D.image swap.old)) }
+        ensures rest { OnOk result (self.new ≡ record self.old { kernel = self.new.kernel; room = None }) }
+        ensures keeps { OnOk result (KeepsIn self.old.kernel self.new.kernel pid (D.image swap.old) (D.image swap.new)) }
+        ensures image { D.image swap.new ≡ D.image swap.old }
+        ensures uncalled { CallsNone result swap.old swap.new }
+        ensures stop { OnErr result (HasStopped self.old self.new) }
+        ensures cause { OnErr result ((result ≡ Err Stop.JournalFull) ⊎ ((result ≡ Err Stop.NoMemory) ⊎ (result ≡ Err Stop.SwapReadFault))) }
+        ensures full { (result ≡ Err Stop.JournalFull) ↔ (self.old.params.journal ≤ length self.old.kernel.journal) }
+        ensures leads { D.leads swap.old swap.new }
+        ensures blocks { D.blocks swap.new ≡ D.blocks swap.old }
+        ensures read_faults { CountsReads result (D.read_faults swap.old) (D.read_faults swap.new) }
+        ensures write_faults { CountsWrites result (D.write_faults swap.old) (D.write_faults swap.new) }
+    {
+        notes::make_room(
+            &mut self.journal,
+            &mut self.stopped,
+            &mut self.room,
+            self.tables.params.journal,
+        )?;
+        let block = self.tables.u_block(pid);
+        let mut page = [0u8; 1024];
+        match swap.read(block, &mut page) {
+            Moved::Done => {
+                let since = next_place(self.journal.as_slice(), self.tables.params.journal);
+                let regs = u_pages::regs_in(&page);
+                move_record(&mut self.tables.processes, pid, regs, false, since);
+                self.journal.push_reserved(Entry::SwapIn { pid });
+                Ok(())
+            }
+            Moved::Failed => {
+                self.stopped = true;
+                Err(Stop::SwapReadFault)
+            }
+        }
+    }
+}
