@@ -56,4 +56,6 @@ pub mod MovesOn
 pub mod Joins
 pub mod Instructions
 pub mod Sharers
+pub mod Growing
+pub mod Asked
 pub mod Hands

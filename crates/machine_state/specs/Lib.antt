@@ -14,6 +14,8 @@ pub mod Moves
 pub mod Launches
 pub mod Joined
 pub mod New
+pub mod GivingBack
+pub mod Wants
 pub mod Conditions
 pub mod Fields
 pub mod Files

@@ -2,6 +2,7 @@
 #![tactic(auto)]
 
 mod answers;
+mod asking;
 mod changing;
 mod ending;
 mod fill;
@@ -13,6 +14,7 @@ mod machine;
 mod named;
 mod notes;
 mod paging;
+mod pieces;
 mod places;
 mod processes;
 mod reading;
@@ -25,6 +27,7 @@ mod user_memory;
 pub use laws::memory_is_flat;
 pub use machine::Machine;
 pub use named::Named;
+pub use pieces::Want;
 pub use user_memory::SpaceMemory;
 
 #[cfg(test)]

@@ -44,7 +44,7 @@ pub(crate) struct Tables {
     pub(crate) next_sid: u32,
 
     // How many pieces of swap were found last, for an entry that comes yet.
-    pub(crate) found: u32,
+    pub(crate) found: usize,
 }
 
 // Where a page is whose free frame is taken: text that isn't saved is in its file.
