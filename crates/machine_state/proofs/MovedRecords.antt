@@ -1,24 +1,25 @@
 -- A process goes out or comes in: the processes and the residents by rising pid, once its record has changed.
-use Rattle.std.proofs.Common.{◌≡◌, ◌≢◌, inl, inr, ℕ, zero, suc, ◌+◌, ◌-◌, ◌<◌, Bool, true, false, ◌||◌, List, [], ◌∷◌, map, Option, Some, None, refl, sym, ap, ◌∙◌, subst, arith}
+use Rattle.std.proofs.Common.{◌≡◌, ◌≢◌, inl, inr, ℕ, zero, suc, ◌+◌, ◌-◌, ◌<◌, ◌==◌, Bool, true, cond, List, [], ◌∷◌, map, Option, Some, None, refl, sym, ap, ◌∙◌, subst, arith}
 use Rattle.std.specs.Prelude.{filter_map}
-use Rattle.std.specs.List.{range_with_len, list_any}
-use Rattle.std.proofs.lemmas.Bool.{cases_eq}
+use Rattle.std.specs.List.{range_with_len}
+use Rattle.std.proofs.lemmas.Bool.{cases_eq, ne_eqb}
+use Rattle.vm_facts.proofs.Tests.{eq_self}
 use Rattle.std.proofs.lemmas.Bool.Decides.{nat_tests}
 use Rattle.std.proofs.lemmas.Option.{same_Some}
 use Rattle.vm_facts.specs.declared.regs.Regs.{Regs}
 use Rattle.proc_table.specs.declared.process.Proc.{Proc as Record}
 use Rattle.proc_table.specs.declared.process.Life.{Life as RecordLife}
 use Rattle.proc_table.specs.declared.process.Life.TheVariants as lives
-use Rattle.proc_table.specs.Records.{find, ArePidsApart, Changes}
+use Rattle.proc_table.specs.Records.{find, Changes}
 use Rattle.page_model.specs.Pages.{changed, numbered}
 use Rattle.page_model.specs.Placement.{Residence}
 use Rattle.page_model.specs.Swapper as swapper
 use Rattle.page_laws.proofs.Lists.Local.{none_some}
 use Rattle.kernel_model.specs.Kernel.{Proc, with_regs}
 use Rattle.machine_state.specs.Machine.{proc_shown, proc_of, processes_of, residence_by, residence_of, residents_of}
-use Rattle.machine_state.specs.Alike.{AreBorrowed, lends_to}
+use Rattle.machine_state.specs.Alike.{AreBorrowed, lends_to, lends_to_by}
 use Rattle.machine_state.specs.Swapping.{Lasts, MovedRecord}
-use Rattle.machine_state.proofs.Records.{keeps_none, keeps_some, find_hit, find_miss, found_pid}
+use Rattle.machine_state.proofs.Records.{keeps_none, keeps_some, found_pid, shown_pid, changed_over, any_same}
 use Rattle.machine_state.proofs.Lives.{pid_of, hit, miss}
 
 -- the same first, and the same behind it
@@ -35,39 +36,22 @@ now_of was regs out since = record was { regs = regs; out = out; since = since }
 
 -- Processes.
 
-regs_hit : (pid : ℕ) (regs : Regs) (p : Proc) → p.pid ≡ pid → with_regs pid regs p ≡ record p { regs = regs }
-regs_hit pid regs p e = grind (arith, nat_tests)
-
-regs_miss : (pid : ℕ) (regs : Regs) (p : Proc) → p.pid ≢ pid → with_regs pid regs p ≡ p
-regs_miss pid regs p e = grind (arith, nat_tests)
-
-procs_over : (ns : List ℕ) (old new : List Record) (pid : ℕ) (regs : Regs) (out : Bool) (since : ℕ) → MovedRecord old new pid regs out since
-    → filter_map (λ n. proc_of (find n new)) ns ≡ map (with_regs pid regs) (filter_map (λ n. proc_of (find n old)) ns)
-procs_over [] old new pid regs out since m = refl
-procs_over (n ∷ ns) old new pid regs out since m = elim (cases_eq n pid) [
-  | inl h ↦
-      let now : proc_of (find n new) ≡ Some (proc_shown (now_of m.was regs out since)) = ap (λ (k : ℕ). proc_of (find k new)) h ∙ ap proc_of m.changes.changed in
-      let before : proc_of (find n old) ≡ Some (proc_shown m.was) = ap (λ (k : ℕ). proc_of (find k old)) h ∙ ap proc_of m.found in
-      keeps_some (λ k. proc_of (find k new)) n ns (proc_shown (now_of m.was regs out since)) now
-      ∙ ap (λ (ps : List Proc). proc_shown (now_of m.was regs out since) ∷ ps) (procs_over ns old new pid regs out since m)
-      ∙ ap (λ (p : Proc). p ∷ map (with_regs pid regs) (filter_map (λ k. proc_of (find k old)) ns)) (sym (regs_hit pid regs (proc_shown m.was) (found_pid pid old m.was m.found)))
-      ∙ sym (ap (map (with_regs pid regs)) (keeps_some (λ k. proc_of (find k old)) n ns (proc_shown m.was) before))
-  | inr d ↦ other (find n old) refl (m.changes.others n d) d (procs_over ns old new pid regs out since m)
-]
-  where
-    other : (o : Option Record) → find n old ≡ o → find n new ≡ find n old → n ≢ pid
-        → filter_map (λ k. proc_of (find k new)) ns ≡ map (with_regs pid regs) (filter_map (λ k. proc_of (find k old)) ns)
-        → filter_map (λ k. proc_of (find k new)) (n ∷ ns) ≡ map (with_regs pid regs) (filter_map (λ k. proc_of (find k old)) (n ∷ ns))
-    other None f s d rest =
-        keeps_none (λ k. proc_of (find k new)) n ns (ap proc_of (s ∙ f)) ∙ rest
-        ∙ sym (ap (map (with_regs pid regs)) (keeps_none (λ k. proc_of (find k old)) n ns (ap proc_of f)))
-    other (Some x) f s d rest =
-        keeps_some (λ k. proc_of (find k new)) n ns (proc_shown x) (ap proc_of (s ∙ f)) ∙ ap (λ (ps : List Proc). proc_shown x ∷ ps) rest
-        ∙ ap (λ (p : Proc). p ∷ map (with_regs pid regs) (filter_map (λ k. proc_of (find k old)) ns)) (sym (regs_miss pid regs (proc_shown x) (λ h. d (sym (found_pid n old x f) ∙ h))))
-        ∙ sym (ap (map (with_regs pid regs)) (keeps_some (λ k. proc_of (find k old)) n ns (proc_shown x) (ap proc_of f)))
-
 pub moved_processes : (old new : List Record) (next pid : ℕ) (regs : Regs) (out : Bool) (since : ℕ) → MovedRecord old new pid regs out since → processes_of new next ≡ map (with_regs pid regs) (processes_of old next)
-moved_processes old new next pid regs out since m = procs_over (range_with_len 1 (next - 1)) old new pid regs out since m
+moved_processes old new next pid regs out since m =
+    changed_over proc_of refl (with_regs pid regs) pid old new m.changes.others changed_is gone still (range_with_len 1 (next - 1))
+  where
+    changed_is : (p : Proc) → proc_of (find pid old) ≡ Some p → proc_of (find pid new) ≡ Some (with_regs pid regs p)
+    changed_is p h =
+        let is : proc_shown m.was ≡ p = same_Some (proc_shown m.was) p (sym (ap proc_of m.found) ∙ h) in
+        ap proc_of m.changes.changed
+        ∙ ap (λ (b : Bool). Some (let z : Proc = cond b (record (proc_shown m.was) { regs = regs }) (proc_shown m.was) in z)) (sym (ap (λ (n : ℕ). n == pid) (found_pid pid old m.was m.found) ∙ eq_self pid))
+        ∙ ap (λ (q : Proc). Some (with_regs pid regs q)) is
+
+    gone : proc_of (find pid old) ≡ None → proc_of (find pid new) ≡ None
+    gone h = none_some (proc_shown m.was) (sym h ∙ ap proc_of m.found)
+
+    still : (n : ℕ) (p : Proc) → n ≢ pid → proc_of (find n old) ≡ Some p → with_regs pid regs p ≡ p
+    still n p d h = ap (λ (b : Bool). let z : Proc = cond b (record p { regs = regs }) p in z) (ne_eqb p.pid pid (λ i. d (sym (shown_pid n old p h) ∙ i)))
 
 -- Residents.
 
@@ -145,67 +129,24 @@ moved_residents old new next pid regs out since m l = residents_over (next - 1) 
 
 -- Who borrowed a space.
 
--- a record of which a test holds
-record Passes (test : Record → Bool) (ps : List Record) : Type 0 where
-  pid : ℕ
-  one : Record
-  there : find pid ps ≡ Some one
-  holds : test one ≡ true
-
-any_found : (test : Record → Bool) (ps : List Record) → ArePidsApart ps → list_any test ps ≡ true → Passes test ps
-any_found test [] a e = absurd cc
-any_found test (p ∷ ps) a e = go (test p) refl e (λ k. any_found test ps a.1 k)
-  where
-    go : (b : Bool) → test p ≡ b → (b || list_any test ps) ≡ true → (list_any test ps ≡ true → Passes test ps) → Passes test (p ∷ ps)
-    go true t k more = record { pid = p.pid; one = p; there = find_hit p.pid p ps refl; holds = t }
-    go false t k more =
-        let r : Passes test ps = more k in
-        record { pid = r.pid; one = r.one; there = find_miss r.pid p ps (λ h. none_some r.one (sym a.0 ∙ ap (λ (n : ℕ). find n ps) h ∙ r.there)) ∙ r.there; holds = r.holds }
-
-found_any : (test : Record → Bool) (ps : List Record) → Passes test ps → list_any test ps ≡ true
-found_any test [] r = none_some r.one r.there
-found_any test (p ∷ ps) r = elim (cases_eq p.pid r.pid) [
-  | inl h ↦ first (ap test (same_Some p r.one (sym (find_hit r.pid p ps h) ∙ r.there)) ∙ r.holds)
-  | inr d ↦ behind (test p) (found_any test ps (record { pid = r.pid; one = r.one; there = sym (find_miss r.pid p ps d) ∙ r.there; holds = r.holds }))
-]
-  where
-    first : test p ≡ true → (test p || list_any test ps) ≡ true
-    first e = ap (λ (b : Bool). b || list_any test ps) e
-
-    behind : (b : Bool) → list_any test ps ≡ true → (b || list_any test ps) ≡ true
-    behind true e = refl
-    behind false e = e
-
--- records that pass the same test under each pid
-any_same : (test : Record → Bool) (old new : List Record) → ArePidsApart old → ArePidsApart new → (Passes test old → Passes test new) → (Passes test new → Passes test old) → list_any test new ≡ list_any test old
-any_same test old new a b to back = go (list_any test new) (list_any test old) refl refl
-  where
-    go : (x y : Bool) → list_any test new ≡ x → list_any test old ≡ y → x ≡ y
-    go true true e f = refl
-    go false false e f = refl
-    go true false e f = sym (found_any test old (back (any_found test new b e))) ∙ f
-    go false true e f = sym e ∙ found_any test new (to (any_found test old a f))
-
 pub moved_borrowed : (old new : List Record) (pid : ℕ) (regs : Regs) (out : Bool) (since : ℕ) → MovedRecord old new pid regs out since → AreBorrowed old → AreBorrowed new
-moved_borrowed old new pid regs out since m b n x e = own n x e ∙ sym (any_same (lends_to n) old new m.before.apart m.after.apart to back)
+moved_borrowed old new pid regs out since m h n p f =
+    let r = back n p f in
+    sym r.2 ∙ h n r.0 r.1
+    ∙ sym (any_same (lends_to n) old new m.before.apart m.after.apart (λ k q g. let x = forth k q g in (x.0, x.1, ap (lends_to_by n) x.2)) (λ k q g. let x = back k q g in (x.0, x.1, ap (lends_to_by n) x.3)))
   where
-    to : Passes (lends_to n) old → Passes (lends_to n) new
-    to r = elim (cases_eq r.pid pid) [
-      | inl h ↦ record { pid = pid; one = now_of m.was regs out since; there = m.changes.changed; holds = ap (lends_to n) (same_Some m.was r.one (sym m.found ∙ ap (λ (k : ℕ). find k old) (sym h) ∙ r.there)) ∙ r.holds }
-      | inr d ↦ record { pid = r.pid; one = r.one; there = m.changes.others r.pid d ∙ r.there; holds = r.holds }
+    back : (k : ℕ) (q : Record) → find k new ≡ Some q → (r : Record) × (find k old ≡ Some r) × (r.borrowed ≡ q.borrowed) × (r.state ≡ q.state)
+    back k q g = elim (cases_eq k pid) [
+      | inl i ↦
+          let is : now_of m.was regs out since ≡ q = same_Some (now_of m.was regs out since) q (sym m.changes.changed ∙ ap (λ (l : ℕ). find l new) (sym i) ∙ g) in
+          (m.was, ap (λ (l : ℕ). find l old) i ∙ m.found, ap (λ (r : Record). r.borrowed) is, ap (λ (r : Record). r.state) is)
+      | inr d ↦ (q, sym (m.changes.others k d) ∙ g, refl, refl)
     ]
 
-    back : Passes (lends_to n) new → Passes (lends_to n) old
-    back r = elim (cases_eq r.pid pid) [
-      | inl h ↦ record { pid = pid; one = m.was; there = m.found; holds = ap (lends_to n) (same_Some (now_of m.was regs out since) r.one (sym m.changes.changed ∙ ap (λ (k : ℕ). find k new) (sym h) ∙ r.there)) ∙ r.holds }
-      | inr d ↦ record { pid = r.pid; one = r.one; there = sym (m.changes.others r.pid d) ∙ r.there; holds = r.holds }
-    ]
-
-    own : (n : ℕ) (x : Record) → find n new ≡ Some x → x.borrowed ≡ list_any (lends_to n) old
-    own n x e = elim (cases_eq n pid) [
-      | inl h ↦ sym (ap (λ (y : Record). y.borrowed) (same_Some (now_of m.was regs out since) x (sym m.changes.changed ∙ ap (λ (k : ℕ). find k new) (sym h) ∙ e)))
-          ∙ b n m.was (ap (λ (k : ℕ). find k old) h ∙ m.found)
-      | inr d ↦ b n x (sym (m.changes.others n d) ∙ e)
+    forth : (k : ℕ) (q : Record) → find k old ≡ Some q → (r : Record) × (find k new ≡ Some r) × (r.state ≡ q.state)
+    forth k q g = elim (cases_eq k pid) [
+      | inl i ↦ (now_of m.was regs out since, ap (λ (l : ℕ). find l new) i ∙ m.changes.changed, ap (λ (r : Record). r.state) (same_Some m.was q (sym m.found ∙ ap (λ (l : ℕ). find l old) (sym i) ∙ g)))
+      | inr d ↦ (q, m.changes.others k d ∙ g, refl)
     ]
 
 -- Who is out has a record that lasts.

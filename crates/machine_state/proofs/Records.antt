@@ -38,7 +38,7 @@ found_pid n (q ∷ qs) p e = elim (cases_eq q.pid n) [
   | inr d ↦ found_pid n qs p (sym (find_miss n q qs d) ∙ e)
 ]
 
-shown_pid : (n : ℕ) (ps : List Record) (p : Proc) → proc_of (find n ps) ≡ Some p → p.pid ≡ n
+pub shown_pid : (n : ℕ) (ps : List Record) (p : Proc) → proc_of (find n ps) ≡ Some p → p.pid ≡ n
 shown_pid n ps p h = go (find n ps) refl h
   where
     go : (o : Option Record) → find n ps ≡ o → proc_of o ≡ Some p → p.pid ≡ n
@@ -150,7 +150,7 @@ both_or_neither false true f g = g refl
 both_or_neither false false f g = refl
 
 -- the same lend as before
-any_same : (f : Record → Bool) (old new : List Record) → ArePidsApart old → ArePidsApart new
+pub any_same : (f : Record → Bool) (old new : List Record) → ArePidsApart old → ArePidsApart new
     → ((n : ℕ) (p : Record) → find n old ≡ Some p → (q : Record) × (find n new ≡ Some q) × (f q ≡ f p))
     → ((n : ℕ) (p : Record) → find n new ≡ Some p → (q : Record) × (find n old ≡ Some q) × (f q ≡ f p)) → list_any f new ≡ list_any f old
 any_same f old new a b there back = both_or_neither (list_any f new) (list_any f old)

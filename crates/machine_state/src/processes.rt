@@ -5,8 +5,20 @@ ghost use Rattle.machine_state.specs.Lives.{space_held};
 ghost use Rattle.machine_state.specs.Moves.{LeftRegs};
 
 use crate::tables::Tables;
-use proc_table::{Life, Proc};
+use proc_table::{Life, Proc, ProcTable};
 use vm_facts::Regs;
+
+/// The record of a process that the table has.
+pub(crate) fn record_of(processes: &ProcTable, pid: u32) -> Proc
+    requires { IsSome (find pid processes.now) }
+    ensures found { find pid processes.now ≡ Some result }
+    ensures table { IsTable processes.now }
+{
+    match processes.get(pid) {
+        Some(process) => *process,
+        None => unreachable!(),
+    }
+}
 
 impl Tables {
     /// The record of a process that there is.
@@ -15,10 +27,7 @@ impl Tables {
         ensures record { find pid self.now.processes ≡ Some result }
         ensures sound { IsTable self.now.processes }
     {
-        match self.processes.get(pid) {
-            Some(process) => *process,
-            None => unreachable!(),
-        }
+        record_of(&self.processes, pid)
     }
 
     /// Another record for a process that there is.

@@ -1,7 +1,7 @@
 //! Processes that go out and come in: their u pages.
 ghost use Rattle.std.specs.Prelude.{◌≡◌, ◌≢◌, ◌⊎◌, ℕ, ◌+◌, ◌<◌, ◌≤◌, ◌^◌, ◌↔◌, false, length, Some, None, IsSome, OnOk, OnErr, Err};
 ghost use Rattle.flat_state.specs.Flat.{cleared};
-ghost use Rattle.proc_table.specs.Records.{find, IsTable};
+ghost use Rattle.proc_table.specs.Records.{find};
 ghost use Rattle.swap_book.specs.declared.Owner.TheVariants.{U as UOwner};
 ghost use Rattle.swap_book.specs.Holdings.{block_in};
 ghost use Rattle.page_model.specs.Pages.{numbered};
@@ -13,6 +13,7 @@ ghost use Rattle.machine_state.specs.Done.{CountsReads, CountsWrites};
 ghost use Rattle.machine_state.specs.Swapping.{IsIn, WritesU, SwapBehind, CallsNone, KeepsOut, KeepsIn, MovedRecord, IsUPage};
 
 use crate::machine::Machine;
+use crate::processes::record_of;
 use crate::tables::Tables;
 use crate::{notes, u_pages};
 use io_edge::{Moved, SwapDev};
@@ -30,18 +31,6 @@ fn no_regs() -> Regs
         z: false,
         v: false,
         c: false,
-    }
-}
-
-// The record of a process that there is.
-fn record_of(processes: &ProcTable, pid: u32) -> Proc
-    requires { IsSome (find pid processes.now) }
-    ensures found { find pid processes.now ≡ Some result }
-    ensures table { IsTable processes.now }
-{
-    match processes.get(pid) {
-        Some(process) => *process,
-        None => unreachable!(),
     }
 }
 
@@ -88,7 +77,7 @@ impl Tables {
         requires holds { (sid : ℕ) × (space_held (find pid self.now.processes) ≡ Some sid) × IsSome (numbered (λ s. s.sid) sid self.now.spaces) }
         ensures { IsUPage self.now pid result }
     {
-        let process = record_of(&self.processes, pid);
+        let process = self.process(pid);
         let Life::Holds(sid) = process.state else {
             unreachable!()
         };

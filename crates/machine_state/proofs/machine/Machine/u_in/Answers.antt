@@ -6,7 +6,7 @@ use Rattle.machine_state.specs.declared.tables.Tables.{Tables}
 use Rattle.machine_state.specs.Machine.{Standing, kernel_by}
 use Rattle.machine_state.specs.Calls.{CanComeIn}
 use Rattle.machine_state.specs.Swapping.{AreStored, KeepsIn, IsIn}
-use Rattle.machine_state.proofs.Standings.{running, stands_now, whole_now}
+use Rattle.machine_state.proofs.Standings.{running, stands_now, whole_now, no_room}
 use Rattle.machine_state.proofs.MovedRecords.{IsOutThere}
 use Rattle.machine_state.proofs.Goings.{Gone, with_records, in_is, in_stands, block_there, block_place, read_regs, in_keeps, entering, entering_alive, entering_lasts}
 use Rattle.machine_state.proofs.machine.Machine.u_in.Goals as goal
@@ -78,6 +78,7 @@ invariant_of-self-in-Done u c _ =
     record {
       stands = in_stands m c.move_record.new.processes c.push_reserved.new.self.items c.make_room.new.stopped c.args.pid c.regs_in-regs.result c.next_place-since.result g now.stands whole r (omega (arith, c.in_ok-make_room.ensures.ok.1));
       none_lost = now.none_lost;
+      room = no_room _ _ _ c.make_room.ensures.room;
     }
 
 pub returns-in-Done-clause-step : goal.returns-in-Done-clause-step

@@ -6,7 +6,7 @@ use Rattle.machine_state.specs.declared.tables.Tables.{Tables}
 use Rattle.machine_state.specs.Machine.{Standing, kernel_by}
 use Rattle.machine_state.specs.Calls.{CanGoOut}
 use Rattle.machine_state.specs.Swapping.{WritesU, KeepsOut}
-use Rattle.machine_state.proofs.Standings.{running, stands_now, whole_now}
+use Rattle.machine_state.proofs.Standings.{running, stands_now, whole_now, no_room}
 use Rattle.machine_state.proofs.Goings.{Gone, with_records, out_is, out_stands, Leaving, leaving, leaving_alive, leaving_held, leaving_lasts, bytes_are, block_there, block_place, written, out_keeps}
 use Rattle.machine_state.proofs.machine.Machine.u_out.Goals as goal
 
@@ -77,6 +77,7 @@ invariant_of-self-in-Done u c _ =
     record {
       stands = out_stands m c.move_record.new.processes c.push_reserved.new.self.items c.make_room.new.stopped c.args.pid c.no_regs.result c.next_place-since.result g c.no_regs.ensures now.stands whole r (omega (arith, c.in_ok-make_room.ensures.ok.1));
       none_lost = now.none_lost;
+      room = no_room _ _ _ c.make_room.ensures.room;
     }
 
 pub returns-in-Done-clause-step : goal.returns-in-Done-clause-step
