@@ -107,6 +107,7 @@ asked_stands m s b found stopped ws hs a h r =
         borrowed = n.stands.borrowed;
       };
       none_lost = n.none_lost;
+      room = n.room;
     }
 
 pub asked_standing : (m : Inside) (s : Standing) (b : Book) (found : ℕ) (stopped : Bool) (ws : List Wanted) (hs : Holdings) → Asked m s b found stopped ws hs
