@@ -39,6 +39,8 @@ use Rattle.machine_state.proofs.Evicts.{Head}
 use Rattle.machine_state.proofs.Fills.{Took, took_is, took_apart, took_there}
 use Rattle.machine_state.proofs.Likes.{placed_alike, evicted_alike, placed_filled, evicted_filled, frame_fits}
 use Rattle.machine_state.proofs.Kept.{Ties, tied_still, still_there, evicted_there, evicted_heads}
+use Rattle.machine_state.proofs.Marks.{marks_entered, set_resident}
+use Rattle.core_map.specs.Slots.{page_of as token_page}
 
 -- a page of a space, or of text that a space shares, has an entry
 pub shared_entry : (t : Lists) (q : Page) → Tied t → IsShared (placement_of t) q → IsThere (placement_of t) q → IsSome (entry_in t.spaces q)
@@ -133,8 +135,9 @@ come_frames t page rest token q ts known h =
     ap (λ (m : ℕ). map (bytes_held n) (range_with_len 1 m)) (ap (λ (m : ℕ). m - 1) (length-set t.slots f tokens.Away))
     ∙ Rattle.machine_state.proofs.Evicts.frames_same (bytes_held t) (bytes_held n) (range_with_len 1 (length t.slots - 1)) same
 
-come_ties : (t : Lists) (page : Option Page) (rest : List ℕ) (token : Frame) (q : Page) (ts : List Transfer) → Ties t (coming (taken t token.number page rest) token q ts)
-come_ties t page rest token q ts = record {
+come_ties : (t : Lists) (page : Option Page) (rest : List ℕ) (token : Frame) (q : Page) (ts : List Transfer) → Known t → token_page (slot_at t.slots token.number) ≡ page → frame_of (state_of (placement_of t) q) ≡ None
+    → Ties t (coming (taken t token.number page rest) token q ts)
+come_ties t page rest token q ts k e none = record {
   slots = length-set t.slots token.number tokens.Away;
   facts = refl;
   heads = placed_heads (evicted t.texts page t.spaces) q (places.Frame token.number false false) ∙ evicted_heads t.texts page t.spaces;
@@ -142,6 +145,8 @@ come_ties t page rest token q ts = record {
   alike = λ h. placed_alike (evicted t.texts page t.spaces) q (places.Frame token.number false false) (evicted_alike t.texts page t.spaces h);
   filled = λ h. placed_filled t.facts (evicted t.texts page t.spaces) q (places.Frame token.number false false) (frame_fits q token.number false false) (evicted_filled t.facts t.texts page t.spaces h);
   counts = λ i. refl;
+  marked = marks_entered t token.number token.number page rest q (places.Frame token.number false false) (coming (taken t token.number page rest) token q ts) k e none (λ h d. refl) refl refl
+      (λ a r mark h. absurd (let x = set_resident t.slots token.number tokens.Away a r mark h in cc));
   whole = λ x. x;
   once = λ x. x;
 }
@@ -158,8 +163,8 @@ come_known t page rest token was q demanded source known h sh can latest core =
       core = core;
       owns = subst Rattle.page_model.specs.Ownership.OwnsFrames (sym is) (get_owner (placement_of t) source demanded q known.owns can latest);
       aside = subst Rattle.page_model.specs.Ownership.TextAside (sym is) (get_aside (placement_of t) source demanded q known.owns can latest known.aside sh);
-      tied = tied_still t n (come_ties t page rest token q (join_last t.transfers e x)) known.tied;
-      differ = subst AllDistinct (sym (head_sids n.spaces t.spaces (come_ties t page rest token q (join_last t.transfers e x)).heads)) known.differ;
+      tied = tied_still t n (come_ties t page rest token q (join_last t.transfers e x) known (ap token_page h.was) can.frameless) known.tied;
+      differ = subst AllDistinct (sym (head_sids n.spaces t.spaces (come_ties t page rest token q (join_last t.transfers e x) known (ap token_page h.was) can.frameless).heads)) known.differ;
       numbers = ap flying (parts_join t.transfers e x latest) ∙ flying-append (parts_of t.transfers) (moving e x ∷ [])
           ∙ ap (λ (ns : List ℕ). ns ++ token.number ∷ []) known.numbers ∙ sym (map-append flown_number t.flown (record { page = q; token = token } ∷ []));
     }

@@ -1,5 +1,5 @@
 -- The step of `Copy`, from what the calls of the tables leave.
-use Rattle.std.proofs.Common.{◌≡◌, inl, ℕ, ◌<◌, Bool, true, cond, List, [], ◌∷◌, ◌++◌, length, map, drop, Some, refl, sym, ap, ◌∙◌, subst, arith}
+use Rattle.std.proofs.Common.{◌≡◌, inl, ℕ, ◌<◌, Bool, true, cond, List, [], ◌∷◌, ◌++◌, length, map, drop, Some, refl, sym, ap, ◌∙◌, subst, arith, None}
 use Rattle.std.proofs.lemmas.List.{length-set, get_or-set_other}
 use Rattle.vm_facts.specs.declared.page.Page.{Page}
 use Rattle.vm_facts.specs.declared.page.PageState.{PageState}
@@ -101,9 +101,9 @@ copying_rest t u v w token copy q parent f others z =
     ∙ ap (λ (x : Tables). record x { fills = w.fills }) z.seat.rest
     ∙ ap (λ (x : Tables). record x { core = v.core; spaces = v.spaces; fills = w.fills }) z.took.rest
 
-pub copy_ties : (t u v w : Tables) (token copy : Frame) (q parent : Page) (f : ℕ) (others : List Due) → Copying t u v w token copy q parent f others → Ties (lists_of t) (lists_of w)
-copy_ties t u v w token copy q parent f others z =
-    subst (Ties (lists_of t)) (sym (copying_lists t u v w token copy q parent f others z)) (zeroed_ties (lists_of t) token.number (page_of (slot_at t.core.slots token.number)) u.core.free copy q)
+pub copy_ties : (t u v w : Tables) (token copy : Frame) (q parent : Page) (f : ℕ) (others : List Due) → Copying t u v w token copy q parent f others → frame_of (state_of (placement_of (lists_of t)) q) ≡ None → Ties (lists_of t) (lists_of w)
+copy_ties t u v w token copy q parent f others z none =
+    subst (Ties (lists_of t)) (sym (copying_lists t u v w token copy q parent f others z)) (zeroed_ties (lists_of t) token.number (page_of (slot_at t.core.slots token.number)) u.core.free copy q z.known refl z.writable z.there none)
 
 -- the first free frame was taken
 copying_took : (t u v w : Tables) (token copy : Frame) (q parent : Page) (f : ℕ) (others : List Due) → Copying t u v w token copy q parent f others
@@ -170,7 +170,7 @@ copy_runs m u v w token copy q parent f others journal stopped r can z ej es =
       sound = subst (λ (n : ℕ). Sound n (kernel_by w (journal ++ entries.Copy q ∷ []) stopped)) (sym size) (subst (Sound m.tables.book.size) (sym is) (copy_sound m.tables.book.size k q r.sound enter (writable_shared k.place q can.writable)));
       numbered = subst Numbered (sym is) (copy_numbered k q r.numbered);
       due = subst (λ (x : Kernel). DueStand x.place) (sym is) (entry_due [] 0 k.place (entries.Copy q) r.sound.owner.frames enter (left_due m.tables.fills.items q parent others z.once z.due) r.due);
-      tied = tied_still (lists_of m.tables) (lists_of w) (copy_ties m.tables u v w token copy q parent f others z) r.tied;
+      tied = tied_still (lists_of m.tables) (lists_of w) (copy_ties m.tables u v w token copy q parent f others z (ap frame_of can.unfilled)) r.tied;
     }
 
 pub copy_keeps : (size : ℕ) (k : Kernel) (q parent : Page) → Sound size k → CanCopy k.place q parent → KeepsFlat k (copy_step k q)

@@ -120,7 +120,7 @@ ending_known t o n a k = record {
   core = k.core;
   owns = subst OwnsFrames (sym (ending_place t o n a)) k.owns;
   aside = subst TextAside (sym (ending_place t o n a)) k.aside;
-  tied = record { few_frames = k.tied.few_frames; few_images = k.tied.few_images; few_pages = k.tied.few_pages; sound = k.tied.sound; small_texts = k.tied.small_texts; shared = k.tied.shared; alike = k.tied.alike; filled = k.tied.filled; counted = k.tied.counted; whole = k.tied.whole; once = k.tied.once };
+  tied = record { few_frames = k.tied.few_frames; few_images = k.tied.few_images; few_pages = k.tied.few_pages; sound = k.tied.sound; small_texts = k.tied.small_texts; shared = k.tied.shared; alike = k.tied.alike; filled = k.tied.filled; counted = k.tied.counted; marked = k.tied.marked; whole = k.tied.whole; once = k.tied.once };
   differ = k.differ;
   numbers = ap (λ (x : Transfer). flying (parts_of (x ∷ map transfer_shown t.ring))) a.shown ∙ k.numbers ∙ sym (same_numbers (flown_in o) (flown_in n) (flown t.ring) a.same);
 }

@@ -60,6 +60,10 @@ use Rattle.machine_state.proofs.Kept.{sharers_heads}
 use Rattle.machine_state.proofs.Residing.{Resides, resides, seat_resides, resides_state, resides_seat}
 use Rattle.machine_state.proofs.Turning.{Turning, turn_is, turn_frames, turn_heads, turn_tied}
 use Rattle.machine_state.proofs.Puttings.{put_some}
+use Rattle.machine_state.proofs.Marks.{placed_mark, resident_page, resident_mark}
+use Rattle.text_table.specs.Texts.{Text as SharedText}
+use Rattle.space_map.specs.Space.{Places}
+use Rattle.machine_state.specs.Steps.{dirty_shown}
 
 -- What the definitions say, by cases.
 
@@ -160,6 +164,11 @@ mark_shown t (Text i v) f b c x m e a h =
     ∙ ap (λ (d : Bool). record (page_shown t (Text i v) (places.Frame f false c)) { state = idle_state f d c }) a
     ∙ ap (λ (d : Bool). let z : Slot = record { state = Invalid f; mark = d; filling = Zeros } in z) (sym h)
 
+expired_mark : (ss : List Places) (ts : List SharedText) (f : ℕ) (b c : Bool) (q : Page) → entry_in ss q ≡ Some (places.Frame f b c) → dirty_shown ss ts q ≡ placed_mark ts (places.Frame f false c) q
+expired_mark ss ts f b c (Data n v) e = ap changed_named e
+expired_mark ss ts f b c (Stack n v) e = ap changed_named e
+expired_mark ss ts f b c (Text i v) e = refl
+
 expiring : (t : Lists) (q : Page) (f : ℕ) → Known t → (r : Resides t q f)
     → Turning t (record t { spaces = map (placed q (places.Frame f false r.changed)) t.spaces }) q f (places.Frame f false r.changed) (Invalid f) (mark_of (placement_of t) q)
 expiring t q f k r = record {
@@ -180,6 +189,8 @@ expiring t q f k r = record {
   back = refl;
   shows = same_shown q (mark_shown t q f r.valid r.changed (tokens.Resident r.token q r.dirty) (mark_of (placement_of t) q) r.slot refl (ap (λ (s : Slot). s.mark) r.shown));
   filling = λ y. refl;
+  marks = λ m a w mark h. let y : tokens.Resident r.token q r.dirty ≡ tokens.Resident a w mark = sym r.slot ∙ h in
+      (resident_page r.token a q w r.dirty mark y, resident_mark r.token a q w r.dirty mark y ∙ m f r.token q r.dirty r.slot ∙ expired_mark t.spaces t.texts f r.valid r.changed q r.entry);
   fits = frame_fits q f false r.changed;
 }
   where
@@ -392,7 +403,7 @@ moved_hands t u v w locked k is rest m ef eb rw =
     record {
       place = stepped ∙ ap advance (m.place ∙ ap (λ (q : Placement). sweep q locked) r.place);
       frames = ap (λ (z : Tables). frames_of (lists_of z)) rw ∙ m.frames ∙ r.frames;
-      tied = subst (λ (z : Tables). Rattle.machine_state.specs.Tied.Tied (lists_of z)) (sym rw) (record { few_frames = m.tied.few_frames; few_images = m.tied.few_images; few_pages = m.tied.few_pages; sound = m.tied.sound; small_texts = m.tied.small_texts; shared = m.tied.shared; alike = m.tied.alike; filled = m.tied.filled; counted = m.tied.counted; whole = m.tied.whole; once = m.tied.once });
+      tied = subst (λ (z : Tables). Rattle.machine_state.specs.Tied.Tied (lists_of z)) (sym rw) (record { few_frames = m.tied.few_frames; few_images = m.tied.few_images; few_pages = m.tied.few_pages; sound = m.tied.sound; small_texts = m.tied.small_texts; shared = m.tied.shared; alike = m.tied.alike; filled = m.tied.filled; counted = m.tied.counted; marked = m.tied.marked; whole = m.tied.whole; once = m.tied.once });
       images = λ sid. ap (λ (z : Tables). image_at z sid) rw ∙ m.images sid ∙ Rattle.machine_state.proofs.Standings.images_heads t u r.heads sid;
       ring = subst (λ (hs : Holdings). Rattle.machine_state.specs.Launches.AddsWrite hs t.ring w.ring) (ap (λ (z : Tables). z.book.holdings) rest)
           (subst (λ (z : Tables). Rattle.machine_state.specs.Launches.AddsWrite u.book.holdings z.ring w.ring) rest

@@ -21,6 +21,7 @@ use Rattle.machine_state.specs.View.{Lists, pages_in, due_shown}
 use Rattle.machine_state.specs.Due.{IsFirstStart, AreWhole, DueOnce}
 use Rattle.machine_state.specs.New.{AreSound}
 use Rattle.machine_state.specs.Tied.{Tied}
+use Rattle.machine_state.specs.Marked.{AreMarked}
 use Rattle.machine_state.specs.Alike.{EachSpace, IsFilled, HasFewPages, AreAlike}
 use Rattle.machine_state.specs.Steps.{left_place, evicted}
 use Rattle.machine_state.proofs.Entries.{Head, head_of, entry_same, entry_other, placed_heads}
@@ -66,6 +67,7 @@ pub record Ties (t u : Lists) : Type 0 where
   pub alike : AreAlike t.spaces → AreAlike u.spaces
   pub filled : EachSpace (IsFilled t.facts) t.spaces → EachSpace (IsFilled t.facts) u.spaces
   pub counts : (image : ℕ) → (text_of u.texts image).sharers ≡ (text_of t.texts image).sharers
+  pub marked : AreMarked t.slots t.spaces t.texts → AreMarked u.slots u.spaces u.texts
   pub whole : AreWhole t.fills → AreWhole u.fills
   pub once : DueOnce t.fills → DueOnce u.fills
 
@@ -94,6 +96,7 @@ tied_still t u s k = record {
   alike = s.alike k.alike;
   filled = subst (λ (fs : List Image). EachSpace (IsFilled fs) u.spaces) (sym s.facts) (s.filled k.filled);
   counted = λ i l m. s.counts i ∙ k.counted i l m ∙ sym (sharers_heads u.slots t.slots u.spaces t.spaces i s.heads);
+  marked = s.marked k.marked;
   whole = s.whole k.whole;
   once = s.once k.once;
 }

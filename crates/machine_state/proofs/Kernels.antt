@@ -1,6 +1,6 @@
 -- The kernel of a machine, from the calls of its tables.
-use Rattle.std.proofs.Common.{◌≡◌, ℕ, Bool, true, List, [], ◌∷◌, ◌++◌, set, refl, sym, ap, ◌∙◌, subst, Option}
-use Rattle.std.proofs.lemmas.List.{length-set}
+use Rattle.std.proofs.Common.{◌≡◌, ℕ, Bool, true, List, [], ◌∷◌, ◌++◌, set, refl, sym, ap, ◌∙◌, subst, Option, None, IsSome, map}
+use Rattle.std.proofs.lemmas.List.{length-set, get_or-set_other}
 use Rattle.vm_facts.specs.declared.page.Page.{Page}
 use Rattle.vm_facts.specs.declared.page.Page.TheVariants.{Data, Stack, Text}
 use Rattle.vm_facts.specs.declared.entry.Entry.{Entry}
@@ -10,7 +10,7 @@ use Rattle.core_map.specs.Slots.{slot_at, page_of as token_page}
 use Rattle.core_map.specs.declared.slot.Slot.TheVariants as tokens
 use Rattle.swap_book.specs.Holdings.{Holdings}
 use Rattle.page_model.specs.Pages.{frame_of}
-use Rattle.page_model.specs.Placement.{Placement}
+use Rattle.page_model.specs.Placement.{Placement, IsThere, state_of}
 use Rattle.page_model.specs.Conditions.{CanEnter, IsShared}
 use Rattle.page_model.specs.PageBytes.{IsWritable}
 use Rattle.page_model.specs.Dues.{DueStand}
@@ -32,6 +32,10 @@ use Rattle.machine_state.proofs.Evicts.{Head}
 use Rattle.machine_state.proofs.Zeros.{Zeroing, zeroed, zeroing_lists, zero_place, zero_frames, starts_first}
 use Rattle.machine_state.proofs.Likes.{placed_alike, evicted_alike, placed_filled, evicted_filled, frame_fits}
 use Rattle.machine_state.proofs.Kept.{Ties, tied_still, still_there, evicted_there, evicted_heads, whole_rest, once_rest, left_due}
+use Rattle.machine_state.proofs.Marks.{marks_entered, marks_here, dirty_place, set_resident, resident_page, resident_mark}
+use Rattle.machine_state.specs.Known.{Known}
+use Rattle.machine_state.proofs.Arrives.{data_there, stack_there}
+use Rattle.machine_state.specs.Shown.{entry_in}
 
 pub kernel_ext : (a b : Kernel) → a.place ≡ b.place → a.holdings ≡ b.holdings → a.processes ≡ b.processes → a.next_pid ≡ b.next_pid → a.next_sid ≡ b.next_sid → a.starts ≡ b.starts
     → a.frames ≡ b.frames → a.journal ≡ b.journal → a.stopped ≡ b.stopped → a ≡ b
@@ -81,8 +85,14 @@ writable_shared p (Data n v) w = tt
 writable_shared p (Stack n v) w = tt
 writable_shared p (Text i v) w = absurd w
 
-pub zeroed_ties : (t : Lists) (f : ℕ) (page : Option Page) (rest : List ℕ) (filling : Frame) (q : Page) → Ties t (zeroed t f page rest filling q)
-zeroed_ties t f page rest filling q = record {
+writable_entry : (t : Lists) (q : Page) → IsWritable q → IsThere (placement_of t) q → IsSome (entry_in t.spaces q)
+writable_entry t (Data n v) w there = data_there t.slots t.spaces n v there
+writable_entry t (Stack n v) w there = stack_there t.slots t.spaces n v there
+writable_entry t (Text i v) w there = absurd w
+
+pub zeroed_ties : (t : Lists) (f : ℕ) (page : Option Page) (rest : List ℕ) (filling : Frame) (q : Page) → Known t → token_page (slot_at t.slots f) ≡ page → IsWritable q → IsThere (placement_of t) q
+    → frame_of (state_of (placement_of t) q) ≡ None → Ties t (zeroed t f page rest filling q)
+zeroed_ties t f page rest filling q k e w there none = record {
   slots = length-set (set t.slots f tokens.Away) filling.number (tokens.Resident filling q true) ∙ length-set t.slots f tokens.Away;
   facts = refl;
   heads = placed_heads (evicted t.texts page t.spaces) q (Rattle.vax_pte.specs.declared.Place.TheVariants.Frame filling.number true true) ∙ evicted_heads t.texts page t.spaces;
@@ -90,13 +100,18 @@ zeroed_ties t f page rest filling q = record {
   alike = λ h. placed_alike (evicted t.texts page t.spaces) q (Rattle.vax_pte.specs.declared.Place.TheVariants.Frame filling.number true true) (evicted_alike t.texts page t.spaces h);
   filled = λ h. placed_filled t.facts (evicted t.texts page t.spaces) q (Rattle.vax_pte.specs.declared.Place.TheVariants.Frame filling.number true true) (frame_fits q filling.number true true) (evicted_filled t.facts t.texts page t.spaces h);
   counts = λ i. refl;
+  marked = marks_entered t f filling.number page rest q (Rattle.vax_pte.specs.declared.Place.TheVariants.Frame filling.number true true) (zeroed t f page rest filling q) k e none
+      (λ h d. get_or-set_other (set t.slots f tokens.Away) filling.number h (tokens.Resident filling q true) tokens.Away d) refl refl
+      (λ token r mark h. let x = set_resident (set t.slots f tokens.Away) filling.number (tokens.Resident filling q true) token r mark h in
+      marks_here (evicted t.texts page t.spaces) t.texts (Rattle.vax_pte.specs.declared.Place.TheVariants.Frame filling.number true true) q r mark (evicted_there t.texts page t.spaces q (writable_entry t q w there))
+      (resident_page filling token q r true mark x) (resident_mark filling token q r true mark x ∙ sym (dirty_place t.texts filling.number q w)));
   whole = whole_rest t.fills;
   once = once_rest t.fills;
 }
 
-pub zero_ties : (t u v w : Tables) (token filling : Frame) (q : Page) → Zeroing t u v w token filling q → Ties (lists_of t) (lists_of w)
-zero_ties t u v w token filling q z =
-    subst (Ties (lists_of t)) (sym (zeroing_lists t u v w token filling q z)) (zeroed_ties (lists_of t) token.number (token_page (slot_at t.core.slots token.number)) u.core.free filling q)
+pub zero_ties : (t u v w : Tables) (token filling : Frame) (q : Page) → Zeroing t u v w token filling q → frame_of (state_of (placement_of (lists_of t)) q) ≡ None → Ties (lists_of t) (lists_of w)
+zero_ties t u v w token filling q z none =
+    subst (Ties (lists_of t)) (sym (zeroing_lists t u v w token filling q z)) (zeroed_ties (lists_of t) token.number (token_page (slot_at t.core.slots token.number)) u.core.free filling q z.known refl z.writable z.there none)
 
 pub zero_runs : (m : Inside) (u v w : Tables) (token filling : Frame) (q : Page) (journal : List Entry) (stopped : Bool)
     → Runs (kernel_by m.tables m.journal.items m.stopped) (lists_of m.tables) m.tables.book.size → CanZero (placement_of (lists_of m.tables)) q → Zeroing m.tables u v w token filling q
@@ -112,5 +127,5 @@ zero_runs m u v w token filling q journal stopped r can z ej es =
       sound = subst (λ (n : ℕ). Sound n (kernel_by w (journal ++ entries.Zero q ∷ []) stopped)) (sym size) (subst (Sound m.tables.book.size) (sym is) (zero_sound m.tables.book.size k q r.sound enter (writable_shared k.place q can.writable)));
       numbered = subst Numbered (sym is) (zero_numbered k q r.numbered);
       due = subst (λ (x : Kernel). DueStand x.place) (sym is) (entry_due [] 0 k.place (entries.Zero q) r.sound.owner.frames enter (left_due m.tables.fills.items q z.once z.first) r.due);
-      tied = tied_still (lists_of m.tables) (lists_of w) (zero_ties m.tables u v w token filling q z) r.tied;
+      tied = tied_still (lists_of m.tables) (lists_of w) (zero_ties m.tables u v w token filling q z enter.frameless) r.tied;
     }

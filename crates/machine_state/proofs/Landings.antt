@@ -43,6 +43,10 @@ use Rattle.machine_state.proofs.Kept.{Ties, tied_still, still_there}
 use Rattle.machine_state.proofs.Flights.{InFlight, in_flight}
 use Rattle.machine_state.proofs.Lands.{Landing, land_is, land_frames}
 use Rattle.machine_state.proofs.Standings.{images_heads}
+use Rattle.machine_state.proofs.Marks.{placed_mark, marks_placed, marks_here, alone_in, set_resident, resident_page, resident_mark}
+use Rattle.machine_state.proofs.Knows.{texts_here}
+use Rattle.machine_state.proofs.Comes.{shared_entry}
+use Rattle.page_laws.proofs.Moves.Steps.{page_in}
 
 -- Text that was written is saved.
 
@@ -118,6 +122,11 @@ rested_shown n (Text i v) f m a c t =
     ap (λ (x : Bool). let z : Slot = record { state = idle_state f x false; mark = is_saved (text_of n.texts i) v; filling = Zeros } in z) a
     ∙ ap (λ (x : Bool). let z : Slot = record { state = Invalid f; mark = x; filling = Zeros } in z) (sym (t i v refl))
 
+seat_mark : (ts : List SharedText) (f : ℕ) (b : Bool) (q : Page) → arrives_dirty ts q b ≡ placed_mark ts (places.Frame f true (arrives_dirty ts q b)) q
+seat_mark ts f b (Data n v) = refl
+seat_mark ts f b (Stack n v) = refl
+seat_mark ts f b (Text i v) = refl
+
 -- One page.
 
 pub record Landed (t u : Tables) (e : Errand) (x : Part) (xs : List Part) (y : Flown) (fs : List Flown) : Type 0 where
@@ -154,6 +163,9 @@ landed_by t u e xs q token fs x place texts free s m l is turns core rest heads 
       alike = λ h. placed_alike t.spaces q place h;
       filled = λ h. placed_filled was.facts t.spaces q place l.fits h;
       counts = l.counts;
+      marked = marks_placed was n q f place (texts_here was l.known) (λ g d. get_or-set_other t.core.slots f g x tokens.Away d) refl l.saved (alone_in was q f l.known l.frame)
+          (λ a r mark h. let y = l.marks a r mark (set_resident t.core.slots f x a r mark h) in
+          marks_here t.spaces texts place q r mark (shared_entry was q l.known.tied l.shared (page_in (placement_of was) q f l.frame)) y.0 y.1);
       whole = λ h. h;
       once = λ h. h;
     } in
@@ -208,6 +220,7 @@ seat_lands t u b demanded xs q token fs same k s core =
       bytes = λ o. refl;
       saved = λ i v n l. refl;
       counts = λ i. refl;
+      marks = λ a r mark h. (resident_page token a q r d mark h, resident_mark token a q r d mark h ∙ seat_mark t.texts f b q);
       fits = frame_fits q f _ _;
       filling = λ y. refl;
       shows = λ free rest. valid_shown (landed was q f (tokens.Resident token q d) (places.Frame f true d) free t.texts rest (fs ++ flown t.ring)) q f b (mark_of p q) clean (text_mark was q g.there);
@@ -244,6 +257,7 @@ rest_lands t u b demanded xs q token fs same k s core =
       bytes = λ o. refl;
       saved = λ i v n l. refl;
       counts = λ i. refl;
+      marks = λ a r mark h. absurd cc;
       fits = frame_fits q f _ _;
       filling = λ y. refl;
       shows = λ free rest. rested_shown (landed was q f x (places.Frame f false false) free t.texts rest (fs ++ flown t.ring)) q f (mark_of p q) (ap is_away (get_or-set_same t.core.slots f x tokens.Away g.below)) clean (text_mark was q g.there);
@@ -287,6 +301,7 @@ write_lands t u xs q token fs low k s core =
       bytes = λ o. refl;
       saved = λ i v n l. save_others t.texts q i v s.table low l n;
       counts = save_counts t.texts q low;
+      marks = λ a r mark h. absurd cc;
       fits = frame_fits q f false false;
       filling = λ y. refl;
       shows = λ free rest. rested_shown (landed was q f x (places.Frame f false false) free texts rest (fs ++ flown t.ring)) q f (written_mark q) (ap is_away (get_or-set_same t.core.slots f x tokens.Away g.below)) (written_clean q)
@@ -303,7 +318,7 @@ write_lands t u xs q token fs low k s core =
 -- The end of it all.
 
 pub closed_tied : (t : Tables) (e : Errand) → Known (closing t e [] []) → Tied (lists_of t)
-closed_tied t e k = record { few_frames = k.tied.few_frames; few_images = k.tied.few_images; few_pages = k.tied.few_pages; sound = k.tied.sound; small_texts = k.tied.small_texts; shared = k.tied.shared; alike = k.tied.alike; filled = k.tied.filled; counted = k.tied.counted; whole = k.tied.whole; once = k.tied.once }
+closed_tied t e k = record { few_frames = k.tied.few_frames; few_images = k.tied.few_images; few_pages = k.tied.few_pages; sound = k.tied.sound; small_texts = k.tied.small_texts; shared = k.tied.shared; alike = k.tied.alike; filled = k.tied.filled; counted = k.tied.counted; marked = k.tied.marked; whole = k.tied.whole; once = k.tied.once }
 
 -- The first of the parts that are left.
 pub first_taken : {A : Type 0} (xs rest : List A) (x : A) → 0 < length xs → x ≡ get_or xs 0 x → rest ≡ take 0 xs ++ drop 1 xs → xs ≡ x ∷ rest

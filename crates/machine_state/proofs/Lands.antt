@@ -30,6 +30,7 @@ use Rattle.machine_state.proofs.Held.{placement_ext}
 use Rattle.machine_state.proofs.Arrives.{page_shown, Arrives, arrives_moved, arrived}
 use Rattle.machine_state.proofs.Evicts.{frames_same}
 use Rattle.machine_state.proofs.Comes.{shared_entry}
+use Rattle.machine_state.proofs.Marks.{placed_mark}
 
 -- What is known of the page: its token is the first in flight, and comes into the map with the page and its bytes.
 pub record Landing (t : Lists) (q : Page) (f : ℕ) (token : Frame) (rest : List Flown) (x : Token) (place : Place) (texts : List SharedText) (s : PageState) (m : Bool) : Type 0 where
@@ -44,6 +45,7 @@ pub record Landing (t : Lists) (q : Page) (f : ℕ) (token : Frame) (rest : List
   pub bytes : (o : Option Flown) → bytes_by x o ≡ token.bytes
   pub saved : (image v : ℕ) → Text image v ≢ q → 1 ≤ image → is_saved (text_of texts image) v ≡ is_saved (text_of t.texts image) v
   pub counts : (image : ℕ) → (text_of texts image).sharers ≡ (text_of t.texts image).sharers
+  pub marks : (a : Frame) (r : Page) (mark : Bool) → x ≡ tokens.Resident a r mark → (r ≡ q) × (mark ≡ placed_mark texts place q)
   pub fits : FitsPage q place
   pub filling : (y : Filling) → filling_behind s y ≡ Zeros
   pub shows : (free : List ℕ) (ts : List Transfer) → page_shown (landed t q f x place free texts ts rest) q place ≡ record { state = s; mark = m; filling = Zeros }

@@ -109,6 +109,7 @@ launches t q f ts k r dirty =
       front = refl;
       back = refl;
       shows = going_shown t n q f refl here r.there dirty;
+      marks = λ m a r mark h. absurd (let y = sym here ∙ h in cc);
       filling = λ y. refl;
       fits = frame_fits q f false true;
     }
@@ -234,7 +235,7 @@ begun_known t k = record {
   core = k.core;
   owns = subst OwnsFrames (sym (begun_place t)) (begin_owner (placement_of (lists_of t)) Writes k.owns);
   aside = λ i n z. let a = k.aside i n z in record { unsaved = a.unsaved; rests = a.rests };
-  tied = record { few_frames = k.tied.few_frames; few_images = k.tied.few_images; few_pages = k.tied.few_pages; sound = k.tied.sound; small_texts = k.tied.small_texts; shared = k.tied.shared; alike = k.tied.alike; filled = k.tied.filled; counted = k.tied.counted; whole = k.tied.whole; once = k.tied.once };
+  tied = record { few_frames = k.tied.few_frames; few_images = k.tied.few_images; few_pages = k.tied.few_pages; sound = k.tied.sound; small_texts = k.tied.small_texts; shared = k.tied.shared; alike = k.tied.alike; filled = k.tied.filled; counted = k.tied.counted; marked = k.tied.marked; whole = k.tied.whole; once = k.tied.once };
   differ = k.differ;
   numbers = ap flying (parts_begin (map transfer_shown t.ring) Writes) ∙ k.numbers ∙ ap (map flown_number) (sym (append-nil (flown t.ring)));
 }

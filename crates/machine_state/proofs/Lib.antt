@@ -12,6 +12,7 @@ pub mod Loops
 pub mod Rising
 pub mod Knows
 pub mod Kept
+pub mod Marks
 pub mod Kernels
 pub mod Standings
 pub mod ZeroKeeps
@@ -58,4 +59,5 @@ pub mod Instructions
 pub mod Sharers
 pub mod Growing
 pub mod Asked
+pub mod Showings
 pub mod Hands

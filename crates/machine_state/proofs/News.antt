@@ -1,5 +1,5 @@
 -- A machine that begins is the start of a run with no process.
-use Rattle.std.proofs.Common.{◌≡◌, inl, inr, ℕ, zero, suc, ◌+◌, ◌-◌, ◌/◌, ◌<◌, ◌≤◌, Bool, false, List, [], ◌∷◌, ◌++◌, length, map, take, Result, replicate, get_or, Option, None, Ok, refl, sym, ap, ◌∙◌, subst, arith, length-append}
+use Rattle.std.proofs.Common.{◌≡◌, inl, inr, ℕ, zero, suc, ◌+◌, ◌-◌, ◌/◌, ◌<◌, ◌≤◌, Bool, false, List, [], ◌∷◌, ◌++◌, length, map, take, Result, replicate, get_or, Option, None, Ok, refl, sym, ap, ◌∙◌, subst, arith, length-append, Some}
 use Rattle.std.specs.List.{range_with_len}
 use Rattle.std.proofs.lemmas.Bool.{cases_eq}
 use Rattle.std.proofs.lemmas.List.{get_or_append_left, length-replicate}
@@ -178,6 +178,7 @@ new_runs facts frames size some few images sound = record {
     alike = tt;
     filled = tt;
     counted = λ i l m. none_shared i;
+    marked = λ f token q mark e. absurd (let x : None ≡ Some q = sym (fresh_page frames f) ∙ ap token_page e in cc);
     whole = tt;
     once = tt;
   };

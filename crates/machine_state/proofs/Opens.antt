@@ -105,7 +105,7 @@ opened_known t s q k = record {
   core = k.core;
   owns = subst Rattle.page_model.specs.Ownership.OwnsFrames (sym (opened_place t s q)) (begin_owner (placement_of (lists_of t)) (Reads s q) k.owns);
   aside = λ i n z. let a = k.aside i n z in record { unsaved = a.unsaved; rests = a.rests };
-  tied = record { few_frames = k.tied.few_frames; few_images = k.tied.few_images; few_pages = k.tied.few_pages; sound = k.tied.sound; small_texts = k.tied.small_texts; shared = k.tied.shared; alike = k.tied.alike; filled = k.tied.filled; counted = k.tied.counted; whole = k.tied.whole; once = k.tied.once };
+  tied = record { few_frames = k.tied.few_frames; few_images = k.tied.few_images; few_pages = k.tied.few_pages; sound = k.tied.sound; small_texts = k.tied.small_texts; shared = k.tied.shared; alike = k.tied.alike; filled = k.tied.filled; counted = k.tied.counted; marked = k.tied.marked; whole = k.tied.whole; once = k.tied.once };
   differ = k.differ;
   numbers = ap flying (parts_begin (map transfer_shown t.ring) (Reads s q)) ∙ k.numbers ∙ ap (map flown_number) (sym (append-nil (flown t.ring)));
 }

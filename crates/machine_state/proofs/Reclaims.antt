@@ -52,6 +52,9 @@ use Rattle.machine_state.proofs.Likes.{placed_alike, placed_filled, frame_fits}
 use Rattle.machine_state.proofs.Kept.{Ties, tied_still, still_there}
 use Rattle.machine_state.proofs.Comes.{shared_entry}
 use Rattle.machine_state.proofs.Kernels.{kernel_ext}
+use Rattle.machine_state.proofs.Marks.{placed_mark, entry_is, marks_placed, marks_here, marks_revived, set_resident}
+use Rattle.machine_state.proofs.Knows.{texts_here}
+use Rattle.text_table.specs.Texts.{Text as SharedText}
 
 -- The entry of an invalid page.
 
@@ -220,6 +223,11 @@ reclaim_kernel t u q f journal stopped r =
     refl
     refl
 
+revived_mark : (ss : List Places) (ts : List SharedText) (f : ℕ) (q : Page) → dirty_shown ss ts q ≡ placed_mark ts (places.Frame f true (dirty_shown ss ts q)) q
+revived_mark ss ts f (Data n v) = refl
+revived_mark ss ts f (Stack n v) = refl
+revived_mark ss ts f (Text i v) = refl
+
 pub reclaim_runs : (m : Inside) (u : Tables) (q : Page) (f : ℕ) (journal : List Entry) (stopped : Bool)
     → Runs (kernel_by m.tables m.journal.items m.stopped) (lists_of m.tables) m.tables.book.size → IsShared (placement_of (lists_of m.tables)) q → Reclaiming m.tables u q f → journal ≡ m.journal.items → stopped ≡ m.stopped
     → Runs (kernel_by u (journal ++ entries.Reclaim q ∷ []) stopped) (lists_of u) u.book.size
@@ -237,6 +245,11 @@ reclaim_runs m u q f journal stopped r sh g ej es =
       alike = λ h. placed_alike m.tables.spaces q (places.Frame f true (dirty_shown m.tables.spaces m.tables.texts q)) h;
       filled = λ h. placed_filled (lists_of m.tables).facts m.tables.spaces q (places.Frame f true (dirty_shown m.tables.spaces m.tables.texts q)) (frame_fits q f true (dirty_shown m.tables.spaces m.tables.texts q)) h;
       counts = λ i. refl;
+      marked = λ k. marks_placed (lists_of m.tables) (reclaimed (lists_of m.tables) q f s (dirty_shown m.tables.spaces m.tables.texts q)) q f (places.Frame f true (dirty_shown m.tables.spaces m.tables.texts q))
+          (texts_here (lists_of m.tables) g.known) (λ h d. get_or-set_other m.tables.core.slots f h s tokens.Away d) refl (λ i v d l. refl) (λ h x. g.known.core.unique h f q x g.entry.held)
+          (λ a r mark h. let y = marks_revived (lists_of m.tables) f q (slot_at m.tables.core.slots f) k refl g.entry.held a r mark (set_resident m.tables.core.slots f s a r mark h) in
+          marks_here m.tables.spaces m.tables.texts (places.Frame f true (dirty_shown m.tables.spaces m.tables.texts q)) q r mark (entry_is (entry_in m.tables.spaces q) (places.Frame f false g.entry.changed) g.entry.entry) y.0
+          (y.1 ∙ revived_mark m.tables.spaces m.tables.texts f q)) k;
       whole = λ x. x;
       once = λ x. x;
     }) in

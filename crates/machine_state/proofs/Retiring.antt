@@ -65,6 +65,7 @@ retiring t q f k r clean =
       back = refl;
       shows = rested_shown n q f (mark_of (placement_of t) q) (ap is_away here) clean (text_mark t q r.there);
       filling = λ y. refl;
+      marks = λ m a r mark h. absurd (let y = sym here ∙ h in cc);
       fits = frame_fits q f false false;
     }
 

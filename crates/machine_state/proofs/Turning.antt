@@ -29,6 +29,12 @@ use Rattle.machine_state.proofs.Arrives.{page_shown, Arrives, arrives_moved, arr
 use Rattle.machine_state.proofs.Evicts.{frames_same}
 use Rattle.machine_state.proofs.Kept.{tied_still, still_there}
 use Rattle.machine_state.proofs.Comes.{shared_entry}
+use Rattle.machine_state.proofs.Marks.{placed_mark, marks_placed, marks_here, alone_in}
+use Rattle.machine_state.specs.Marked.{AreMarked}
+use Rattle.machine_state.proofs.Knows.{texts_here}
+use Rattle.core_map.specs.declared.slot.Slot.TheVariants as tokens
+use Rattle.machine_state.specs.Steps.{dirty_shown}
+use Rattle.frame_state.specs.Frame.{Frame}
 
 -- What is known of such a step: its page has this place then, which shows this state and mark, and each frame holds
 -- the page and the bytes that it held.
@@ -50,6 +56,7 @@ pub record Turning (t n : Lists) (q : Page) (f : ℕ) (place : Place) (s : PageS
   pub back : n.back ≡ t.back
   pub shows : page_shown n q place ≡ record { state = s; mark = m; filling = Zeros }
   pub filling : (y : Filling) → filling_behind s y ≡ Zeros
+  pub marks : AreMarked t.slots t.spaces t.texts → (a : Frame) (r : Page) (mark : Rattle.std.proofs.Common.Bool) → slot_at n.slots f ≡ tokens.Resident a r mark → (r ≡ q) × (mark ≡ placed_mark t.texts place q)
   pub fits : FitsPage q place
 
 pub turn_is : (t n : Lists) (q : Page) (f : ℕ) (place : Place) (s : PageState) (m : Rattle.std.proofs.Common.Bool) → Turning t n q f place s m → placement_of n ≡ turn (placement_of t) q s m n.free n.transfers
@@ -90,6 +97,11 @@ turn_tied t n q f place s m d = tied_still t n (record {
   alike = λ h. subst_spaces AreAlike (placed_alike t.spaces q place h);
   filled = λ h. subst_spaces (EachSpace (IsFilled t.facts)) (placed_filled t.facts t.spaces q place d.fits h);
   counts = λ i. ap (λ (ts : List SharedText). (text_of ts i).sharers) d.texts;
+  marked = λ k. marks_placed t n q f place (texts_here t d.known) d.others d.spaces (λ i v x l. ap (λ (ts : List SharedText). is_saved (text_of ts i) v) d.texts) (alone_in t q f d.known d.named)
+      (λ a r mark h. let y = d.marks k a r mark h in
+      Rattle.std.proofs.Common.subst (λ (ss : List Places). mark ≡ dirty_shown ss n.texts r) (sym d.spaces)
+      (Rattle.std.proofs.Common.subst (λ (ts : List SharedText). mark ≡ dirty_shown (map (placed q place) t.spaces) ts r) (sym d.texts)
+      (marks_here t.spaces t.texts place q r mark (shared_entry t q d.known.tied d.shared (page_in (placement_of t) q f d.named)) y.0 y.1))) k;
   whole = λ h. Rattle.std.proofs.Common.subst AreWhole (sym d.fills) h;
   once = λ h. Rattle.std.proofs.Common.subst DueOnce (sym d.fills) h;
 }) d.known.tied

@@ -63,12 +63,12 @@ slot_frame slots (Some x) = place_frame slots x
 
 -- The space that stands at a place.
 
-get_spaces : (ss : List Places) (i : ℕ) (d s : Places) → slice_get ss i ≡ Some s → get_or ss i d ≡ s
+pub get_spaces : (ss : List Places) (i : ℕ) (d s : Places) → slice_get ss i ≡ Some s → get_or ss i d ≡ s
 get_spaces [] i d s e = absurd cc
 get_spaces (x ∷ xs) zero d s e = cc
 get_spaces (x ∷ xs) (suc i) d s e = get_spaces xs i d s e
 
-at_sid : (ss : List Places) (i : ℕ) (s : Places) → slice_get ss i ≡ Some s → slice_get (sids_of ss) i ≡ Some s.sid
+pub at_sid : (ss : List Places) (i : ℕ) (s : Places) → slice_get ss i ≡ Some s → slice_get (sids_of ss) i ≡ Some s.sid
 at_sid [] i s e = absurd cc
 at_sid (x ∷ xs) zero s e = let same : x ≡ s = cc in ap (λ (y : Places). Some y.sid) same
 at_sid (x ∷ xs) (suc i) s e = at_sid xs i s e
@@ -78,7 +78,7 @@ at_image slots [] i s e = absurd cc
 at_image slots (x ∷ xs) zero s e = let same : x ≡ s = cc in ap (λ (y : Places). Some y.image) same
 at_image slots (x ∷ xs) (suc i) s e = at_image slots xs i s e
 
-at_each : (P : Places → Type 0) (ss : List Places) (i : ℕ) (s : Places) → EachSpace P ss → slice_get ss i ≡ Some s → P s
+pub at_each : (P : Places → Type 0) (ss : List Places) (i : ℕ) (s : Places) → EachSpace P ss → slice_get ss i ≡ Some s → P s
 at_each P [] i s h e = absurd cc
 at_each P (x ∷ xs) zero s h e = let same : x ≡ s = cc in subst P same h.0
 at_each P (x ∷ xs) (suc i) s h e = at_each P xs i s h.1 e
@@ -94,12 +94,12 @@ facts_pages n image (f ∷ fs) x e = go (n == image) (λ k. facts_pages (n + 1) 
 some_number : (n m : ℕ) → Some n ≡ Some m → n ≡ m
 some_number n m e = cc
 
-get_past : (xs : List Place) (v : ℕ) → length xs ≤ v → slice_get xs v ≡ None
+pub get_past : (xs : List Place) (v : ℕ) → length xs ≤ v → slice_get xs v ≡ None
 get_past [] v l = refl
 get_past (x ∷ xs) zero l = absurd (omega arith)
 get_past (x ∷ xs) (suc v) l = get_past xs v (omega arith)
 
-get_within : (xs : List Place) (v : ℕ) → v < length xs → (x : Place) × (slice_get xs v ≡ Some x)
+pub get_within : (xs : List Place) (v : ℕ) → v < length xs → (x : Place) × (slice_get xs v ≡ Some x)
 get_within [] v l = absurd (omega arith)
 get_within (x ∷ xs) zero l = (x, refl)
 get_within (x ∷ xs) (suc v) l = get_within xs v (omega arith)

@@ -1,6 +1,6 @@
 -- The call that writes one byte.
 use Rattle.std.proofs.Common.{◌≡◌, ℕ, ◌<◌, Bool, true, false, List, length, map, set, Option, Some, None, refl, sym, ap, ◌∙◌, subst, set-set}
-use Rattle.std.proofs.lemmas.List.{length-set, get_or-set_same}
+use Rattle.std.proofs.lemmas.List.{length-set, get_or-set_same, get_or-set_other}
 use Rattle.vm_facts.specs.declared.page.Page.{Page}
 use Rattle.vm_facts.specs.declared.page.Page.TheVariants.{Data, Stack, Text}
 use Rattle.vm_facts.specs.declared.page.PageState.TheVariants.{Valid}
@@ -11,7 +11,7 @@ use Rattle.core_map.specs.declared.slot.Slot.{Slot as Token}
 use Rattle.core_map.specs.declared.slot.Slot.TheVariants as tokens
 use Rattle.core_map.specs.Slots.{slot_at, with_byte, with_dirty}
 use Rattle.space_map.specs.Space.{Places}
-use Rattle.page_model.specs.Pages.{Slot}
+use Rattle.page_model.specs.Pages.{Slot, frame_of}
 use Rattle.page_model.specs.Placement.{state_of}
 use Rattle.page_model.specs.PageBytes.{IsWritable}
 use Rattle.page_model.specs.Dues.{DueStand}
@@ -23,7 +23,7 @@ use Rattle.kernel_laws.proofs.Sound.NumbersApart.{write_numbered}
 use Rattle.page_laws.proofs.Due.Changes.{touch_due}
 use Rattle.machine_state.specs.declared.tables.Tables.{Tables}
 use Rattle.machine_state.specs.declared.machine.Machine.TheInside.{Inside}
-use Rattle.machine_state.specs.Shown.{slot_shown, entry_in}
+use Rattle.machine_state.specs.Shown.{slot_shown, entry_in, placed}
 use Rattle.table_view.specs.Shown.{is_away, idle_state, state_shown}
 use Rattle.machine_state.specs.View.{Lists, placement_of, frames_of}
 use Rattle.machine_state.specs.Known.{Known}
@@ -36,8 +36,12 @@ use Rattle.machine_state.proofs.Entries.{head_of, placed_heads}
 use Rattle.machine_state.proofs.Shows.{slot_or, data_shown, stack_shown}
 use Rattle.machine_state.proofs.Likes.{placed_alike, placed_filled, frame_fits}
 use Rattle.machine_state.proofs.Kept.{Ties, tied_still, still_there}
-use Rattle.machine_state.proofs.Kernels.{kernel_ext}
+use Rattle.machine_state.proofs.Kernels.{kernel_ext, writable_shared}
 use Rattle.machine_state.proofs.Touches.{InFrame, in_frame, written, write_place, write_frames}
+use Rattle.machine_state.proofs.Marks.{dirty_place, marks_placed, marks_here, alone_in, set_resident, resident_page, resident_mark}
+use Rattle.machine_state.proofs.Knows.{texts_here}
+use Rattle.machine_state.proofs.Comes.{shared_entry}
+use Rattle.page_laws.proofs.Moves.Steps.{page_in}
 
 idle_invalid : (g f : ℕ) (a c : Bool) → idle_state g a c ≡ Valid f → ⊥
 idle_invalid g f false c e = cc
@@ -120,6 +124,11 @@ write_runs t u q f at byte j b hs r w =
       alike = λ h. placed_alike t.spaces q (places.Frame f true true) h;
       filled = λ h. placed_filled (lists_of t).facts t.spaces q (places.Frame f true true) (frame_fits q f true true) h;
       counts = λ i. refl;
+      marked = marks_placed (lists_of t) (record (lists_of t) { slots = set t.core.slots f s; spaces = map (placed q (places.Frame f true true)) t.spaces }) q f (places.Frame f true true)
+          (texts_here (lists_of t) w.known) (λ h d. get_or-set_other t.core.slots f h s tokens.Away d) refl (λ i v d l. refl) (alone_in (lists_of t) q f w.known (ap frame_of w.valid))
+          (λ a r mark h. let y = set_resident t.core.slots f s a r mark h in
+          marks_here t.spaces t.texts (places.Frame f true true) q r mark (shared_entry (lists_of t) q w.known.tied (writable_shared (placement_of (lists_of t)) q w.writable) (page_in (placement_of (lists_of t)) q f (ap frame_of w.valid))) (resident_page (record i.token { bytes = set i.token.bytes at byte }) a q r true mark y)
+          (resident_mark (record i.token { bytes = set i.token.bytes at byte }) a q r true mark y ∙ sym (dirty_place t.texts f q w.writable)));
       whole = λ x. x;
       once = λ x. x;
     }) in

@@ -5,6 +5,7 @@ pub mod View
 pub mod Due
 pub mod Alike
 pub mod Calls
+pub mod Marked
 pub mod Tied
 pub mod Sourced
 pub mod Known
@@ -23,6 +24,7 @@ pub mod Done
 pub mod Settled
 pub mod Sharing
 pub mod Swapping
+pub mod Showing
 pub mod PlaceOf
 pub mod Lives
 pub mod UserMemory

@@ -7,6 +7,7 @@ use Rattle.machine_state.specs.View.{Lists, pages_in, placement_of}
 use Rattle.text_table.specs.Texts.{text_of}
 use Rattle.machine_state.specs.Alike.{EachSpace, IsFilled, HasFewPages, AreAlike}
 use Rattle.machine_state.specs.New.{AreSound}
+use Rattle.machine_state.specs.Marked.{AreMarked}
 use Rattle.machine_state.specs.Due.{AreWhole, DueOnce}
 
 pub record Tied (t : Lists) : Type 0 where
@@ -22,5 +23,7 @@ pub record Tied (t : Lists) : Type 0 where
   pub filled : EachSpace (IsFilled t.facts) t.spaces
   -- the text table counts the spaces that share a text
   pub counted : (image : ℕ) → 1 ≤ image → image ≤ 16 → (text_of t.texts image).sharers ≡ sharers (placement_of t) image
+  -- the mark of a frame off the free list says whether its page is dirty
+  pub marked : AreMarked t.slots t.spaces t.texts
   pub whole : AreWhole t.fills
   pub once : DueOnce t.fills

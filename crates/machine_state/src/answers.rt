@@ -1,13 +1,19 @@
 //! What the machine tells of its tables.
-ghost use Rattle.std.specs.Prelude.{◌≡◌, length, map};
+ghost use Rattle.std.specs.Prelude.{◌≡◌, ◌↔◌, false, length, map, IsSome, IfSome};
+ghost use Rattle.core_map.specs.Frames.{Frames};
+ghost use Rattle.table_view.specs.Views.{ShowsSpace};
+ghost use Rattle.kernel_model.specs.Asks.{HasSpace};
 ghost use Rattle.proc_table.specs.Records.{Lowest};
 ghost use Rattle.page_model.specs.Placement.{parts_of};
 ghost use Rattle.machine_state.specs.Machine.{image_shown};
 ghost use Rattle.machine_state.specs.Calls.{first_due};
 ghost use Rattle.machine_state.specs.Sharing.{IsSharer};
+ghost use Rattle.machine_state.specs.Showing.{ShowsCore};
 
 use crate::machine::Machine;
 use crate::named::Named;
+use core_map::CoreMap;
+use space_map::SpaceMap;
 use swap_book::Held;
 use vm_facts::{Page, Params};
 
@@ -24,6 +30,31 @@ impl Machine {
         ensures { result ≡ length (parts_of self.now.kernel.place.transfers) }
     {
         self.tables.ring.pages()
+    }
+
+    /// The core map.
+    pub fn core(&self) -> &CoreMap
+        requires { self.now.kernel.stopped ≡ false }
+        ensures { ShowsCore self.now.kernel.place result.now }
+    {
+        let _frames = self.tables.core.frames();
+        &self.tables.core
+    }
+
+    /// The page places of the space with this number; None exactly where there is none. With any core map that shows
+    /// the placement they tell the state of each page of the space and of its text, and where it is in a frame off the
+    /// free list, whether it is dirty.
+    pub fn space(&self, sid: u32) -> Option<&SpaceMap>
+        requires { self.now.kernel.stopped ≡ false }
+        ensures there { IsSome result ↔ HasSpace self.now.kernel.place sid }
+        ensures named { IfSome result (λ s. s.now.sid ≡ sid) }
+        ensures shows { IfSome result (λ s. (core : Frames) → ShowsCore self.now.kernel.place core → ShowsSpace self.now.kernel.place core s.now) }
+    {
+        let _frames = self.tables.core.frames();
+        let index = self.tables.spaces.index_of(sid)?;
+        let space = self.tables.spaces.at(index);
+        let _pages = space.text_pages();
+        Some(space)
     }
 
     /// Who holds which pieces of swap, those that `ask` found last behind the others.

@@ -78,7 +78,7 @@ invariant_of-self-2 c _ =
     let s : Still t c.finish_fill.new.self = record { params = ap (λ (x : Tables). x.params) e2; images = ap (λ (x : Tables). x.images.items) e2; book = ap (λ (x : Tables). x.book) e2; found = ap (λ (x : Tables). x.found) e2; processes = ap (λ (x : Tables). x.processes) e2 } in
     let now = stands_now c.self.inside c.args.self.now c.self.invariant c.self.view_is c.requires.running in
     let whole = whole_now c.self.inside c.args.self.now c.self.view_is c.requires.whole in
-    let ties = copy_ties t c.copy_frame-copy.new.self c.seat.new.self c.finish_fill.new.self m.token c.copy_frame-copy.result c.args.child c.args.parent can.frame can.others z in
+    let ties = copy_ties t c.copy_frame-copy.new.self c.seat.new.self c.finish_fill.new.self m.token c.copy_frame-copy.result c.args.child c.args.parent can.frame can.others z (ap frame_of can.unfilled) in
     record {
       stands = stands_same c.self.inside c.finish_fill.new.self c.push_reserved.new.self.items c.make_room.new.stopped now.stands whole s
           (subst (λ (j : List Entry). Runs (kernel_by c.finish_fill.new.self j c.make_room.new.stopped) (lists_of c.finish_fill.new.self) c.finish_fill.new.self.book.size) (sym c.push_reserved.ensures.items)

@@ -46,7 +46,7 @@ invariant_of-self-2 c _ =
     let whole = whole_now c.self.inside c.args.self.now c.self.view_is c.requires.whole in
     let e = zeroing_rest c.self.inside.tables c.take_frame-token.new.self c.seat.new.self c.finish_fill.new.self c.take_frame-token.result c.fill_frame-filled.result c.args.page z in
     let s : Still c.self.inside.tables c.finish_fill.new.self = record { params = ap (λ (x : Tables). x.params) e; images = ap (λ (x : Tables). x.images.items) e; book = ap (λ (x : Tables). x.book) e; found = ap (λ (x : Tables). x.found) e; processes = ap (λ (x : Tables). x.processes) e } in
-    let ties = zero_ties c.self.inside.tables c.take_frame-token.new.self c.seat.new.self c.finish_fill.new.self c.take_frame-token.result c.fill_frame-filled.result c.args.page z in
+    let ties = zero_ties c.self.inside.tables c.take_frame-token.new.self c.seat.new.self c.finish_fill.new.self c.take_frame-token.result c.fill_frame-filled.result c.args.page z (ap frame_of can.unfilled) in
     record {
       stands = stands_same c.self.inside c.finish_fill.new.self c.push_reserved.new.self.items c.make_room.new.stopped now.stands whole s
           (subst (λ (j : List Entry). Runs (kernel_by c.finish_fill.new.self j c.make_room.new.stopped) (lists_of c.finish_fill.new.self) c.finish_fill.new.self.book.size) (sym c.push_reserved.ensures.items)

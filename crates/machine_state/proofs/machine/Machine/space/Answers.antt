@@ -1,0 +1,40 @@
+use Rattle.std.proofs.Common.{◌≡◌, ℕ, List, Some, None, IsSome, sym, ap, ◌∙◌, subst, refl, slice_get}
+use Rattle.page_model.specs.Placement.{Placement, space_number}
+use Rattle.page_model.specs.Pages.{numbered}
+use Rattle.kernel_model.specs.Asks.{HasSpace}
+use Rattle.core_map.specs.Frames.{Frames}
+use Rattle.table_view.specs.Views.{ShowsSpace}
+use Rattle.machine_state.specs.declared.tables.Tables.{Tables}
+use Rattle.machine_state.specs.Machine.{Standing, lists_of}
+use Rattle.machine_state.specs.View.{placement_of}
+use Rattle.machine_state.specs.Showing.{ShowsCore}
+use Rattle.machine_state.proofs.Standings.{stands_now}
+use Rattle.machine_state.proofs.UserFrames.{known_by, stands_there}
+use Rattle.machine_state.proofs.Showings.{space_shows, space_number_is, space_there}
+use Rattle.machine_state.proofs.machine.Machine.space.Goals as goal
+
+pub returns-in_err-index-clause-there : goal.returns-in_err-index-clause-there
+returns-in_err-index-clause-there c =
+    let t : Tables = c.self.inside.tables in
+    let gone : HasSpace (placement_of (lists_of t)) c.args.sid → ⊥ = λ h. h (stands_there t.core.slots t.spaces c.args.sid c.in_err-index.ensures.absent) in
+    ((λ e. absurd (let x = sym (ap Rattle.std.proofs.Common.is_some c.from_residual.ensures) ∙ e in cc)), (λ h. absurd (gone (subst (λ (s : Standing). HasSpace s.kernel.place c.args.sid) (sym c.self.view_is) h))))
+
+pub returns-clause-there : goal.returns-clause-there
+returns-clause-there c =
+    let t : Tables = c.self.inside.tables in
+    let named = space_number_is (lists_of t) c.in_ok-index.index c.at-space.result.now c.at-space.ensures.space c.args.sid c.in_ok-index.ensures.found.number in
+    ((λ e. subst (λ (s : Standing). HasSpace s.kernel.place c.args.sid) c.self.view_is
+    (space_there (lists_of t) c.in_ok-index.index c.at-space.result.now c.at-space.ensures.space c.at-space.ensures.rising c.args.sid named)), (λ h. refl))
+
+pub returns-clause-named : goal.returns-clause-named
+returns-clause-named c =
+    let t : Tables = c.self.inside.tables in
+    space_number_is (lists_of t) c.in_ok-index.index c.at-space.result.now c.at-space.ensures.space c.args.sid c.in_ok-index.ensures.found.number
+
+pub returns-clause-shows : goal.returns-clause-shows
+returns-clause-shows c =
+    let t : Tables = c.self.inside.tables in
+    let now = stands_now c.self.inside c.args.self.now c.self.invariant c.self.view_is c.requires in
+    let k = known_by t c.self.inside.journal.items c.self.inside.stopped c.frames-frames.ensures.sound now.stands in
+    subst (λ (s : Standing). (core : Frames) → ShowsCore s.kernel.place core → ShowsSpace s.kernel.place core c.at-space.result.now) c.self.view_is
+    (space_shows (lists_of t) c.in_ok-index.index c.at-space.result.now k c.at-space.ensures.rising c.at-space.ensures.space (sym c.text_pages-pages.ensures.count ∙ c.text_pages-pages.ensures.of_image))
