@@ -107,6 +107,7 @@ tied_moved t rs h = record {
   alike = h.alike;
   filled = h.filled;
   counted = h.counted;
+  marked = h.marked;
   whole = h.whole;
   once = h.once;
 }
