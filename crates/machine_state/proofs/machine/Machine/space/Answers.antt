@@ -22,9 +22,11 @@ returns-in_err-index-clause-there c =
 pub returns-clause-there : goal.returns-clause-there
 returns-clause-there c =
     let t : Tables = c.self.inside.tables in
-    let named = space_number_is (lists_of t) c.in_ok-index.index c.at-space.result.now c.at-space.ensures.space c.args.sid c.in_ok-index.ensures.found.number in
-    ((λ e. subst (λ (s : Standing). HasSpace s.kernel.place c.args.sid) c.self.view_is
-    (space_there (lists_of t) c.in_ok-index.index c.at-space.result.now c.at-space.ensures.space c.at-space.ensures.rising c.args.sid named)), (λ h. refl))
+    let named = space_number_is (lists_of t) c.in_ok-index.index c.at-space.result.now c.at-space.ensures.space c.args.sid c.in_ok-index.ensures.found.number in (
+      (λ e. subst (λ (s : Standing). HasSpace s.kernel.place c.args.sid) c.self.view_is
+          (space_there (lists_of t) c.in_ok-index.index c.at-space.result.now c.at-space.ensures.space c.at-space.ensures.rising c.args.sid named)),
+      (λ h. refl),
+    )
 
 pub returns-clause-named : goal.returns-clause-named
 returns-clause-named c =
