@@ -1,10 +1,9 @@
 -- The core map and the entries of a space show the placement.
-use Rattle.std.proofs.Common.{◌≡◌, ◌≢◌, ◌⊎◌, inl, inr, ℕ, ◌+◌, ◌<◌, ◌≤◌, Bool, true, false, ltb, IsSome, List, length, map, slice_get, option_map, Option, Some, None, refl, sym, ap, ◌∙◌, subst, arith}
+use Rattle.std.proofs.Common.{◌≡◌, ◌⊎◌, inl, inr, ℕ, ◌<◌, ◌≤◌, Bool, true, false, ltb, IsSome, length, slice_get, option_map, Option, Some, None, refl, sym, ap, ◌∙◌, subst, arith}
 use Rattle.std.proofs.lemmas.Bool.Decides.{nat_tests}
 use Rattle.std.proofs.lemmas.Option.{same_Some}
 use Rattle.vm_facts.specs.declared.page.Page.{Page}
 use Rattle.vm_facts.specs.declared.page.Page.TheVariants.{Data, Stack, Text}
-use Rattle.vm_facts.specs.declared.page.PageState.{PageState}
 use Rattle.vm_facts.specs.declared.page.PageState.TheVariants.{Valid}
 use Rattle.vm_facts.specs.Lists.{times}
 use Rattle.vax_pte.specs.declared.Place.{Place}
@@ -16,8 +15,7 @@ use Rattle.core_map.specs.Slots.{slot_at, listings}
 use Rattle.core_map.specs.Frames.{Frames}
 use Rattle.space_map.specs.Space.{Places, place_in}
 use Rattle.page_model.specs.Pages.{frame_of, numbered}
-use Rattle.page_model.specs.Placement.{Placement, IsFrame, IsThere, state_of, page_of, is_dirty, parts_of, flying, space_number}
-use Rattle.page_model.specs.Conditions.{IsSeated}
+use Rattle.page_model.specs.Placement.{IsFrame, state_of, page_of, is_dirty, parts_of, flying, space_number}
 use Rattle.page_model.specs.Ownership.{seated_of}
 use Rattle.page_laws.proofs.Moves.Steps.{frame_in}
 use Rattle.page_laws.proofs.Ownership.Pages.{seated_alone}

@@ -1,6 +1,4 @@
 use Rattle.std.proofs.Common.{◌≡◌, ℕ, List, Some, None, IsSome, sym, ap, ◌∙◌, subst, refl, slice_get}
-use Rattle.page_model.specs.Placement.{Placement, space_number}
-use Rattle.page_model.specs.Pages.{numbered}
 use Rattle.kernel_model.specs.Asks.{HasSpace}
 use Rattle.core_map.specs.Frames.{Frames}
 use Rattle.table_view.specs.Views.{ShowsSpace}
