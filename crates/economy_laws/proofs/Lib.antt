@@ -1,6 +1,3 @@
-pub mod Spanning
-pub mod Forcing
-pub mod Serving
 pub mod Calm
 pub mod CalmChanges
 pub mod Writes

@@ -1,4 +1,3 @@
-pub mod Spans
 pub mod Worth
 pub mod Stretch
 pub mod Finishes

@@ -1,35 +1,19 @@
--- Serving a page and a stretch of the closing phase are short, and writes are worth it.
-use Rattle.std.specs.Prelude.{◌≡◌, ℕ, ◌+◌, ◌*◌, ◌≤◌, Bool, true, List, ◌∷◌, length, Some}
+-- A stretch of the closing phase is short, and writes are worth it.
+use Rattle.std.specs.Prelude.{◌≡◌, ℕ, ◌+◌, ◌*◌, ◌≤◌, true, List, ◌∷◌, length, Some}
 use Rattle.vm_facts.specs.declared.page.Page.{Page}
 use Rattle.vm_facts.specs.declared.entry.Entry.{Entry}
 use Rattle.flat_state.specs.Flat.{Inputs}
 use Rattle.flat_state.specs.Journal.{appended}
-use Rattle.page_model.specs.Pages.{is_valid}
 use Rattle.flat_state.specs.PageNames.{is_among}
-use Rattle.page_model.specs.Placement.{Placement, state_of, IsThere}
-use Rattle.page_model.specs.Serve.{Serves}
-use Rattle.page_model.specs.Ownership.{OwnsFrames}
 use Rattle.run_model.specs.State.{State}
 use Rattle.run_model.specs.After.{after}
 use Rattle.kernel_model.specs.Start.{ImagesFit}
 use Rattle.run_model.specs.Next.{next_unit}
 use Rattle.run_model.specs.Lawful.{Follows}
 use Rattle.run_laws.specs.Running.{IsRun}
-use Rattle.economy_laws.specs.Spans.{takings}
+use Rattle.span_laws.specs.Spans.{takings}
 use Rattle.economy_laws.specs.Worth.{stored_pages, renews, Happens}
 use Rattle.economy_laws.specs.Stretch.{begins_stretch, NoneBegins, copies_of, IsClosing}
-
--- serving a page adds at most 5 entries more than the number by which the transfers fall
-abbrev pub ServingAddsFew : Type 0
-ServingAddsFew = (p r : Placement) (locked : List Page) (q : Page) (now : Bool) (journal us : List Entry)
-    → OwnsFrames p → IsThere p q → Serves us p locked q now r
-    → length (appended journal us) + length r.transfers ≤ length journal + length p.transfers + 5
-
--- where the page is valid, no more transfers are in flight than at first
-abbrev pub ServingLeavesFlights : Type 0
-ServingLeavesFlights = (p r : Placement) (locked : List Page) (q : Page) (now : Bool) (us : List Entry)
-    → OwnsFrames p → IsThere p q → Serves us p locked q now r → is_valid (state_of r q) ≡ true
-    → length r.transfers ≤ length p.transfers
 
 -- between two writes of a page something renews it
 abbrev pub WritesAreWorthIt : Type 0

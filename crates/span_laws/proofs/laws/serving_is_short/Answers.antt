@@ -1,7 +1,7 @@
 use Rattle.std.proofs.Common.{◌+◌, false, length, arith}
-use Rattle.economy_laws.proofs.Spanning.{units_added_false}
-use Rattle.economy_laws.proofs.Serving.{Served, served_short, served_moves}
-use Rattle.economy_laws.proofs.laws.serving_is_short.Goals as goal
+use Rattle.span_laws.proofs.Spanning.{units_added_false}
+use Rattle.span_laws.proofs.Serving.{Served, served_short, served_moves}
+use Rattle.span_laws.proofs.laws.serving_is_short.Goals as goal
 
 pub returns-clause-few : goal.returns-clause-few
 returns-clause-few c = λ p r locked q now journal us o t h. let k : Served false us r q (length p.transfers + 5) 0 (length p.transfers) 1 (length us) = served_short false us p r locked q now o t h in let a = k.few in omega (arith, units_added_false journal us)

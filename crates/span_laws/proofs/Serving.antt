@@ -22,9 +22,9 @@ use Rattle.page_laws.proofs.Moves.Transfers.{reclaim_count, fill_count}
 use Rattle.page_laws.proofs.Ends.Serving.{Landed, land_all_lands, is_coming, read_comes, read_length, in_flight, full_some, done_rest}
 use Rattle.page_laws.proofs.Ends.Wholes.{serve_sizes}
 use Rattle.page_laws.proofs.Moves.Units.{unit_is}
-use Rattle.economy_laws.specs.Spans.{is_hands, added, takes, takings, moves, moves_of}
-use Rattle.economy_laws.proofs.Spanning.{adds_one, added_both, takings_both, moves_both}
-use Rattle.economy_laws.proofs.Forcing.{done_free, Short, forced_short, forced_moves}
+use Rattle.span_laws.specs.Spans.{is_hands, added, takes, takings, moves, moves_of}
+use Rattle.span_laws.proofs.Spanning.{adds_one, added_both, takings_both, moves_both}
+use Rattle.span_laws.proofs.Forcing.{done_free, Short, forced_short, forced_moves}
 
 -- How many entries serving adds, by what stays in flight; where the page is valid, by how many transfers fewer are in
 -- flight than so many; and how many of the units take frames, or move the hands.

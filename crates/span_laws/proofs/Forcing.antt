@@ -24,8 +24,8 @@ use Rattle.page_laws.proofs.Ends.Serving.{land_all_free, force_falls, done_rest,
 use Rattle.page_laws.proofs.Ends.Hands.{force_stands, force_frames}
 use Rattle.page_laws.proofs.Ends.Wholes.{force_room}
 use Rattle.page_laws.proofs.Ownership.Hands.{move_owner}
-use Rattle.economy_laws.specs.Spans.{adds, added, moves_of}
-use Rattle.economy_laws.proofs.Spanning.{adds_one}
+use Rattle.span_laws.specs.Spans.{adds, added, moves_of}
+use Rattle.span_laws.proofs.Spanning.{adds_one}
 
 -- What a step leaves.
 
@@ -190,7 +190,7 @@ forced_short b (e ∷ es) p r locked o h = go p.transfers refl h.1 h.2 (λ f. fo
     go : (ts : List Transfer) → p.transfers ≡ ts → e ≡ force_entry ts → Forces es (force_by p locked ts) locked r
         → (Forces es (done p) locked r → Short false es r (length (done p).transfers + 2) (length (done p).transfers) (length es)) → Short b (e ∷ es) r (length p.transfers + 2) (length p.transfers) (length (e ∷ es))
     go [] k i f more = let s : Short b (e ∷ es) r (adds b (entries.Hands 1) + 1) 0 (length (e ∷ es)) = moving b (e ∷ es) p r locked o k h in record {
-      few = let a = Rattle.economy_laws.proofs.Spanning.adds_most b (entries.Hands 1) in let c = s.few in omega arith;
+      few = let a = Rattle.span_laws.proofs.Spanning.adds_most b (entries.Hands 1) in let c = s.few in omega arith;
       rest = λ l. let c = s.rest l in omega arith;
       moves = s.moves;
     }

@@ -1,5 +1,5 @@
-use Rattle.economy_laws.proofs.Spanning.{units_added, added_apart}
-use Rattle.economy_laws.proofs.laws.entries_added.Goals as goal
+use Rattle.span_laws.proofs.Spanning.{units_added, added_apart}
+use Rattle.span_laws.proofs.laws.entries_added.Goals as goal
 
 pub returns-clause-journal : goal.returns-clause-journal
 returns-clause-journal c = units_added

@@ -5,7 +5,7 @@ use Rattle.vm_facts.specs.declared.entry.Entry.{Entry}
 use Rattle.vm_facts.specs.declared.entry.Entry.TheVariants as entries
 use Rattle.flat_state.specs.Journal.{join_by, join, append_after, append_joined, append, appended, IsPlain}
 use Rattle.flat_state.proofs.Joins.{append_plain}
-use Rattle.economy_laws.specs.Spans.{is_hands, ends_moving, adds, added, takings, moves_of}
+use Rattle.span_laws.specs.Spans.{is_hands, ends_moving, adds, added, takings, moves_of}
 
 -- how long a journal is with one more unit, and how it ends
 pub record Joined (j k : List Entry) (u : Entry) : Type 0 where
