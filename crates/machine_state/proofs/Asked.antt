@@ -104,7 +104,9 @@ asked_stands m s b found stopped ws hs a h r =
           found = ap (λ (x : Holdings). place_all b.size x ws) (before_still m s b found stopped ws hs a) ∙ ap (λ (x : ℕ). place_all x t.book.holdings ws) (sym size) ∙ a.placed
               ∙ ap (λ (x : Book). let r : Result Holdings ℕ = Ok x.holdings in r) (sym a.book);
         };
-        borrowed = n.stands.borrowed;
+        records = n.stands.records;
+        named = n.stands.named;
+        numbers = n.stands.numbers;
       };
       none_lost = n.none_lost;
       room = n.room;

@@ -7,7 +7,7 @@ use Rattle.flat_state.specs.PageNames.{same_page}
 use Rattle.flat_state.proofs.PageNames.{same_page_is}
 use Rattle.machine_state.specs.Found.{holds_it, found_from, frame_holding}
 
-not_held : (o : Option Page) (q : Page) → o ≢ Some q → holds_it o q ≡ false
+pub not_held : (o : Option Page) (q : Page) → o ≢ Some q → holds_it o q ≡ false
 not_held None q n = refl
 not_held (Some r) q n = go (same_page r q) refl
   where

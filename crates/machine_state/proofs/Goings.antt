@@ -1,5 +1,5 @@
 -- A process goes out or comes in: what becomes of the machine.
-use Rattle.std.proofs.Common.{◌≡◌, ◌≢◌, ℕ, ◌+◌, ◌*◌, ◌≤◌, Bool, true, false, List, [], ◌∷◌, ◌++◌, length, map, Option, Some, None, IsSome, refl, sym, ap, ◌∙◌, subst}
+use Rattle.std.proofs.Common.{◌≡◌, ◌≢◌, ℕ, ◌+◌, ◌*◌, ◌≤◌, Bool, true, false, List, [], ◌∷◌, ◌++◌, length, map, Option, Some, None, IsSome, refl, sym, ap, ◌∙◌, subst, arith}
 use Rattle.std.specs.Prelude.{option_map}
 use Rattle.std.proofs.lemmas.List.{length-append, length-map}
 use Rattle.std.proofs.lemmas.Option.{same_Some}
@@ -42,7 +42,7 @@ use Rattle.machine_state.specs.declared.machine.Machine.TheInside.{Inside}
 use Rattle.machine_state.specs.Shown.{space_shown}
 use Rattle.machine_state.specs.View.{Lists, placement_of}
 use Rattle.machine_state.specs.Tied.{Tied}
-use Rattle.machine_state.specs.Alike.{AreBorrowed}
+use Rattle.machine_state.specs.Alike.{AreRecords}
 use Rattle.machine_state.specs.Lives.{space_by, space_held}
 use Rattle.machine_state.specs.Machine.{life_shown, proc_shown, Runs, Stands, lists_of, kernel_by, before_of}
 use Rattle.machine_state.specs.Calls.{CanGoOut, CanComeIn}
@@ -50,8 +50,9 @@ use Rattle.machine_state.specs.Done.{StandsTold}
 use Rattle.machine_state.specs.Swapping.{u_block, Lasts, MovedRecord, IsUPage, AreStored, WritesU, KeepsOut, KeepsIn}
 use Rattle.machine_state.proofs.Kernels.{kernel_ext}
 use Rattle.machine_state.proofs.Lives.{HasRecord, record_of}
+use Rattle.machine_state.proofs.Standings.{Grown, pushed}
 use Rattle.machine_state.proofs.UserFrames.{numbered_shown}
-use Rattle.machine_state.proofs.MovedRecords.{moved_processes, moved_residents, moved_borrowed, IsOutThere, out_there}
+use Rattle.machine_state.proofs.MovedRecords.{moved_processes, moved_residents, moved_records, IsOutThere, out_there}
 
 -- The step.
 
@@ -96,7 +97,7 @@ in_is m ps journal stopped pid regs since g =
 
 -- The invariant.
 
-tied_moved : (t : Lists) (rs : List Residence) → Tied t → Tied (record t { residents = rs })
+pub tied_moved : (t : Lists) (rs : List Residence) → Tied t → Tied (record t { residents = rs })
 tied_moved t rs h = record {
   few_frames = h.few_frames;
   few_images = h.few_images;
@@ -113,21 +114,23 @@ tied_moved t rs h = record {
 }
 
 -- what no change of records changes
-stands_by : (m : Inside) (ps : List Record) (j : List Entry) (b : Bool) → Stands m.tables m.journal.items m.stopped → before_of m.tables ≡ m.tables.book.holdings → AreBorrowed ps
-    → Runs (kernel_by (with_records m.tables ps) j b) (lists_of (with_records m.tables ps)) m.tables.book.size → length j ≤ m.tables.params.journal → Stands (with_records m.tables ps) j b
-stands_by m ps j b s whole borrowed r within =
+stands_by : (m : Inside) (ps : List Record) (j : List Entry) (b : Bool) → Stands m.tables m.journal.items m.stopped → before_of m.tables ≡ m.tables.book.holdings → AreRecords ps m.tables.next_pid
+    → Runs (kernel_by (with_records m.tables ps) j b) (lists_of (with_records m.tables ps)) m.tables.book.size → Grown m.journal.items j m.tables.params.journal → Stands (with_records m.tables ps) j b
+stands_by m ps j b s whole records r grown =
     let w : Tables = with_records m.tables ps in
     record {
       runs = subst (λ (hs : Holdings). Runs (record (kernel_by w j b) { holdings = hs }) (lists_of w) w.book.size) (sym whole) r;
       ring = s.ring;
-      within = within;
+      within = grown.within;
       book = s.book;
       found = s.found;
-      borrowed = borrowed;
+      records = records;
+      named = s.named;
+      numbers = λ e. s.numbers (grown.some e);
     }
 
-within_by : (m : Inside) (journal : List Entry) (e : Entry) → journal ≡ m.journal.items ++ e ∷ [] → length m.journal.items + 1 ≤ m.tables.params.journal → length journal ≤ m.tables.params.journal
-within_by m journal e j l = subst (λ (n : ℕ). n ≤ m.tables.params.journal) (sym (ap length j ∙ length-append m.journal.items (e ∷ []))) l
+within_by : (m : Inside) (journal : List Entry) (e : Entry) → journal ≡ m.journal.items ++ e ∷ [] → length m.journal.items + 1 ≤ m.tables.params.journal → Grown m.journal.items journal m.tables.params.journal
+within_by m journal e j l = pushed m.journal.items m.journal.items journal e m.tables.params.journal refl j (omega (arith, l))
 
 pub out_stands : (m : Inside) (ps : List Record) (journal : List Entry) (stopped : Bool) (pid : ℕ) (regs : Regs) (since : ℕ) → Gone m ps journal stopped pid regs true since (entries.SwapOut pid) → regs ≡ cleared
     → Stands m.tables m.journal.items m.stopped → before_of m.tables ≡ m.tables.book.holdings → Runs (kernel_by m.tables m.journal.items m.stopped) (lists_of m.tables) m.tables.book.size
@@ -136,7 +139,7 @@ out_stands m ps journal stopped pid regs since g c s whole r l =
     let k : Kernel = kernel_by m.tables m.journal.items m.stopped in
     let w : Tables = with_records m.tables ps in
     let is : kernel_by w journal stopped ≡ out_step k pid = out_is m ps journal stopped pid regs since g c in
-    stands_by m ps journal stopped s whole (moved_borrowed m.tables.processes ps pid regs true since g.moved s.borrowed)
+    stands_by m ps journal stopped s whole (moved_records m.tables.processes ps m.tables.next_pid pid regs true since g.moved s.records)
     (record {
       sound = subst (Sound m.tables.book.size) (sym is) (out_sound m.tables.book.size k pid r.sound);
       numbered = subst Numbered (sym is) (out_numbered k pid r.numbered);
@@ -152,7 +155,7 @@ in_stands m ps journal stopped pid regs since g s whole r l =
     let k : Kernel = kernel_by m.tables m.journal.items m.stopped in
     let w : Tables = with_records m.tables ps in
     let is : kernel_by w journal stopped ≡ in_step k pid regs = in_is m ps journal stopped pid regs since g in
-    stands_by m ps journal stopped s whole (moved_borrowed m.tables.processes ps pid regs false since g.moved s.borrowed)
+    stands_by m ps journal stopped s whole (moved_records m.tables.processes ps m.tables.next_pid pid regs false since g.moved s.records)
     (record {
       sound = subst (Sound m.tables.book.size) (sym is) (in_sound m.tables.book.size k pid regs r.sound);
       numbered = subst Numbered (sym is) (in_numbered k pid regs r.numbered);

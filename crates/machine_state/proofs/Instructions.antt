@@ -28,12 +28,15 @@ use Rattle.machine_state.specs.UserMemory.{CanLend}
 use Rattle.machine_state.specs.Moves.{LeftRegs}
 use Rattle.machine_state.specs.View.{Lists, placement_of}
 use Rattle.machine_state.specs.Tied.{Tied}
-use Rattle.machine_state.specs.Sourced.{AreSourced}
+use Rattle.machine_state.specs.Alike.{AreRecords}
+use Rattle.machine_state.specs.Sourced.{AreNames, AreSourced}
 use Rattle.machine_state.specs.declared.machine.Machine.TheInside.{Inside}
 use Rattle.machine_state.specs.Fields.{standing_of}
 use Rattle.machine_state.specs.Machine.{Standing, Stands, lists_of, kernel_by, images_of, before_of}
 use Rattle.machine_state.proofs.Lives.{HasRecord, record_of}
-use Rattle.machine_state.proofs.Records.{regs_are, residents_are, regs_borrowed}
+use Rattle.machine_state.proofs.Records.{regs_are, residents_are}
+use Rattle.machine_state.proofs.Recorded.{regs_records}
+use Rattle.machine_state.proofs.Standings.{append_some}
 
 -- a process that holds a space is there
 holder : (k : Kernel) (pid : ℕ) (sid : ℕ) → life_in k pid ≡ HoldsSpace sid → (p : Proc) × (numbered kept_pid pid k.processes ≡ Some p) × (p.life ≡ HoldsSpace sid)
@@ -74,7 +77,7 @@ ran_changes k pid regs can images image flat c =
 
 -- The tables with another record.
 module _ (t u : Tables) (pid : ℕ) (regs : Regs) (left : LeftRegs t u pid regs) where
-  lists_are : lists_of u ≡ lists_of t
+  pub lists_are : lists_of u ≡ lists_of t
   lists_are = ap lists_of left.rest ∙ ap (λ (rs : List Residence). let x : Lists = record (lists_of t) { residents = rs } in x) (residents_are t.processes u.processes pid regs left.was t.next_pid left.there left.changes)
 
   pub regs_kernel : (old journal : List Entry) (a b : Bool) → journal ≡ append old (Ran pid 1) → b ≡ a → kernel_by u journal b ≡ ran_by (kernel_by t old a) pid regs (Ran pid 1)
@@ -106,7 +109,10 @@ module _ (t u : Tables) (pid : ℕ) (regs : Regs) (left : LeftRegs t u pid regs)
         within = subst (λ (x : Tables). length journal ≤ x.params.journal) (sym left.rest) within;
         book = subst (λ (x : Tables). x.book.size ≡ x.params.swap_blocks) (sym left.rest) s.book;
         found = subst (λ (x : Tables). Rattle.machine_state.specs.Machine.WereFound x.book.size (before_of x) x.book.holdings) (sym left.rest) s.found;
-        borrowed = regs_borrowed t.processes u.processes pid regs left.was left.there left.changes left.sound.apart left.still_sound.apart s.borrowed;
+        records = subst (λ (x : Tables). AreRecords u.processes x.next_pid) (sym left.rest)
+            (regs_records t.processes u.processes t.next_pid pid regs left.was left.there left.changes left.still_sound s.records);
+        named = subst (λ (x : Tables). AreNames (images_of x)) (sym left.rest) s.named;
+        numbers = λ h. absurd (append_some old (Ran pid 1) (sym j ∙ h));
       }
 
 pub regs_rest : (m : Inside) (s : Standing) (u : Tables) (pid : ℕ) (regs : Regs) → LeftRegs m.tables u pid regs → standing_of m ≡ s → (k : Kernel)

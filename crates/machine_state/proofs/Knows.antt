@@ -32,10 +32,10 @@ known_of m c r = record {
 }
 
 -- the frame that holds a page, as the map says
-holds_not_away : (s : Token) (q : Page) → token_page s ≡ Some q → s ≢ tokens.Away
+pub holds_not_away : (s : Token) (q : Page) → token_page s ≡ Some q → s ≢ tokens.Away
 holds_not_away s q e n = none_some q (sym (ap token_page n) ∙ e)
 
-page_is_held : (s : Token) (q : Page) (o : Option Rattle.machine_state.specs.View.Flown) → token_page s ≡ Some q → page_by s o ≡ Some q
+pub page_is_held : (s : Token) (q : Page) (o : Option Rattle.machine_state.specs.View.Flown) → token_page s ≡ Some q → page_by s o ≡ Some q
 page_is_held (tokens.Free token page) q o e = e
 page_is_held (tokens.Resident token page dirty) q o e = e
 page_is_held tokens.Away q o e = none_some q e

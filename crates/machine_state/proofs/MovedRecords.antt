@@ -17,13 +17,14 @@ use Rattle.page_model.specs.Swapper as swapper
 use Rattle.page_laws.proofs.Lists.Local.{none_some}
 use Rattle.kernel_model.specs.Kernel.{Proc, with_regs}
 use Rattle.machine_state.specs.Machine.{proc_shown, proc_of, processes_of, residence_by, residence_of, residents_of}
-use Rattle.machine_state.specs.Alike.{AreBorrowed, lends_to, lends_to_by}
+use Rattle.machine_state.specs.Alike.{AreRecords}
 use Rattle.machine_state.specs.Swapping.{Lasts, MovedRecord}
-use Rattle.machine_state.proofs.Records.{keeps_none, keeps_some, found_pid, shown_pid, changed_over, any_same}
+use Rattle.machine_state.proofs.Records.{keeps_none, keeps_some, found_pid, shown_pid, changed_over}
+use Rattle.machine_state.proofs.Recorded.{changed_records, same_life}
 use Rattle.machine_state.proofs.Lives.{pid_of, hit, miss}
 
 -- the same first, and the same behind it
-same_first : {B : Type 0} (g h : ℕ → Option B) (x : ℕ) (xs : List ℕ) → g x ≡ h x → filter_map g xs ≡ filter_map h xs → filter_map g (x ∷ xs) ≡ filter_map h (x ∷ xs)
+pub same_first : {B : Type 0} (g h : ℕ → Option B) (x : ℕ) (xs : List ℕ) → g x ≡ h x → filter_map g xs ≡ filter_map h xs → filter_map g (x ∷ xs) ≡ filter_map h (x ∷ xs)
 same_first {B = B} g h x xs e rest = go (h x) refl
   where
     go : (o : Option B) → h x ≡ o → filter_map g (x ∷ xs) ≡ filter_map h (x ∷ xs)
@@ -80,7 +81,7 @@ residence_pid p (lives.Lends sid child) r e = ap pid_in (sym (same_Some (let x :
 residence_pid p (lives.Zombie status) r e = none_some r e
 
 -- a residence is that of the pid under which it was found
-found_residence : (n : ℕ) (ps : List Record) (r : Residence) → residence_of (find n ps) ≡ Some r → r.pid ≡ n
+pub found_residence : (n : ℕ) (ps : List Record) (r : Residence) → residence_of (find n ps) ≡ Some r → r.pid ≡ n
 found_residence n ps r e = go (find n ps) refl e
   where
     go : (o : Option Record) → find n ps ≡ o → residence_of o ≡ Some r → r.pid ≡ n
@@ -127,27 +128,11 @@ pub moved_residents : (old new : List Record) (next pid : ℕ) (regs : Regs) (ou
     → residents_of new next ≡ changed (λ (r : Residence). r.pid) pid (λ (r : Residence). record r { out = out; since = since }) (residents_of old next)
 moved_residents old new next pid regs out since m l = residents_over (next - 1) 1 old new pid regs out since m l
 
--- Who borrowed a space.
+-- What the records hold.
 
-pub moved_borrowed : (old new : List Record) (pid : ℕ) (regs : Regs) (out : Bool) (since : ℕ) → MovedRecord old new pid regs out since → AreBorrowed old → AreBorrowed new
-moved_borrowed old new pid regs out since m h n p f =
-    let r = back n p f in
-    sym r.2 ∙ h n r.0 r.1
-    ∙ sym (any_same (lends_to n) old new m.before.apart m.after.apart (λ k q g. let x = forth k q g in (x.0, x.1, ap (lends_to_by n) x.2)) (λ k q g. let x = back k q g in (x.0, x.1, ap (lends_to_by n) x.3)))
-  where
-    back : (k : ℕ) (q : Record) → find k new ≡ Some q → (r : Record) × (find k old ≡ Some r) × (r.borrowed ≡ q.borrowed) × (r.state ≡ q.state)
-    back k q g = elim (cases_eq k pid) [
-      | inl i ↦
-          let is : now_of m.was regs out since ≡ q = same_Some (now_of m.was regs out since) q (sym m.changes.changed ∙ ap (λ (l : ℕ). find l new) (sym i) ∙ g) in
-          (m.was, ap (λ (l : ℕ). find l old) i ∙ m.found, ap (λ (r : Record). r.borrowed) is, ap (λ (r : Record). r.state) is)
-      | inr d ↦ (q, sym (m.changes.others k d) ∙ g, refl, refl)
-    ]
-
-    forth : (k : ℕ) (q : Record) → find k old ≡ Some q → (r : Record) × (find k new ≡ Some r) × (r.state ≡ q.state)
-    forth k q g = elim (cases_eq k pid) [
-      | inl i ↦ (now_of m.was regs out since, ap (λ (l : ℕ). find l new) i ∙ m.changes.changed, ap (λ (r : Record). r.state) (same_Some m.was q (sym m.found ∙ ap (λ (l : ℕ). find l old) (sym i) ∙ g)))
-      | inr d ↦ (q, m.changes.others k d ∙ g, refl)
-    ]
+pub moved_records : (old new : List Record) (next pid : ℕ) (regs : Regs) (out : Bool) (since : ℕ) → MovedRecord old new pid regs out since → AreRecords old next → AreRecords new next
+moved_records old new next pid regs out since m h =
+    changed_records old new next pid m.was (Some (now_of m.was regs out since)) m.after m.found m.changes (same_life old next pid m.was (now_of m.was regs out since) h m.found refl refl) h
 
 -- Who is out has a record that lasts.
 

@@ -26,7 +26,7 @@ use Rattle.machine_state.specs.Machine.{Runs, Stands, lists_of, kernel_by, image
 use Rattle.machine_state.specs.Launches.{HaveOwnBlocks, IsOwnWrite, AddsWrite, MovedOn}
 use Rattle.machine_state.proofs.Kernels.{kernel_ext}
 use Rattle.machine_state.proofs.Sources.{own_place}
-use Rattle.machine_state.proofs.Standings.{Still, stands_on, sourced_more}
+use Rattle.machine_state.proofs.Standings.{Still, appended, stands_on, sourced_more}
 
 -- What is known of such a step.
 pub record Moving (m : Inside) (u : Tables) (p : Placement) (locked : List Page) (e : Entry) : Type 0 where
@@ -45,6 +45,8 @@ moved_still t u p m = record {
   book = ap (λ (x : Tables). x.book) m.rest;
   found = ap (λ (x : Tables). x.found) m.rest;
   processes = ap (λ (x : Tables). x.processes) m.rest;
+  next_pid = ap (λ (x : Tables). x.next_pid) m.rest;
+  next_sid = ap (λ (x : Tables). x.next_sid) m.rest;
 }
 
 pub moving_kernel : (m : Inside) (u : Tables) (p : Placement) (locked : List Page) (e : Entry) (journal : List Entry) (stopped : Bool) → Moving m u p locked e → journal ≡ append m.journal.items e → stopped ≡ m.stopped
@@ -96,4 +98,4 @@ moving_stands m u p locked e journal stopped g stands whole ej es within =
     let t : Tables = m.tables in
     stands_on m u journal stopped stands whole (moved_still t u p g.moved) (moving_runs m u p locked e journal stopped g ej es)
     (added_sources (images_of t) (image_at t) (before_of t) t.book.size t.ring u.ring (subst (IsBook t.book.size) (sym whole) g.runs.sound.owner.blocks.book) (subst (λ (hs : Holdings). AddsWrite hs t.ring u.ring) (sym whole) g.moved.ring) stands.ring)
-    g.moved.images within
+    g.moved.images (appended m.journal.items journal e m.tables.params.journal ej within)

@@ -29,8 +29,10 @@ use Rattle.machine_state.specs.Found.{cached_by, frame_holding}
 use Rattle.machine_state.specs.View.{Lists, pages_in, text_slot, texts_of, page_by, bytes_by, page_held, bytes_held, placement_of, frames_of, transfer_shown, flown, starts_of}
 use Rattle.machine_state.specs.New.{fresh_kernel, AreSound}
 use Rattle.machine_state.specs.Machine.{Standing, Runs, Stands, images_of, image_at, before_of, lists_of, kernel_by, processes_of, residents_of}
-use Rattle.machine_state.specs.Sourced.{AreSourced}
-use Rattle.machine_state.specs.Alike.{AreBorrowed}
+use Rattle.machine_state.specs.Alike.{AreRecords}
+use Rattle.machine_state.specs.Sourced.{AreNames, AreSourced}
+use Rattle.proc_table.specs.declared.process.Proc.{Proc as Record}
+use Rattle.machine_state.proofs.Recorded.{no_records}
 use Rattle.swap_book.specs.Holdings.{Holdings}
 use Rattle.swap_book.specs.declared.Held.{Held}
 use Rattle.vm_facts.specs.declared.params.Params.{Params}
@@ -240,9 +242,9 @@ new_before t e = ap (λ (hs : Holdings). take (length hs - t.found) hs) e ∙ no
     none (suc n) = refl
 
 pub new_stands : (t : Tables) (journal : List Entry) → t.book.holdings ≡ [] → t.ring ≡ [] → journal ≡ [] → t.book.size ≡ t.params.swap_blocks → t.processes ≡ []
-    → Runs (kernel_by t journal false) (lists_of t) t.book.size → Stands t journal false
+    → AreNames (images_of t) → t.next_pid ≡ 1 → t.next_sid ≡ 1 → Runs (kernel_by t journal false) (lists_of t) t.book.size → Stands t journal false
 unfolding place_all
-new_stands t journal hs ring none size processes r =
+new_stands t journal hs ring none size processes named pid sid r =
     let same : t.book.holdings ≡ before_of t = hs ∙ sym (new_before t hs) in
     record {
       runs = subst (λ (x : Holdings). Runs (record (kernel_by t journal false) { holdings = x }) (lists_of t) t.book.size) same r;
@@ -250,7 +252,9 @@ new_stands t journal hs ring none size processes r =
       within = subst (λ (j : List Entry). length j ≤ t.params.journal) (sym none) (omega arith);
       book = size;
       found = record { pieces = []; found = ap (λ (x : Holdings). let y : Result Holdings ℕ = Ok x in y) (sym same) };
-      borrowed = subst AreBorrowed (sym processes) (λ pid p e. absurd (let x = e in cc));
+      records = subst (λ (n : ℕ). AreRecords t.processes n) (sym pid) (subst (λ (ps : List Record). AreRecords ps 1) (sym processes) no_records);
+      named = named;
+      numbers = λ e. sid ∙ sym pid;
     }
 
 pub new_standing : (t : Tables) (params : Params) (k : Kernel) → t.book.holdings ≡ [] → (now : Kernel) → now ≡ k

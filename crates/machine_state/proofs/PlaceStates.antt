@@ -5,6 +5,7 @@ use Rattle.std.proofs.lemmas.Bool.Decides.{nat_tests}
 use Rattle.vm_facts.specs.declared.page.Page.{Page}
 use Rattle.vm_facts.specs.declared.page.Page.TheVariants.{Data, Stack, Text}
 use Rattle.vm_facts.specs.declared.page.PageState.{PageState}
+use Rattle.vm_facts.specs.declared.page.PageState.TheVariants.{Unfilled, Valid, Invalid, Coming, Going, OnSwap}
 use Rattle.vax_pte.specs.declared.Place.{Place}
 use Rattle.vax_pte.specs.declared.Place.TheVariants as places
 use Rattle.aout_image.specs.Image.{text_pages_of, IsSound as IsSoundImage}
@@ -12,16 +13,16 @@ use Rattle.core_map.specs.declared.slot.Slot.{Slot as Token}
 use Rattle.core_map.specs.Slots.{slot_at, page_of as token_page}
 use Rattle.core_map.specs.Frames.{IsSound}
 use Rattle.space_map.specs.Space.{Places}
-use Rattle.page_model.specs.Pages.{Slot, SpacePages, numbered, data_in, stack_in}
-use Rattle.page_model.specs.Placement.{IsThere, space_number, state_of}
+use Rattle.page_model.specs.Pages.{Slot, Zeros, OfImage, SpacePages, numbered, data_in, stack_in}
+use Rattle.page_model.specs.Placement.{IsThere, space_number, state_of, filling_of}
 use Rattle.flat_state.proofs.PageNames.{same_page_is, same_page_self}
 use Rattle.machine_state.specs.declared.named.Named.{Named}
 use Rattle.machine_state.specs.Found.{holds_it, found_from, cached_place, cached_by}
-use Rattle.machine_state.specs.Shown.{slot_shown, space_shown, entry_in}
-use Rattle.table_view.specs.Shown.{state_shown}
+use Rattle.machine_state.specs.Shown.{filling_shown, slot_shown, space_shown, entry_in}
+use Rattle.table_view.specs.Shown.{idle_state, is_away, state_shown}
 use Rattle.machine_state.specs.View.{Lists, pages_in, text_place, placement_of}
 use Rattle.machine_state.specs.Rising.{sids_of, AreRising}
-use Rattle.machine_state.specs.PlaceOf.{text_if, place_of}
+use Rattle.machine_state.specs.PlaceOf.{text_if, place_of, is_blank, is_zero_place, names_zeros}
 use Rattle.machine_state.specs.New.{AreSound}
 use Rattle.machine_state.specs.Known.{Known}
 use Rattle.machine_state.proofs.Entries.{data_hit, stack_hit}
@@ -176,3 +177,40 @@ tells_some t q o x h e = h.there (subst (λ (p : Option Place). IsSome p) (sym e
 pub none_some : (o : Option PageState) → o ≡ None → IsSome o → ⊥
 none_some None e h = cc
 none_some (Some s) e h = cc
+
+-- What has to be filled with zeros.
+
+blank_filled : (s : PageState) → is_blank s OfImage ≡ false
+blank_filled Unfilled = refl
+blank_filled (Valid f) = refl
+blank_filled (Invalid f) = refl
+blank_filled (Coming f) = refl
+blank_filled (Going f) = refl
+blank_filled OnSwap = refl
+
+blank_idle : (f : ℕ) (away changed : Bool) → is_blank (idle_state f away changed) Zeros ≡ false
+blank_idle f false changed = refl
+blank_idle f true true = refl
+blank_idle f true false = refl
+
+blank_shown : (slots : List Token) (x : Place) → is_blank (state_shown slots x) (filling_shown x) ≡ is_zero_place (Some x)
+blank_shown slots places.Zero = refl
+blank_shown slots (places.Image v) = refl
+blank_shown slots places.Swap = refl
+blank_shown slots (places.Frame f true changed) = refl
+blank_shown slots (places.Frame f false changed) = blank_idle f (is_away (slot_at slots f)) changed
+
+blank_entry : (slots : List Token) (o : Option Place) → IsSome o
+    → is_blank (Slot.state (slot_or (slot_shown slots) o)) (Slot.filling (slot_or (slot_shown slots) o)) ≡ is_zero_place o
+blank_entry slots None e = absurd cc
+blank_entry slots (Some x) e = blank_shown slots x
+
+pub blank_is : (t : Lists) (q : Page) → Known t → IsThere (placement_of t) q
+    → is_blank (state_of (placement_of t) q) (filling_of (placement_of t) q) ≡ names_zeros q (entry_in t.spaces q)
+blank_is t (Data n v) k there =
+    ap (λ (s : Slot). is_blank s.state s.filling) (data_shown t.slots t.spaces n v k.differ)
+    ∙ blank_entry t.slots (entry_in t.spaces (Data n v)) (data_there t.slots t.spaces n v there)
+blank_is t (Stack n v) k there =
+    ap (λ (s : Slot). is_blank s.state s.filling) (stack_shown t.slots t.spaces n v k.differ)
+    ∙ blank_entry t.slots (entry_in t.spaces (Stack n v)) (stack_there t.slots t.spaces n v there)
+blank_is t (Text image v) k there = blank_filled (state_of (placement_of t) (Text image v))

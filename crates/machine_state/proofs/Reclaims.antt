@@ -86,7 +86,7 @@ present tokens.Away o q a e = absurd (let k : true ≡ false = a in cc)
 not_away : (s : Token) → is_away s ≡ false → s ≢ tokens.Away
 not_away s e n = absurd (let k : true ≡ false = sym (ap is_away n) ∙ e in cc)
 
-held_is : (t : Lists) (q : Page) (f : ℕ) → Known t → state_of (placement_of t) q ≡ Invalid f → is_away (slot_at t.slots f) ≡ false → token_page (slot_at t.slots f) ≡ Some q
+pub held_is : (t : Lists) (q : Page) (f : ℕ) → Known t → state_of (placement_of t) q ≡ Invalid f → is_away (slot_at t.slots f) ≡ false → token_page (slot_at t.slots f) ≡ Some q
 held_is t q f k e a =
     let n = not_away (slot_at t.slots f) a in
     present (slot_at t.slots f) (flown_at t.flown f) q a (sym (held_at t f (above_zero t.free t.slots f k.core n) (below_length t.slots f n)) ∙ k.owns.names q f (ap frame_of e))

@@ -13,7 +13,6 @@ use Rattle.proc_table.specs.Records.{find, Changes, ArePidsApart}
 use Rattle.kernel_model.specs.Kernel.{Proc}
 use Rattle.kernel_model.specs.ChangeStep.{with_proc}
 use Rattle.vm_facts.proofs.Tests.{eq_self}
-use Rattle.machine_state.specs.Alike.{lends_to_by, lends_to, AreBorrowed}
 use Rattle.machine_state.specs.Machine.{proc_shown, proc_of, processes_of, residence_by, residence_of, residents_of}
 
 pub keeps_none : {A B : Type 0} (h : A → Option B) (x : A) (xs : List A) → h x ≡ None → filter_map h (x ∷ xs) ≡ filter_map h xs
@@ -45,7 +44,7 @@ shown_pid n ps p h = go (find n ps) refl h
     go None e k = absurd cc
     go (Some x) e k = ap (λ (q : Proc). q.pid) (sym (same_Some (proc_shown x) p k)) ∙ found_pid n ps x e
 
-map_same : {A : Type 0} (xs : List A) → map (λ x. x) xs ≡ xs
+pub map_same : {A : Type 0} (xs : List A) → map (λ x. x) xs ≡ xs
 map_same [] = refl
 map_same (x ∷ xs) = ap (λ ys. x ∷ ys) (map_same xs)
 
@@ -127,7 +126,7 @@ residents_are old new pid regs was next e c =
 -- Who lends.
 
 -- a record among all is found by its pid
-any_found : (f : Record → Bool) (ps : List Record) → ArePidsApart ps → list_any f ps ≡ true → (p : Record) × (find p.pid ps ≡ Some p) × (f p ≡ true)
+pub any_found : (f : Record → Bool) (ps : List Record) → ArePidsApart ps → list_any f ps ≡ true → (p : Record) × (find p.pid ps ≡ Some p) × (f p ≡ true)
 any_found f [] apart h = absurd cc
 any_found f (q ∷ qs) apart h = go (f q) refl h (any_found f qs apart.1)
   where
@@ -137,14 +136,14 @@ any_found f (q ∷ qs) apart h = go (f q) refl h (any_found f qs apart.1)
         let r = more k in
         (r.0, find_miss r.0.pid q qs (λ i. let x : Some r.0 ≡ None = sym r.1 ∙ sym (ap (λ (n : ℕ). find n qs) i) ∙ apart.0 in cc) ∙ r.1, r.2)
 
-found_any : (f : Record → Bool) (ps : List Record) (n : ℕ) (p : Record) → find n ps ≡ Some p → f p ≡ true → list_any f ps ≡ true
+pub found_any : (f : Record → Bool) (ps : List Record) (n : ℕ) (p : Record) → find n ps ≡ Some p → f p ≡ true → list_any f ps ≡ true
 found_any f [] n p e h = absurd cc
 found_any f (q ∷ qs) n p e h = elim (cases_eq q.pid n) [
   | inl i ↦ let same : q ≡ p = some_is q p (sym (find_hit n q qs i) ∙ e) in ap (λ (b : Bool). b || list_any f qs) (ap f same ∙ h)
   | inr d ↦ or_true (f q) (list_any f qs) (found_any f qs n p (sym (find_miss n q qs d) ∙ e) h)
 ]
 
-both_or_neither : (a b : Bool) → (a ≡ true → b ≡ true) → (b ≡ true → a ≡ true) → a ≡ b
+pub both_or_neither : (a b : Bool) → (a ≡ true → b ≡ true) → (b ≡ true → a ≡ true) → a ≡ b
 both_or_neither true b f g = sym (f refl)
 both_or_neither false true f g = g refl
 both_or_neither false false f g = refl
@@ -156,24 +155,3 @@ pub any_same : (f : Record → Bool) (old new : List Record) → ArePidsApart ol
 any_same f old new a b there back = both_or_neither (list_any f new) (list_any f old)
     (λ h. let x = any_found f new b h in let y = back x.0.pid x.0 x.1 in found_any f old x.0.pid y.0 y.1 (y.2 ∙ x.2))
     (λ h. let x = any_found f old a h in let y = there x.0.pid x.0 x.1 in found_any f new x.0.pid y.0 y.1 (y.2 ∙ x.2))
-
-pub regs_borrowed : (old new : List Record) (pid : ℕ) (regs : Regs) (was : Record) → find pid old ≡ Some was → Changes old new pid (Some (record was { regs = regs })) → ArePidsApart old → ArePidsApart new → AreBorrowed old → AreBorrowed new
-regs_borrowed old new pid regs was e c a b h n p f =
-    let r = back n p f in
-    sym r.2 ∙ h n r.0 r.1 ∙ sym (any_same (lends_to n) old new a b (λ m q g. let x = forth m q g in (x.0, x.1, ap (lends_to_by n) x.3)) (λ m q g. let x = back m q g in (x.0, x.1, ap (lends_to_by n) x.3)))
-  where
-    back : (m : ℕ) (q : Record) → find m new ≡ Some q → (r : Record) × (find m old ≡ Some r) × (r.borrowed ≡ q.borrowed) × (r.state ≡ q.state)
-    back m q g = elim (cases_eq m pid) [
-      | inl i ↦
-          let is : record was { regs = regs } ≡ q = same_Some (record was { regs = regs }) q (sym c.changed ∙ ap (λ (k : ℕ). find k new) (sym i) ∙ g) in
-          (was, ap (λ (k : ℕ). find k old) i ∙ e, ap (λ (r : Record). r.borrowed) is, ap (λ (r : Record). r.state) is)
-      | inr d ↦ (q, sym (c.others m d) ∙ g, refl, refl)
-    ]
-
-    forth : (m : ℕ) (q : Record) → find m old ≡ Some q → (r : Record) × (find m new ≡ Some r) × (r.borrowed ≡ q.borrowed) × (r.state ≡ q.state)
-    forth m q g = elim (cases_eq m pid) [
-      | inl i ↦
-          let is : was ≡ q = same_Some was q (sym e ∙ ap (λ (k : ℕ). find k old) (sym i) ∙ g) in
-          (record was { regs = regs }, ap (λ (k : ℕ). find k new) i ∙ c.changed, ap (λ (r : Record). r.borrowed) is, ap (λ (r : Record). r.state) is)
-      | inr d ↦ (q, c.others m d ∙ g, refl, refl)
-    ]

@@ -21,7 +21,7 @@ use Rattle.machine_state.proofs.Shows.{head_sids}
 
 -- Numbers.
 
-above_none : (n m : ℕ) (ns : List ℕ) → m ≤ n → IsBelowAll n ns → IsAbsent m ns
+pub above_none : (n m : ℕ) (ns : List ℕ) → m ≤ n → IsBelowAll n ns → IsAbsent m ns
 above_none n m [] l h = tt
 above_none n m (k ∷ ns) l h = let above = h.0 in ((λ e. absurd (omega arith)), above_none n m ns l h.1)
 
@@ -29,7 +29,7 @@ pub rising_differ : (ns : List ℕ) → AreRising ns → AllDistinct ns
 rising_differ [] h = tt
 rising_differ (n ∷ ns) h = (above_none n n ns (omega arith) h.0, rising_differ ns h.1)
 
-below_at : (n m i : ℕ) (ns : List ℕ) → IsBelowAll n ns → slice_get ns i ≡ Some m → n < m
+pub below_at : (n m i : ℕ) (ns : List ℕ) → IsBelowAll n ns → slice_get ns i ≡ Some m → n < m
 below_at n m i [] h e = absurd cc
 below_at n m zero (k ∷ ns) h e = let same : k ≡ m = cc in omega (arith, h.0)
 below_at n m (suc i) (k ∷ ns) h e = below_at n m i ns h.1 e

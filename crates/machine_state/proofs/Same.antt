@@ -42,7 +42,7 @@ absent n (x ∷ xs) z = miss n x xs z.0 ∙ absent n xs z.1
 abbrev pub SameSegments : List SpacePages → List SpacePages → Type 0
 SameSegments xs ys = (n : ℕ) → (data_in (numbered space_number n xs) ≡ data_in (numbered space_number n ys)) × (stack_in (numbered space_number n xs) ≡ stack_in (numbered space_number n ys))
 
-names_sids : (xs ys : List SpacePages) → map name_of xs ≡ map name_of ys → map space_number xs ≡ map space_number ys
+pub names_sids : (xs ys : List SpacePages) → map name_of xs ≡ map name_of ys → map space_number xs ≡ map space_number ys
 names_sids [] [] e = refl
 names_sids [] (y ∷ ys) e = absurd cc
 names_sids (x ∷ xs) [] e = absurd cc

@@ -15,7 +15,7 @@ use Rattle.core_map.specs.Slots.{slot_at, listings}
 use Rattle.core_map.specs.Frames.{Frames}
 use Rattle.space_map.specs.Space.{Places, place_in}
 use Rattle.page_model.specs.Pages.{frame_of, numbered}
-use Rattle.page_model.specs.Placement.{IsFrame, state_of, page_of, is_dirty, parts_of, flying, space_number}
+use Rattle.page_model.specs.Placement.{IsFrame, state_of, page_of, is_dirty, parts_of, flying, space_number, image_in, image_of}
 use Rattle.page_model.specs.Ownership.{seated_of}
 use Rattle.page_laws.proofs.Moves.Steps.{frame_in}
 use Rattle.page_laws.proofs.Ownership.Pages.{seated_alone}
@@ -65,6 +65,7 @@ away_is t f k w tokens.Away e = elim (zero_or (times f (flying (parts_of t.trans
 
 pub core_shows : (t : Lists) → Known t → ShowsCore (placement_of t) (record { free = t.free; slots = t.slots })
 core_shows t k = record {
+  frames = (let l = holds_length t in let some = k.core.has_none in omega arith);
   free = refl;
   listed = k.core.listed;
   away = λ f w. away_is t f k w (slot_at t.slots f) refl;
@@ -166,3 +167,9 @@ space_there t i s at rising sid e h =
     let found : numbered (λ (x : Places). x.sid) s.sid t.spaces ≡ Some s = found_here t.spaces s.sid i s rising (at_sid t.spaces i s at) ∙ ap (λ (x : Places). Some x) (get_spaces t.spaces i s s at) in
     let shown : numbered space_number s.sid (placement_of t).spaces ≡ Some (space_shown t.slots s) = numbered_shown t.slots t.spaces s.sid ∙ ap (option_map (space_shown t.slots)) found in
     absurd (let x : Some (space_shown t.slots s) ≡ None = sym shown ∙ ap (λ (n : ℕ). numbered space_number n (placement_of t).spaces) e ∙ h in cc)
+
+pub space_image : (t : Lists) (i : ℕ) (s : Places) → slice_get t.spaces i ≡ Some s → AreRising (sids_of t.spaces) → (sid : ℕ) → s.sid ≡ sid → s.image ≡ image_of (placement_of t) sid
+space_image t i s at rising sid e =
+    let found : numbered (λ (x : Places). x.sid) s.sid t.spaces ≡ Some s = found_here t.spaces s.sid i s rising (at_sid t.spaces i s at) ∙ ap (λ (x : Places). Some x) (get_spaces t.spaces i s s at) in
+    let shown : numbered space_number s.sid (placement_of t).spaces ≡ Some (space_shown t.slots s) = numbered_shown t.slots t.spaces s.sid ∙ ap (option_map (space_shown t.slots)) found in
+    sym (ap (image_of (placement_of t)) (sym e) ∙ ap image_in shown)

@@ -115,7 +115,7 @@ texts_shown t n image (x ∷ more) = elim (cases_eq n image) [
       ∙ texts_shown t (n + 1) image more ∙ ap (text_slots t image) (sym (pages_miss n image x more d))
 ]
 
-text_numbers : (t u : Lists) (n : ℕ) (facts : List Image) → map image_number (texts_of u n facts) ≡ map image_number (texts_of t n facts)
+pub text_numbers : (t u : Lists) (n : ℕ) (facts : List Image) → map image_number (texts_of u n facts) ≡ map image_number (texts_of t n facts)
 text_numbers t u n [] = refl
 text_numbers t u n (x ∷ more) = ap (λ (ns : List ℕ). n ∷ ns) (text_numbers t u (n + 1) more)
 
@@ -123,7 +123,7 @@ text_above : (t : Lists) (m n : ℕ) (facts : List Image) → m < n → IsAbsent
 text_above t m n [] l = tt
 text_above t m n (x ∷ more) l = ((λ e. absurd (omega arith)), text_above t m (n + 1) more (omega arith))
 
-texts_differ : (t : Lists) (n : ℕ) (facts : List Image) → AllDistinct (map image_number (texts_of t n facts))
+pub texts_differ : (t : Lists) (n : ℕ) (facts : List Image) → AllDistinct (map image_number (texts_of t n facts))
 texts_differ t n [] = tt
 texts_differ t n (x ∷ more) = (text_above t n (n + 1) more (omega arith), texts_differ t (n + 1) more)
 
@@ -238,7 +238,7 @@ text_at t i v l = ap (λ (xs : List Slot). get_or xs v no_slot) (texts_shown t 1
 pub text_within : (t : Lists) (i v : ℕ) → IsThere (placement_of t) (Text i v) → v < pages_in 1 i t.facts
 text_within t i v there = let a = ap length (texts_shown t 1 i t.facts) ∙ text_length t i (pages_in 1 i t.facts) in omega arith
 
-text_past : (t : Lists) (i v : ℕ) → pages_in 1 i t.facts ≤ v → slot_of (placement_of t) (Text i v) ≡ no_slot
+pub text_past : (t : Lists) (i v : ℕ) → pages_in 1 i t.facts ≤ v → slot_of (placement_of t) (Text i v) ≡ no_slot
 text_past t i v l = ap (λ (xs : List Slot). get_or xs v no_slot) (texts_shown t 1 i t.facts) ∙ get_or_past (text_slots t i (pages_in 1 i t.facts)) v no_slot (omega (arith, text_length t i (pages_in 1 i t.facts)))
 
 pub other_slots : (t u : Lists) (E : Page → Type 0) (f : ℕ) → Moved t u E f → (w : Page) → E w → slot_of (placement_of u) w ≡ slot_of (placement_of t) w
@@ -322,12 +322,12 @@ images_changed n change k (x ∷ xs) = go (x.image == n) (images_changed n chang
     go true rest = ap (λ (m : ℕ). m ∷ map image_number xs) (k x)
     go false rest = ap (λ (ms : List ℕ). x.image ∷ ms) rest
 
-put_names : (p : Placement) (q : Page) (s : PageState) (m : Bool) → map name_of (put p q s m).spaces ≡ map name_of p.spaces
+pub put_names : (p : Placement) (q : Page) (s : PageState) (m : Bool) → map name_of (put p q s m).spaces ≡ map name_of p.spaces
 put_names p (Data n v) s m = names_changed n (with_data v s m) (λ x. refl) p.spaces
 put_names p (Stack n v) s m = names_changed n (with_stack v s m) (λ x. refl) p.spaces
 put_names p (Text i v) s m = refl
 
-put_images : (p : Placement) (q : Page) (s : PageState) (m : Bool) → map image_number (put p q s m).texts ≡ map image_number p.texts
+pub put_images : (p : Placement) (q : Page) (s : PageState) (m : Bool) → map image_number (put p q s m).texts ≡ map image_number p.texts
 put_images p (Data n v) s m = refl
 put_images p (Stack n v) s m = refl
 put_images p (Text i v) s m = images_changed i (with_text v s m) (λ x. refl) p.texts

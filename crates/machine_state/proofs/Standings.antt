@@ -1,9 +1,12 @@
 -- What holds of a machine beside its kernel is kept by its steps.
-use Rattle.std.proofs.Common.{◌≡◌, inl, inr, ℕ, ◌+◌, ◌-◌, ◌<◌, ◌≤◌, Bool, false, List, [], ◌∷◌, ◌++◌, length, map, take, Option, Some, None, Vec, refl, sym, ap, ◌∙◌, subst, arith}
+use Rattle.std.proofs.Common.{◌≡◌, ◌≢◌, inl, inr, ℕ, ◌+◌, ◌-◌, ◌<◌, ◌≤◌, ◌==◌, Bool, true, false, List, [], ◌∷◌, ◌++◌, length, map, take, Option, Some, None, Vec, refl, sym, ap, ◌∙◌, subst, arith}
 use Rattle.std.proofs.lemmas.Bool.{cases_eq}
 use Rattle.std.proofs.lemmas.List.{length-append}
 use Rattle.std.specs.Vec.{vec_len, vec_capacity}
 use Rattle.vm_facts.specs.declared.entry.Entry.{Entry}
+use Rattle.vm_facts.specs.declared.entry.Entry.TheVariants.{Ran, Hands}
+use Rattle.flat_state.specs.Journal.{join_by, append_after, append}
+use Rattle.proc_table.specs.declared.process.Proc.{Proc as Record}
 use Rattle.machine_state.specs.Joined.{instructions_in, last_says}
 use Rattle.vm_facts.specs.declared.page.Page.{Page}
 use Rattle.vm_facts.specs.declared.page.Page.TheVariants.{Data, Stack, Text}
@@ -23,10 +26,10 @@ use Rattle.kernel_model.specs.Kernel.{Kernel}
 use Rattle.machine_state.specs.declared.tables.Tables.{Tables}
 use Rattle.machine_state.specs.declared.machine.Machine.TheInside.{Inside}
 use Rattle.machine_state.specs.Shown.{space_shown}
-use Rattle.machine_state.specs.Sourced.{ImageNamed, IsRangeOf, named_at, IsSourced, AreSourcedIn, IsFlightSourced, AreSourced}
+use Rattle.machine_state.specs.Sourced.{ImageNamed, AreNames, IsRangeOf, named_at, IsSourced, AreSourcedIn, IsFlightSourced, AreSourced}
 use Rattle.machine_state.specs.View.{source_shown}
 use Rattle.machine_state.specs.Machine.{Standing, Runs, Stands, WereFound, lists_of, kernel_by, images_of, image_at, image_shown, before_of}
-use Rattle.machine_state.specs.Alike.{AreBorrowed}
+use Rattle.machine_state.specs.Alike.{AreRecords}
 use Rattle.machine_state.specs.Fields.{standing_of, HasRoom, RunsNow, RunsInside}
 use Rattle.machine_state.proofs.Entries.{Head, head_of}
 use Rattle.machine_state.proofs.Shows.{hit, miss}
@@ -44,6 +47,32 @@ stands_now m s h e r = h (ap (λ (x : Standing). x.kernel.stopped) e ∙ r)
 pub whole_now : (m : Inside) (s : Standing) → standing_of m ≡ s → s.before ≡ s.kernel.holdings → before_of m.tables ≡ m.tables.book.holdings
 whole_now m s e w = ap (λ (x : Standing). x.before) e ∙ w ∙ sym (ap (λ (x : Standing). x.kernel.holdings) e)
 
+-- a journal with one more entry isn't empty
+ran_some : (b : Bool) (p m q n : ℕ) → join_by b p m q n ≢ []
+ran_some true p m q n h = absurd cc
+ran_some false p m q n h = absurd cc
+
+behind_ran : (f : Entry) (j : List Entry) (q n : ℕ) → append_after f j (Ran q n) ≢ []
+behind_ran (Ran p m) [] q n h = ran_some (p == q) p m q n h
+behind_ran _ [] q n h = absurd cc
+behind_ran f (g ∷ j) q n h = absurd cc
+
+behind_hands : (f : Entry) (j : List Entry) (n : ℕ) → append_after f j (Hands n) ≢ []
+behind_hands (Hands m) [] n h = absurd cc
+behind_hands _ [] n h = absurd cc
+behind_hands f (g ∷ j) n h = absurd cc
+
+last_some : (j : List Entry) (e : Entry) → j ++ e ∷ [] ≢ []
+last_some [] e h = absurd cc
+last_some (f ∷ j) e h = absurd cc
+
+pub append_some : (j : List Entry) (e : Entry) → append j e ≢ []
+append_some [] (Ran q n) h = absurd cc
+append_some (f ∷ j) (Ran q n) h = behind_ran f j q n h
+append_some [] (Hands n) h = absurd cc
+append_some (f ∷ j) (Hands n) h = behind_hands f j n h
+append_some j e h = last_some j e h
+
 -- no room was made for an instruction
 pub no_room : {A : Type 0} (room : Option ℕ) (journal : Vec Entry A) (limit : ℕ) → room ≡ None → HasRoom room journal limit
 no_room None journal limit e = tt
@@ -60,6 +89,16 @@ pub record Still (t w : Tables) : Type 0 where
   pub book : w.book ≡ t.book
   pub found : w.found ≡ t.found
   pub processes : w.processes ≡ t.processes
+  pub next_pid : w.next_pid ≡ t.next_pid
+  pub next_sid : w.next_sid ≡ t.next_sid
+
+-- a journal that fits, and has entries where it had
+pub record Grown (old after : List Entry) (limit : ℕ) : Type 0 where
+  pub within : length after ≤ limit
+  pub some : after ≡ [] → old ≡ []
+
+pub still_along : (t w v : Tables) → w ≡ v → Still t v → Still t w
+still_along t w v e s = subst (Still t) (sym e) s
 
 pub still_images : (t w : Tables) → Still t w → images_of w ≡ images_of t
 still_images t w s = ap (map image_shown) s.images
@@ -77,11 +116,15 @@ rest_of m s w k now room e z r =
     ∙ ap (λ (x : Holdings). let z : Standing = record { kernel = k; params = m.tables.params; images = images_of m.tables; before = x; room = room } in z) (still_before m.tables w z)
     ∙ ap (λ (x : Standing). record x { kernel = k; room = room }) e
 
-pub pushed : (old now after : List Entry) (e : Entry) (limit : ℕ) → now ≡ old → after ≡ now ++ e ∷ [] → length old < limit → length after ≤ limit
+pub pushed : (old now after : List Entry) (e : Entry) (limit : ℕ) → now ≡ old → after ≡ now ++ e ∷ [] → length old < limit → Grown old after limit
 pushed old now after e limit a b l =
     let x : length after ≡ length now + 1 = ap length b ∙ length-append now (e ∷ []) in
     let y : length now ≡ length old = ap length a in
-    omega arith
+    record { within = omega arith; some = λ h. absurd (let z : length after ≡ 0 = ap length h in omega arith) }
+
+-- an entry that is appended, or joined to the last
+pub appended : (old after : List Entry) (e : Entry) (limit : ℕ) → after ≡ append old e → length after ≤ limit → Grown old after limit
+appended old after e limit a l = record { within = l; some = λ h. absurd (append_some old e (sym a ∙ h)) }
 
 -- The images of the spaces go by their heads.
 
@@ -131,8 +174,8 @@ sourced_tail ns f hs size ts x h = h.1
 -- The whole, from the part that a step changes.
 
 pub stands_on : (m : Inside) (w : Tables) (j : List Entry) (b : Bool) → Stands m.tables m.journal.items m.stopped → before_of m.tables ≡ m.tables.book.holdings → Still m.tables w → Runs (kernel_by w j b) (lists_of w) w.book.size
-    → AreSourced (images_of m.tables) (image_at m.tables) (before_of m.tables) m.tables.book.size w.ring → ((sid : ℕ) → image_at w sid ≡ image_at m.tables sid) → length j ≤ m.tables.params.journal → Stands w j b
-stands_on m w j b s whole z r ring images within =
+    → AreSourced (images_of m.tables) (image_at m.tables) (before_of m.tables) m.tables.book.size w.ring → ((sid : ℕ) → image_at w sid ≡ image_at m.tables sid) → Grown m.journal.items j m.tables.params.journal → Stands w j b
+stands_on m w j b s whole z r ring images grown =
     let t : Tables = m.tables in
     let same : w.book.holdings ≡ before_of w = ap (λ (x : Book). x.holdings) z.book ∙ sym whole ∙ sym (still_before t w z) in
     record {
@@ -141,14 +184,16 @@ stands_on m w j b s whole z r ring images within =
           (subst (λ (hs : Holdings). AreSourced (images_of t) (image_at w) hs w.book.size w.ring) (sym (still_before t w z))
           (subst (λ (x : Book). AreSourced (images_of t) (image_at w) (before_of t) x.size w.ring) (sym z.book)
           (sourced_still (images_of t) (image_at t) (image_at w) (before_of t) t.book.size w.ring images ring)));
-      within = subst (λ (p : Params). length j ≤ p.journal) (sym z.params) within;
+      within = subst (λ (p : Params). length j ≤ p.journal) (sym z.params) grown.within;
       book = ap (λ (x : Book). x.size) z.book ∙ s.book ∙ sym (ap (λ (p : Params). p.swap_blocks) z.params);
       found = subst (λ (hs : Holdings). WereFound w.book.size hs w.book.holdings) (sym (still_before t w z)) (subst (λ (x : Book). WereFound x.size (before_of t) x.holdings) (sym z.book) s.found);
-      borrowed = subst AreBorrowed (sym z.processes) s.borrowed;
+      records = subst (λ (ps : List Record). AreRecords ps w.next_pid) (sym z.processes) (subst (AreRecords t.processes) (sym z.next_pid) s.records);
+      named = subst AreNames (sym (still_images t w z)) s.named;
+      numbers = λ e. z.next_sid ∙ s.numbers (grown.some e) ∙ sym z.next_pid;
     }
 
 -- the same where no transfer begins or ends
 pub stands_same : (m : Inside) (w : Tables) (j : List Entry) (b : Bool) → Stands m.tables m.journal.items m.stopped → before_of m.tables ≡ m.tables.book.holdings → Still m.tables w → Runs (kernel_by w j b) (lists_of w) w.book.size
-    → w.ring ≡ m.tables.ring → map head_of w.spaces ≡ map head_of m.tables.spaces → length j ≤ m.tables.params.journal → Stands w j b
-stands_same m w j b s whole z r ring heads within =
-    stands_on m w j b s whole z r (subst (λ (ts : List Flight). AreSourced (images_of m.tables) (image_at m.tables) (before_of m.tables) m.tables.book.size ts) (sym ring) s.ring) (images_heads m.tables w heads) within
+    → w.ring ≡ m.tables.ring → map head_of w.spaces ≡ map head_of m.tables.spaces → Grown m.journal.items j m.tables.params.journal → Stands w j b
+stands_same m w j b s whole z r ring heads grown =
+    stands_on m w j b s whole z r (subst (λ (ts : List Flight). AreSourced (images_of m.tables) (image_at m.tables) (before_of m.tables) m.tables.book.size ts) (sym ring) s.ring) (images_heads m.tables w heads) grown

@@ -150,7 +150,9 @@ write_stands t u q f at byte j b s w =
       within = s.within;
       book = s.book;
       found = s.found;
-      borrowed = s.borrowed;
+      records = s.records;
+      named = s.named;
+      numbers = s.numbers;
     })
 
 pub write_standing : (m : Inside) (u : Tables) (q : Page) (f at byte : ℕ) → Writing m.tables u q f at byte

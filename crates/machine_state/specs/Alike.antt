@@ -1,5 +1,5 @@
 -- What holds of the entries of all spaces.
-use Rattle.std.specs.Prelude.{◌≡◌, ℕ, ◌+◌, ◌<◌, ◌≤◌, ◌==◌, Bool, false, cond, List, [], ◌∷◌, length, Option, Some, None}
+use Rattle.std.specs.Prelude.{◌≡◌, ℕ, ◌+◌, ◌<◌, ◌≤◌, ◌==◌, Bool, true, false, cond, List, [], ◌∷◌, length, Option, Some, None}
 use Rattle.std.specs.List.{list_any}
 use Rattle.vm_facts.specs.declared.page.Page.{Page}
 use Rattle.vm_facts.specs.declared.page.Page.TheVariants.{Data, Stack, Text}
@@ -11,7 +11,7 @@ use Rattle.space_map.specs.Space.{Places, place_in}
 use Rattle.proc_table.specs.declared.process.Proc.{Proc as Record}
 use Rattle.proc_table.specs.declared.process.Life.{Life as RecordLife}
 use Rattle.proc_table.specs.declared.process.Life.TheVariants as lives
-use Rattle.proc_table.specs.Records.{find}
+use Rattle.proc_table.specs.Records.{find, IsTable}
 use Rattle.machine_state.specs.Shown.{entry_in}
 
 abbrev pub EachSpace : (Places → Type 0) → List Places → Type 0
@@ -45,7 +45,8 @@ pub record IsFilled (facts : List Image) (s : Places) : Type 0 where
 abbrev pub HasFewPages : Places → Type 0
 HasFewPages s = (length s.data ≤ 4096) × (length s.stack ≤ 512)
 
--- a process borrowed its space exactly where one lends it a space
+-- Who lends a space to a process.
+
 abbrev pub lends_to_by : ℕ → RecordLife → Bool
 lends_to_by pid lives.New = false
 lends_to_by pid (lives.Holds sid) = false
@@ -55,5 +56,22 @@ lends_to_by pid (lives.Zombie status) = false
 abbrev pub lends_to : ℕ → Record → Bool
 lends_to pid p = lends_to_by pid p.state
 
-abbrev pub AreBorrowed : List Record → Type 0
-AreBorrowed ps = (pid : ℕ) (p : Record) → find pid ps ≡ Some p → p.borrowed ≡ list_any (lends_to pid) ps
+abbrev pub is_borrower_in : Option Record → Bool
+is_borrower_in None = false
+is_borrower_in (Some p) = p.borrowed
+
+abbrev pub HoldsBorrowed : RecordLife → Type 0
+HoldsBorrowed (lives.Holds sid) = Unit {0}
+HoldsBorrowed (lives.Lends sid child) = Unit {0}
+HoldsBorrowed _ = ⊥
+
+-- The records of the processes: each has a number below the next. A process is marked as a borrower exactly where one
+-- lends it a space, and none is where there is no record; one lends it at most; and who borrowed a space holds it, or
+-- lends it in turn.
+pub record AreRecords (ps : List Record) (next : ℕ) : Type 0 where
+  pub table : IsTable ps
+  pub first : 1 ≤ next
+  pub known : (pid : ℕ) (p : Record) → find pid ps ≡ Some p → (1 ≤ pid) × (pid < next)
+  pub marked : (pid : ℕ) → is_borrower_in (find pid ps) ≡ list_any (lends_to pid) ps
+  pub one : (pid a b : ℕ) (p q : Record) → find a ps ≡ Some p → find b ps ≡ Some q → lends_to pid p ≡ true → lends_to pid q ≡ true → a ≡ b
+  pub holds : (pid : ℕ) (p : Record) → find pid ps ≡ Some p → p.borrowed ≡ true → HoldsBorrowed p.state

@@ -63,7 +63,7 @@ SpoilsAfter k None after = after ≡ None
 SpoilsAfter k (Some image) after = (spoiled : List ℕ) × (after ≡ Some spoiled) × SpoilsBy k image k.place.transfers spoiled
 
 -- the counts of faults over a call: each rises with its own fault, and stays in every other case
-abbrev pub CountsPages : Result Bool Stop → ℕ → ℕ → Type 0
+abbrev pub CountsPages : {A : Type 0} → Result A Stop → ℕ → ℕ → Type 0
 CountsPages (Err stops.FileFault) old new = Rose old new
 CountsPages _ old new = new ≡ old
 

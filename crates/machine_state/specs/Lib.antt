@@ -27,6 +27,16 @@ pub mod Swapping
 pub mod Showing
 pub mod PlaceOf
 pub mod Lives
+pub mod Added
+pub mod Forgotten
+pub mod Sizes
+pub mod Changing
+pub mod Families
+pub mod Forking
+pub mod Gone
+pub mod Applying
+pub mod Applied
+pub mod Beginning
 pub mod UserMemory
 pub mod Lent
 pub mod UserMemoryLaws

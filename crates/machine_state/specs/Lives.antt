@@ -1,8 +1,11 @@
 -- What the records of the processes hold.
-use Rattle.std.specs.Prelude.{ℕ, Option, Some, None}
+use Rattle.std.specs.Prelude.{◌≡◌, ℕ, List, Option, Some, None}
 use Rattle.proc_table.specs.declared.process.Proc.{Proc as Record}
 use Rattle.proc_table.specs.declared.process.Life.{Life as RecordLife}
 use Rattle.proc_table.specs.declared.process.Life.TheVariants as lives
+use Rattle.proc_table.specs.Records.{find}
+use Rattle.kernel_model.specs.Kernel.{Proc as Process}
+use Rattle.kernel_model.specs.Unit.{has_lender}
 
 -- the space in which a process runs, by its life
 abbrev pub space_by : RecordLife → Option ℕ
@@ -14,3 +17,7 @@ space_by (lives.Zombie status) = None
 abbrev pub space_held : Option Record → Option ℕ
 space_held None = None
 space_held (Some p) = space_by p.state
+
+-- each record is marked by whether some process lends a space to its own
+abbrev pub AreMarked : List Process → List Record → Type 0
+AreMarked processes ps = (pid : ℕ) (p : Record) → find pid ps ≡ Some p → p.borrowed ≡ has_lender processes pid

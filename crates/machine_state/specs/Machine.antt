@@ -1,5 +1,5 @@
 -- What a machine stands for.
-use Rattle.std.specs.Prelude.{◌≡◌, ℕ, ◌-◌, ◌≤◌, Bool, List, length, map, take, filter_map, string_bytes, Option, Some, None, Ok}
+use Rattle.std.specs.Prelude.{◌≡◌, ℕ, ◌-◌, ◌≤◌, Bool, List, [], length, map, take, filter_map, string_bytes, Option, Some, None, Ok}
 use Rattle.std.specs.List.{range_with_len}
 use Rattle.vm_facts.specs.declared.entry.Entry.{Entry}
 use Rattle.vm_facts.specs.declared.params.Params.{Params}
@@ -18,8 +18,8 @@ use Rattle.machine_state.specs.declared.named.Named.{Named}
 use Rattle.machine_state.specs.declared.tables.Tables.{Tables}
 use Rattle.machine_state.specs.View.{Lists, transfer_shown, flown, starts_of, placement_of, frames_of}
 use Rattle.machine_state.specs.Tied.{Tied}
-use Rattle.machine_state.specs.Alike.{AreBorrowed}
-use Rattle.machine_state.specs.Sourced.{ImageNamed, AreSourced}
+use Rattle.machine_state.specs.Alike.{AreRecords}
+use Rattle.machine_state.specs.Sourced.{ImageNamed, AreNames, AreSourced}
 
 -- Processes, by rising pid.
 
@@ -125,4 +125,7 @@ pub record Stands (t : Tables) (journal : List Entry) (stopped : Bool) : Type 0 
   pub within : length journal ≤ t.params.journal
   pub book : t.book.size ≡ t.params.swap_blocks
   pub found : WereFound t.book.size (before_of t) t.book.holdings
-  pub borrowed : AreBorrowed t.processes
+  pub records : AreRecords t.processes t.next_pid
+  pub named : AreNames (images_of t)
+  -- with no entry yet, the next space has the number of the next process
+  pub numbers : journal ≡ [] → t.next_sid ≡ t.next_pid

@@ -1,5 +1,5 @@
 -- Where the parts of the transfers in flight are read from and written to.
-use Rattle.std.specs.Prelude.{◌≡◌, ℕ, zero, suc, ◌+◌, ◌-◌, ◌*◌, ◌<◌, min, Bool, true, false, List, [], ◌∷◌, slice_get, Option, Some, None}
+use Rattle.std.specs.Prelude.{◌≡◌, ℕ, zero, suc, ◌+◌, ◌-◌, ◌*◌, ◌<◌, min, Bool, true, false, List, [], ◌∷◌, length, slice_get, Option, Some, None}
 use Rattle.vm_facts.specs.declared.page.Page.{Page}
 use Rattle.vm_facts.specs.declared.page.Page.TheVariants.{Data, Stack, Text}
 use Rattle.aout_image.specs.declared.Image.{Image}
@@ -21,6 +21,11 @@ pub record ImageNamed : Type 0 where
   pub name : List ℕ
   pub file : ℕ
   pub facts : Image
+
+-- a name has 1 to 63 bytes
+abbrev pub AreNames : List ImageNamed → Type 0
+AreNames [] = Unit {0}
+AreNames (n ∷ ns) = (0 < length n.name) × (length n.name < 64) × AreNames ns
 
 -- images are numbered from 1
 abbrev pub named_at : List ImageNamed → ℕ → Option ImageNamed

@@ -4,7 +4,7 @@ ghost use Rattle.core_map.specs.Frames.{Frames};
 ghost use Rattle.table_view.specs.Views.{ShowsSpace};
 ghost use Rattle.kernel_model.specs.Asks.{HasSpace};
 ghost use Rattle.proc_table.specs.Records.{Lowest};
-ghost use Rattle.page_model.specs.Placement.{parts_of};
+ghost use Rattle.page_model.specs.Placement.{image_of, parts_of};
 ghost use Rattle.machine_state.specs.Machine.{image_shown};
 ghost use Rattle.machine_state.specs.Calls.{first_due};
 ghost use Rattle.machine_state.specs.Sharing.{IsSharer};
@@ -48,6 +48,7 @@ impl Machine {
         requires { self.now.kernel.stopped ≡ false }
         ensures there { IsSome result ↔ HasSpace self.now.kernel.place sid }
         ensures named { IfSome result (λ s. s.now.sid ≡ sid) }
+        ensures of_image { IfSome result (λ s. s.now.image ≡ image_of self.now.kernel.place sid) }
         ensures shows { IfSome result (λ s. (core : Frames) → ShowsCore self.now.kernel.place core → ShowsSpace self.now.kernel.place core s.now) }
     {
         let _frames = self.tables.core.frames();

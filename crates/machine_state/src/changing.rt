@@ -1,17 +1,20 @@
-//! Entries that move no page.
-ghost use Rattle.std.specs.Prelude.{◌≡◌, ◌⊎◌, ℕ, ◌+◌, ◌<◌, ◌≤◌, ◌↔◌, ◌^◌, ◌∷◌, ◌++◌, [], List, false, length, Some, None, IfOk, OnOk, OnErr, Ok, Err};
+//! Entries of processes, and those that change nothing.
+ghost use Rattle.std.specs.Prelude.{◌≡◌, ◌⊎◌, ℕ, ◌+◌, ◌<◌, ◌≤◌, ◌↔◌, ◌^◌, ◌∷◌, ◌++◌, [], List, true, false, length, Some, None, IfOk, OnOk, OnErr, Ok, Err};
 ghost use Rattle.vm_facts.specs.declared.entry.Entry.{Entry as Line};
 ghost use Rattle.vm_facts.specs.declared.entry.Entry.TheVariants.{Ran};
 ghost use Rattle.flat_state.specs.Journal.{append};
 ghost use Rattle.flat_state.specs.declared.change.Change.TheVariants.{Keep};
 ghost use Rattle.kernel_model.specs.Kernel.{note_step};
-ghost use Rattle.kernel_model.specs.ChangeStep.{ran_by};
-ghost use Rattle.machine_state.specs.Calls.{IsNote};
+ghost use Rattle.kernel_model.specs.ChangeStep.{change_step, pass_step, ran_by};
+ghost use Rattle.kernel_model.specs.Sound.{lives};
+ghost use Rattle.machine_state.specs.Applying.{CanApply, ChangesWhole, MayPass, facts_named};
+ghost use Rattle.machine_state.specs.Calls.{IsNote, life_in};
 ghost use Rattle.machine_state.specs.Conditions.{HasStopped, KeepsFlat, ChangesFlat, SameEverywhere};
 ghost use Rattle.machine_state.specs.UserMemory.{CanLend};
 
 use crate::machine::Machine;
 use crate::{joining, notes};
+use flat_state::Change;
 use vm_facts::{Entry, NoMemory, Regs, Stop};
 
 impl Machine {
@@ -81,5 +84,44 @@ impl Machine {
         self.room = None;
         self.tables.set_regs(pid, regs);
         joining::add_instruction(&mut self.journal, pid);
+    }
+
+    /// The step of an entry of a process, `Out`, `Grew`, `Call`, `Sleeps` or `Ended`, which leaves these registers and makes a
+    /// change. The pieces that it takes were found by `ask`. After `Lend` the child has no space until one passes to it.
+    pub fn flat(&mut self, pid: u32, regs: &Regs, e: Entry, change: Change) -> Result<(), Stop>
+        requires running { self.old.kernel.stopped ≡ false }
+        requires can { CanApply self.old pid e change }
+        ensures step { OnOk result (self.new.kernel ≡ change_step (facts_named self.old.images) self.old.kernel pid regs.now e change) }
+        ensures rest { OnOk result (self.new ≡ record self.old { kernel = self.new.kernel; before = self.new.kernel.holdings; room = None }) }
+        ensures keeps { OnOk result (ChangesWhole self.old self.new pid regs.now change) }
+        ensures stop { OnErr result (HasStopped self.old self.new) }
+        ensures cause { OnErr result ((result ≡ Err Stop.JournalFull) ⊎ (result ≡ Err Stop.NoMemory)) }
+        ensures full { (result ≡ Err Stop.JournalFull) ↔ (self.old.params.journal ≤ length self.old.kernel.journal) }
+    {
+        notes::make_room(
+            &mut self.journal,
+            &mut self.stopped,
+            &mut self.room,
+            self.tables.params.journal,
+        )?;
+        let _frames = self.tables.core.frames();
+        self.tables.set_regs(pid, regs);
+        let since = self.journal.len() as u32 + 1;
+        let applied = self.tables.apply(self.alloc, pid, change, since);
+        notes::or_stop(&mut self.stopped, applied)?;
+        self.tables.found = 0;
+        self.journal.push_reserved(e);
+        Ok(())
+    }
+
+    /// The space of one process moves to another: one that has none, to which it is lent, or its lender. It appends no
+    /// entry.
+    pub fn pass(&mut self, from: u32, to: u32)
+        requires running { self.old.kernel.stopped ≡ false }
+        requires may { MayPass (life_in self.old.kernel from) (life_in self.old.kernel to) from }
+        requires there { lives self.old.kernel.processes to ≡ true }
+        ensures { self.new ≡ record self.old { kernel = pass_step self.old.kernel from to } }
+    {
+        self.tables.pass(from, to);
     }
 }

@@ -2,10 +2,16 @@
 #![tactic(auto)]
 
 mod answers;
+mod applying;
 mod asking;
 mod changing;
+mod dropping;
 mod ending;
+mod entering;
+mod families;
 mod fill;
+mod forking;
+mod giving_up;
 mod joining;
 mod landing;
 mod launching;
@@ -19,6 +25,7 @@ mod places;
 mod processes;
 mod reading;
 mod spaces;
+mod starting;
 mod swapping;
 mod tables;
 mod u_pages;
@@ -27,7 +34,7 @@ mod user_memory;
 pub use laws::memory_is_flat;
 pub use machine::Machine;
 pub use named::Named;
-pub use pieces::Want;
+pub use pieces::{Want, image_wants};
 pub use user_memory::SpaceMemory;
 
 #[cfg(test)]

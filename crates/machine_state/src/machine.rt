@@ -7,6 +7,7 @@ ghost use Rattle.flat_state.specs.PageNames.{pages_from};
 ghost use Rattle.kernel_model.specs.Numbers.{Numbered};
 ghost use Rattle.kernel_model.specs.Sound.{Sound};
 ghost use Rattle.machine_state.specs.Machine.{image_shown};
+ghost use Rattle.machine_state.specs.Sourced.{AreNames};
 ghost use Rattle.page_model.specs.Swapper.{is_settled};
 ghost use Rattle.machine_state.specs.Settled.{SettledBy, IsSameBeside};
 ghost use Rattle.machine_state.specs.Files.{AreFiles};
@@ -63,6 +64,7 @@ impl Machine {
         requires few { params.frames ≤ 4096 }
         requires images { length images.items ≤ 16 }
         requires sound { AreSound (map (λ image. image.facts) images.items) }
+        requires names { AreNames (map image_shown images.items) }
         ensures { IfOk result (λ m. m ≡ record { kernel = fresh_kernel (map (λ image. image.facts) images.items) params.frames; params = params; images = map image_shown images.items; before = []; room = None }) }
     {
         let processes = ProcTable::new(alloc)?;
@@ -104,6 +106,7 @@ impl Machine {
         ensures sound { Sound self.now.params.swap_blocks (record self.now.kernel { holdings = self.now.before }) }
         ensures numbered { Numbered self.now.kernel }
         ensures due { DueStand self.now.kernel.place }
+        ensures frames { length self.now.kernel.place.holds ≤ 4096 }
     {
         let _ = &self.stopped;
     }

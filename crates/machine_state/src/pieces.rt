@@ -1,5 +1,7 @@
 //! Pieces of swap space that are found for a request: all of them, or none.
-ghost use Rattle.std.specs.Prelude.{◌≡◌, ◌<◌, length, IfOk, OnOk, OnErr};
+ghost use Rattle.std.specs.Prelude.{◌≡◌, ◌<◌, ◌*◌, ◌∷◌, [], length, IfOk, OnOk, OnErr};
+ghost use Rattle.aout_image.specs.Image.{IsSound, text_pages_of, data_pages_of};
+ghost use Rattle.swap_book.specs.declared.Owner.TheVariants.{Text as TextOf, Data as DataOf, Stack as StackOf};
 ghost use Rattle.swap_dmap.specs.Chunks.{pieces, chunk_start};
 ghost use Rattle.swap_book.specs.Owners.{same_owner as is_same_owner};
 ghost use Rattle.swap_book.specs.Holdings.{of_owner, kept};
@@ -7,6 +9,7 @@ ghost use Rattle.swap_book.specs.Book.{with_holdings};
 ghost use Rattle.machine_state.specs.GivingBack.{MayGiveBack};
 ghost use Rattle.machine_state.specs.Wants.{CanAsk, fits_for, book_asked, is_kept};
 
+use aout_image::Image;
 use swap_book::{Grown, Held, Owner, SwapBook};
 use swap_dmap::{chunk, chunks_for};
 use vm_facts::NoMemory;
@@ -16,6 +19,30 @@ use vm_facts::NoMemory;
 pub struct Want {
     pub owner: Owner,
     pub blocks: u32,
+}
+
+/// What the space with this number wants, in which an image starts: the image's text, where no other space shares it, the
+/// data, and one page of stack.
+pub fn image_wants(facts: &Image, image: u32, sid: u32) -> [Want; 3]
+    requires { IsSound facts.now }
+    ensures { result ≡ record { owner = TextOf image; blocks = 2 * text_pages_of facts.now }
+        ∷ record { owner = DataOf sid; blocks = 2 * data_pages_of facts.now }
+        ∷ record { owner = StackOf sid; blocks = 2 } ∷ [] }
+{
+    [
+        Want {
+            owner: Owner::Text(image),
+            blocks: 2 * facts.text_pages(),
+        },
+        Want {
+            owner: Owner::Data(sid),
+            blocks: 2 * facts.data_pages(),
+        },
+        Want {
+            owner: Owner::Stack(sid),
+            blocks: 2,
+        },
+    ]
 }
 
 // Whether the two are one owner.

@@ -2,12 +2,15 @@
 ghost use Rattle.std.specs.Prelude.{◌≡◌, ◌↔◌, ◌<◌, false, map, IsSome, IfSome};
 ghost use Rattle.core_map.specs.Slots.{slot_at};
 ghost use Rattle.vm_facts.specs.declared.page.Page.TheVariants.{Text as TextPage};
-ghost use Rattle.page_model.specs.Placement.{IsThere, state_of};
+ghost use Rattle.page_model.specs.Placement.{IsThere, state_of, filling_of};
 ghost use Rattle.machine_state.specs.New.{AreSound};
 ghost use Rattle.table_view.specs.Shown.{is_away, idle_state, state_shown};
+ghost use Rattle.machine_state.specs.Alike.{AreRecords};
+ghost use Rattle.machine_state.specs.Lives.{AreMarked};
+ghost use Rattle.machine_state.specs.Shown.{entry_in};
 ghost use Rattle.machine_state.specs.View.{pages_in, text_place};
 ghost use Rattle.machine_state.specs.Machine.{lists_of, processes_of, residents_of};
-ghost use Rattle.machine_state.specs.PlaceOf.{place_of};
+ghost use Rattle.machine_state.specs.PlaceOf.{place_of, is_blank, is_zero_place, names_zeros};
 
 use crate::machine::Machine;
 use crate::named::Named;
@@ -45,6 +48,13 @@ fn state_shown(core: &CoreMap, place: Place) -> PageState
     }
 }
 
+// Whether a place says that its page has zeros.
+fn is_zero_place(place: Option<Place>) -> bool
+    ensures { result ≡ is_zero_place place }
+{
+    matches!(place, Some(Place::Zero))
+}
+
 // How many pages the text of an image has; none where there is no such image.
 fn text_pages_in(images: &[Named], image: u32) -> u32
     requires { AreSound (map (λ image. image.facts) images.now) }
@@ -60,8 +70,8 @@ fn text_pages_in(images: &[Named], image: u32) -> u32
 }
 
 impl Tables {
-    // Where a page of text is: as the first space that shares it has it, or in a frame that still holds it.
-    fn text_place(&self, image: u32, v: u32) -> Place
+    /// Where a page of text is: as the first space that shares it has it, or in a frame that still holds it.
+    pub(crate) fn text_place(&self, image: u32, v: u32) -> Place
         ensures { result ≡ text_place self.now.spaces self.now.core.slots (TextPage image v) v }
     {
         if let Some(place) = self.spaces.entry(Page::Text { image, v }) {
@@ -94,6 +104,16 @@ impl Tables {
             Page::Data { .. } | Page::Stack { .. } => self.spaces.entry(page),
         }
     }
+
+    // Whether the entry of a data or stack page says that it has zeros.
+    fn is_zero(&self, page: Page) -> bool
+        ensures { result ≡ names_zeros page (entry_in self.now.spaces page) }
+    {
+        match page {
+            Page::Text { .. } => false,
+            Page::Data { .. } | Page::Stack { .. } => is_zero_place(self.spaces.entry(page)),
+        }
+    }
 }
 
 impl Machine {
@@ -109,10 +129,22 @@ impl Machine {
         Some(state_shown(&self.tables.core, place))
     }
 
-    /// The records of all processes.
+    /// Whether a page that is there has to be filled with zeros.
+    pub fn is_blank(&self, page: Page) -> bool
+        requires running { self.now.kernel.stopped ≡ false }
+        requires there { IsThere self.now.kernel.place page }
+        ensures { result ≡ is_blank (state_of self.now.kernel.place page) (filling_of self.now.kernel.place page) }
+    {
+        let _frames = self.tables.core.frames();
+        self.tables.is_zero(page)
+    }
+
+    /// The records of all processes. In a machine that runs each is marked by whether some process lends it its space.
     pub fn processes(&self) -> &ProcTable
         ensures processes { self.now.kernel.processes ≡ processes_of result.now self.now.kernel.next_pid }
         ensures residents { self.now.kernel.place.residents ≡ residents_of result.now self.now.kernel.next_pid }
+        ensures records { self.now.kernel.stopped ≡ false → AreRecords result.now self.now.kernel.next_pid }
+        ensures borrowers { self.now.kernel.stopped ≡ false → AreMarked self.now.kernel.processes result.now }
     {
         &self.tables.processes
     }

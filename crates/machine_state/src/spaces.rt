@@ -1,19 +1,22 @@
 //! The page places of all spaces.
-ghost use Rattle.std.specs.Prelude.{◌≡◌, ◌<◌, map, length, Some, [], IfSome, IfNone, IsTrue, slice_get, option_copied};
+ghost use Rattle.std.specs.Prelude.{◌≡◌, ℕ, ◌<◌, ◌≤◌, map, length, Some, [], ◌∷◌, ◌++◌, OnOk, OnErr, IfSome, IfNone, IsTrue, slice_get, option_copied, option_map};
+ghost use Rattle.aout_image.specs.Image.{text_pages_of};
 ghost use Rattle.vax_pte.specs.Words.{IsInRange};
-ghost use Rattle.flat_state.specs.Numbers.{IsAbsent};
+ghost use Rattle.flat_state.specs.Numbers.{IsAbsent, AllBelow};
 ghost use Rattle.page_model.specs.Pages.{numbered};
 ghost use Rattle.machine_state.specs.Rising.{sids_of, AreRising, StandsAt, IsHome, space_named};
 ghost use Rattle.machine_state.specs.Shown.{entry_in, placed, is_frame, frame_named, changed_named};
 ghost use Rattle.machine_state.specs.Launches.{valid_named};
 ghost use Rattle.machine_state.specs.Settled.{image_found};
 ghost use Rattle.machine_state.specs.Sharing.{first_sharer};
+ghost use Rattle.machine_state.specs.Gone.{without_space, sharing};
+ghost use Rattle.machine_state.specs.Sizes.{with_sizes_at};
 
 use space_map::SpaceMap;
 use std::alloc::Global;
 use std::marker::Model;
 use vax_pte::Place;
-use vm_facts::Page;
+use vm_facts::{NoMemory, Page};
 
 /// The page places of all spaces, which stand by rising numbers. Contracts see the list.
 #[derive(Drop)]
@@ -82,6 +85,19 @@ fn first_sharer(maps: &[SpaceMap], image: u32) -> Option<u32>
     for space in maps {
         if space.image() == image {
             return Some(space.sid());
+        }
+    }
+    None
+}
+
+// How many pages the text of an image has, by the first space that shares it.
+fn text_pages(maps: &[SpaceMap], image: u32) -> Option<u32>
+    ensures entries { result ≡ option_map (λ s. length s.text) (sharing maps.now image) }
+    ensures whole { result ≡ option_map (λ s. text_pages_of s.facts) (sharing maps.now image) }
+{
+    for space in maps {
+        if space.image() == image {
+            return Some(space.text_pages());
         }
     }
     None
@@ -180,6 +196,14 @@ impl Spaces {
         first_sharer(&self.maps, image)
     }
 
+    /// How many pages the text of an image has, by the first space that shares it; None exactly where none does.
+    pub(crate) fn text_pages(&self, image: u32) -> Option<u32>
+        ensures entries { result ≡ option_map (λ s. length s.text) (sharing self.now image) }
+        ensures whole { result ≡ option_map (λ s. text_pages_of s.facts) (sharing self.now image) }
+    {
+        text_pages(&self.maps, image)
+    }
+
     /// The frame that the entry of a page names, and whether the page was changed.
     pub(crate) fn frame_of(&self, page: Page) -> (u32, bool)
         requires { IsTrue (is_frame (entry_in self.now page)) }
@@ -210,5 +234,52 @@ impl Spaces {
             Some(Place::Frame { changed, .. }) => changed,
             _ => false,
         }
+    }
+
+    /// How many pages of data and of stack the space has that stands there.
+    pub(crate) fn sizes_at(&self, index: usize) -> (u32, u32)
+        requires { index < length self.now }
+        ensures data_pages { Some result.0 ≡ option_map (λ s. length s.data) (slice_get self.now index) }
+        ensures stack_pages { Some result.1 ≡ option_map (λ s. length s.stack) (slice_get self.now index) }
+    {
+        let space = &self.maps[index];
+        (space.data_pages(), space.stack_pages())
+    }
+
+    /// The space that stands there has other sizes. Without memory all is as before.
+    pub(crate) fn resize_at(
+        &mut self,
+        index: usize,
+        data_pages: u32,
+        stack_pages: u32,
+    ) -> Result<(), NoMemory>
+        requires in_range { index < length self.old }
+        requires data_fits { data_pages ≤ 4096 }
+        requires stack_fits { stack_pages ≤ 512 }
+        ensures ok { OnOk result (self.new ≡ with_sizes_at self.old index data_pages stack_pages) }
+        ensures err { OnErr result (self.new ≡ self.old) }
+    {
+        self.maps[index].resize(data_pages, stack_pages)
+    }
+
+    /// The space that stands there goes. Answers its image, and how many pages the text of that has.
+    pub(crate) fn remove_at(&mut self, index: usize) -> (u32, u32)
+        requires { index < length self.old }
+        ensures gone { (sid : ℕ) → StandsAt self.old sid index → self.new ≡ without_space sid self.old }
+        ensures image { Some result.0 ≡ option_map (λ s. s.image) (slice_get self.old index) }
+        ensures pages { Some result.1 ≡ option_map (λ s. text_pages_of s.facts) (slice_get self.old index) }
+    {
+        let space = self.maps.remove(index);
+        (space.image(), space.text_pages())
+    }
+
+    /// A space of a number above all stands last.
+    pub(crate) fn push(&mut self, space: SpaceMap) -> Result<(), NoMemory>
+        requires above { AllBelow space.sid (sids_of self.old) }
+        ensures pushed { OnOk result (self.new ≡ self.old ++ space ∷ []) }
+        ensures few { OnOk result (length self.old ≤ space.sid) }
+    {
+        self.maps.push(space)?;
+        Ok(())
     }
 }

@@ -12,7 +12,7 @@ use Rattle.machine_state.specs.Machine.{Standing, Runs, lists_of, kernel_by, ima
 use Rattle.machine_state.specs.Sourced.{IsFlightSourced, AreSourced}
 use Rattle.machine_state.specs.Conditions.{CanBringIn, KeepsFlat, SameOutside}
 use Rattle.machine_state.proofs.Knows.{known_of}
-use Rattle.machine_state.proofs.Standings.{no_room, running, stands_now, whole_now, Still, stands_on, rest_of, pushed, sourced_more}
+use Rattle.machine_state.proofs.Standings.{no_room, running, stands_now, whole_now, Still, still_along, stands_on, rest_of, pushed, sourced_more}
 use Rattle.machine_state.proofs.Sources.{run_sources}
 use Rattle.machine_state.proofs.Gets.{get_kernel, get_runs, get_keeps, get_same}
 use Rattle.machine_state.proofs.machine.Machine.begin_get.Goals as goal
@@ -41,7 +41,7 @@ invariant_of-self-2 c _ =
     let now = stands_now c.self.inside c.args.self.now c.self.invariant c.self.view_is c.requires.running in
     let whole = whole_now c.self.inside c.args.self.now c.self.view_is c.requires.whole in
     let e = c.read_run.ensures.rest in
-    let s : Still t w = record { params = ap (λ (x : Tables). x.params) e; images = ap (λ (x : Tables). x.images.items) e; book = ap (λ (x : Tables). x.book) e; found = ap (λ (x : Tables). x.found) e; processes = ap (λ (x : Tables). x.processes) e } in
+    let s : Still t w = still_along _ _ _ e (record { params = refl; images = refl; book = refl; found = refl; processes = refl; next_pid = refl; next_sid = refl }) in
     let stopped : c.or_stop.new.stopped ≡ c.self.inside.stopped = c.in_ok-parts.ensures.same ∙ c.in_ok-make_room.ensures.ok.0 in
     let own = subst (λ (hs : Holdings). IsFlightSourced (images_of t) (image_at t) hs t.book.size c.read_run.ensures.flight) (sym whole) c.read_run.ensures.sourced in
     record {
@@ -60,7 +60,7 @@ returns-clause-rest c =
     let t : Tables = c.self.inside.tables in
     let w : Tables = c.read_run.new.self in
     let e = c.read_run.ensures.rest in
-    let s : Still t w = record { params = ap (λ (x : Tables). x.params) e; images = ap (λ (x : Tables). x.images.items) e; book = ap (λ (x : Tables). x.book) e; found = ap (λ (x : Tables). x.found) e; processes = ap (λ (x : Tables). x.processes) e } in
+    let s : Still t w = still_along _ _ _ e (record { params = refl; images = refl; book = refl; found = refl; processes = refl; next_pid = refl; next_sid = refl }) in
     rest_of c.self.inside c.args.self.now w _ _ _ c.self.view_is s c.make_room.ensures.room
 
 pub returns-clause-step : goal.returns-clause-step

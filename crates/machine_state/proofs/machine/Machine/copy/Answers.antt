@@ -17,7 +17,7 @@ use Rattle.machine_state.proofs.Evicts.{head_below}
 use Rattle.machine_state.proofs.Knows.{known_of, texts_here, not_held}
 use Rattle.machine_state.proofs.Residing.{Resides, seat_resides}
 use Rattle.machine_state.proofs.Copying.{Copying, copying_rest, copy_ties, copy_kernel, copy_runs, copy_keeps, copy_same}
-use Rattle.machine_state.proofs.Standings.{no_room, running, stands_now, whole_now, Still, stands_same, rest_of, pushed}
+use Rattle.machine_state.proofs.Standings.{no_room, running, stands_now, whole_now, Still, still_along, stands_same, rest_of, pushed}
 use Rattle.machine_state.proofs.machine.Machine.copy.Goals as goal
 
 pub copy_frame-copy-requires-clause-frame : goal.copy_frame-copy-requires-clause-frame
@@ -75,7 +75,7 @@ invariant_of-self-2 c _ =
       once = r.tied.once;
     } in
     let e2 = copying_rest t c.copy_frame-copy.new.self c.seat.new.self c.finish_fill.new.self m.token c.copy_frame-copy.result c.args.child c.args.parent can.frame can.others z in
-    let s : Still t c.finish_fill.new.self = record { params = ap (λ (x : Tables). x.params) e2; images = ap (λ (x : Tables). x.images.items) e2; book = ap (λ (x : Tables). x.book) e2; found = ap (λ (x : Tables). x.found) e2; processes = ap (λ (x : Tables). x.processes) e2 } in
+    let s : Still t c.finish_fill.new.self = still_along _ _ _ e2 (record { params = refl; images = refl; book = refl; found = refl; processes = refl; next_pid = refl; next_sid = refl }) in
     let now = stands_now c.self.inside c.args.self.now c.self.invariant c.self.view_is c.requires.running in
     let whole = whole_now c.self.inside c.args.self.now c.self.view_is c.requires.whole in
     let ties = copy_ties t c.copy_frame-copy.new.self c.seat.new.self c.finish_fill.new.self m.token c.copy_frame-copy.result c.args.child c.args.parent can.frame can.others z (ap frame_of can.unfilled) in
@@ -111,7 +111,7 @@ returns-clause-rest c =
       once = r.tied.once;
     } in
     let e2 = copying_rest t c.copy_frame-copy.new.self c.seat.new.self c.finish_fill.new.self m.token c.copy_frame-copy.result c.args.child c.args.parent can.frame can.others z in
-    let s : Still t c.finish_fill.new.self = record { params = ap (λ (x : Tables). x.params) e2; images = ap (λ (x : Tables). x.images.items) e2; book = ap (λ (x : Tables). x.book) e2; found = ap (λ (x : Tables). x.found) e2; processes = ap (λ (x : Tables). x.processes) e2 } in
+    let s : Still t c.finish_fill.new.self = still_along _ _ _ e2 (record { params = refl; images = refl; book = refl; found = refl; processes = refl; next_pid = refl; next_sid = refl }) in
     rest_of c.self.inside c.args.self.now c.finish_fill.new.self _ _ _ c.self.view_is s c.make_room.ensures.room
 
 pub returns-clause-step : goal.returns-clause-step

@@ -14,7 +14,7 @@ use Rattle.machine_state.specs.Sourced.{AreSourced}
 use Rattle.machine_state.specs.Files.{AreFiles, AreImages}
 use Rattle.machine_state.specs.Machine.{Standing, lists_of, kernel_by, image_at, images_of, before_of}
 use Rattle.machine_state.proofs.Knows.{known_of}
-use Rattle.machine_state.proofs.Standings.{no_room, running, stands_now, whole_now, Still, stands_on, pushed}
+use Rattle.machine_state.proofs.Standings.{no_room, running, stands_now, whole_now, Still, still_along, stands_on, pushed}
 use Rattle.machine_state.proofs.Reaches.{reachable}
 use Rattle.machine_state.proofs.Dones.{Came, came, done_back, was_lists, back_known, Doing, done_kernel, done_runs, Before, head_sourced, rest_sourced, done_image, spoiled_image, done_keeps}
 use Rattle.machine_state.proofs.machine.Machine.done.Goals as goal
@@ -62,7 +62,7 @@ invariant_of-self-in-Done g c _ =
     ∙ ap (λ (j : List Entry). done_step (kernel_by t j c.make_room.new.stopped) (brought n)) c.make_room.ensures.same
     ∙ ap (λ (x : Bool). done_step (kernel_by t c.self.inside.journal.items x) (brought n)) c.in_ok-make_room.ensures.ok.0 in
     let u = d.all.rest in
-    let s : Still t w = record { params = ap (λ (x : Tables). x.params) u; images = ap (λ (x : Tables). x.images.items) u; book = ap (λ (x : Tables). x.book) u; found = ap (λ (x : Tables). x.found) u; processes = ap (λ (x : Tables). x.processes) u } in
+    let s : Still t w = still_along _ _ _ u (record { params = refl; images = refl; book = refl; found = refl; processes = refl; next_pid = refl; next_sid = refl }) in
     let left : w.ring ≡ e.rest = ap (λ (x : Tables). x.ring) u ∙ c.in-Done.ensures.rest ∙ ap (drop 1) e.ring_is in
     record {
       stands = stands_on c.self.inside w c.push_reserved.new.self.items c.make_room.new.stopped now.stands whole s

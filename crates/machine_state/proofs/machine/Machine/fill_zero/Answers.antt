@@ -12,7 +12,7 @@ use Rattle.machine_state.proofs.Knows.{known_of, texts_here, not_held}
 use Rattle.machine_state.proofs.Zeros.{Zeroing}
 use Rattle.machine_state.proofs.ZeroKeeps.{zero_keeps, zero_same}
 use Rattle.machine_state.proofs.Kernels.{zeroing_rest, zero_ties, zero_kernel, zero_runs}
-use Rattle.machine_state.proofs.Standings.{no_room, running, stands_now, whole_now, Still, stands_same, rest_of, pushed}
+use Rattle.machine_state.proofs.Standings.{no_room, running, stands_now, whole_now, Still, still_along, stands_same, rest_of, pushed}
 use Rattle.machine_state.proofs.machine.Machine.fill_zero.Goals as goal
 
 pub take_frame-token-requires-clause-texts : goal.take_frame-token-requires-clause-texts
@@ -45,7 +45,7 @@ invariant_of-self-2 c _ =
     let now = stands_now c.self.inside c.args.self.now c.self.invariant c.self.view_is c.requires.running in
     let whole = whole_now c.self.inside c.args.self.now c.self.view_is c.requires.whole in
     let e = zeroing_rest c.self.inside.tables c.take_frame-token.new.self c.seat.new.self c.finish_fill.new.self c.take_frame-token.result c.fill_frame-filled.result c.args.page z in
-    let s : Still c.self.inside.tables c.finish_fill.new.self = record { params = ap (λ (x : Tables). x.params) e; images = ap (λ (x : Tables). x.images.items) e; book = ap (λ (x : Tables). x.book) e; found = ap (λ (x : Tables). x.found) e; processes = ap (λ (x : Tables). x.processes) e } in
+    let s : Still c.self.inside.tables c.finish_fill.new.self = still_along _ _ _ e (record { params = refl; images = refl; book = refl; found = refl; processes = refl; next_pid = refl; next_sid = refl }) in
     let ties = zero_ties c.self.inside.tables c.take_frame-token.new.self c.seat.new.self c.finish_fill.new.self c.take_frame-token.result c.fill_frame-filled.result c.args.page z (ap frame_of can.unfilled) in
     record {
       stands = stands_same c.self.inside c.finish_fill.new.self c.push_reserved.new.self.items c.make_room.new.stopped now.stands whole s
@@ -73,7 +73,7 @@ returns-clause-rest c =
       once = r.tied.once;
     } in
     let e = zeroing_rest c.self.inside.tables c.take_frame-token.new.self c.seat.new.self c.finish_fill.new.self c.take_frame-token.result c.fill_frame-filled.result c.args.page z in
-    let s : Still c.self.inside.tables c.finish_fill.new.self = record { params = ap (λ (x : Tables). x.params) e; images = ap (λ (x : Tables). x.images.items) e; book = ap (λ (x : Tables). x.book) e; found = ap (λ (x : Tables). x.found) e; processes = ap (λ (x : Tables). x.processes) e } in
+    let s : Still c.self.inside.tables c.finish_fill.new.self = still_along _ _ _ e (record { params = refl; images = refl; book = refl; found = refl; processes = refl; next_pid = refl; next_sid = refl }) in
     rest_of c.self.inside c.args.self.now c.finish_fill.new.self _ _ _ c.self.view_is s c.make_room.ensures.room
 
 pub returns-clause-step : goal.returns-clause-step

@@ -34,7 +34,7 @@ invariant_of-result c _ =
     (subst (λ (l : Lists). Runs (fresh_kernel facts c.args.params.frames) l t.book.size) (sym (new_lists_are t facts c.args.params.frames n))
     (new_runs facts c.args.params.frames t.book.size c.requires.some c.requires.few (subst (λ (k : ℕ). k ≤ 16) (sym (length_map (λ (x : Named). x.facts) c.args.images.items)) c.requires.images) c.requires.sound)) in
     record {
-      stands = new_stands t c.new-8.result.items n.holdings n.ring c.new-8.ensures.items (ap (λ (b : Book). b.size) c.in_ok-book.ensures) c.in_ok-processes.ensures runs;
+      stands = new_stands t c.new-8.result.items n.holdings n.ring c.new-8.ensures.items (ap (λ (b : Book). b.size) c.in_ok-book.ensures) c.in_ok-processes.ensures c.requires.names refl refl runs;
       none_lost = refl;
       room = tt;
     }

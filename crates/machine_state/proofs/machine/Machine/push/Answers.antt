@@ -67,7 +67,7 @@ invariant_of-self-2 c _ =
     let whole = whole_now c.self.inside c.args.self.now c.self.view_is c.requires.whole in
     record {
       stands = moving_stands c.self.inside c.put_out.new.self p [] (entries.Put c.args.lo c.args.n) c.push_reserved.new.self.items c.or_stop.new.stopped g now.stands whole ej es
-          (pushed c.self.inside.journal.items c.make_room.new.journal.items c.push_reserved.new.self.items _ t.params.journal c.make_room.ensures.same c.push_reserved.ensures.items c.in_ok-make_room.ensures.ok.1);
+          (pushed c.self.inside.journal.items c.make_room.new.journal.items c.push_reserved.new.self.items _ t.params.journal c.make_room.ensures.same c.push_reserved.ensures.items c.in_ok-make_room.ensures.ok.1).within;
       none_lost = now.none_lost;
       room = no_room _ _ _ c.make_room.ensures.room;
     }

@@ -17,7 +17,7 @@ use Rattle.machine_state.specs.Moves.{RevivedPage}
 use Rattle.machine_state.specs.Conditions.{CanReclaim, KeepsFlat, SameEverywhere}
 use Rattle.machine_state.proofs.Knows.{known_of, text_low}
 use Rattle.machine_state.proofs.Entries.{head_of, placed_heads}
-use Rattle.machine_state.proofs.Standings.{no_room, running, stands_now, whole_now, Still, stands_same, rest_of, pushed}
+use Rattle.machine_state.proofs.Standings.{no_room, running, stands_now, whole_now, Still, still_along, stands_same, rest_of, pushed}
 use Rattle.machine_state.proofs.Revives.{below_held}
 use Rattle.machine_state.proofs.Evicts.{held_above}
 use Rattle.machine_state.proofs.Reclaims.{InvalidEntry, invalid_entry, Reclaiming, reclaim_kernel, reclaim_runs, reclaim_keeps, reclaim_alike}
@@ -87,7 +87,7 @@ invariant_of-self-2 c _ =
     let now = stands_now c.self.inside c.args.self.now c.self.invariant c.self.view_is c.requires.running in
     let whole = whole_now c.self.inside c.args.self.now c.self.view_is c.requires.whole in
     let e = v.rest in
-    let s : Still t c.revive.new.self = record { params = ap (λ (x : Tables). x.params) e; images = ap (λ (x : Tables). x.images.items) e; book = ap (λ (x : Tables). x.book) e; found = ap (λ (x : Tables). x.found) e; processes = ap (λ (x : Tables). x.processes) e } in
+    let s : Still t c.revive.new.self = still_along _ _ _ e (record { params = refl; images = refl; book = refl; found = refl; processes = refl; next_pid = refl; next_sid = refl }) in
     record {
       stands = stands_same c.self.inside c.revive.new.self c.push_reserved.new.self.items c.make_room.new.stopped now.stands whole s
           (subst (λ (j : List Entry). Runs (kernel_by c.revive.new.self j c.make_room.new.stopped) (lists_of c.revive.new.self) c.revive.new.self.book.size) (sym c.push_reserved.ensures.items)
@@ -109,7 +109,7 @@ returns-clause-rest c =
     subst (λ (b : Bool). RevivedPage t c.revive.new.self c.args.page can.frame b) c.is_dirty-dirty.ensures (subst (λ (f : ℕ). RevivedPage t c.revive.new.self c.args.page f c.is_dirty-dirty.result) frame c.revive.ensures) in
     let g : Reclaiming t c.revive.new.self c.args.page can.frame = record { known = k; invalid = can.invalid; entry = i; revived_it = v } in
     let e = v.rest in
-    let s : Still t c.revive.new.self = record { params = ap (λ (x : Tables). x.params) e; images = ap (λ (x : Tables). x.images.items) e; book = ap (λ (x : Tables). x.book) e; found = ap (λ (x : Tables). x.found) e; processes = ap (λ (x : Tables). x.processes) e } in
+    let s : Still t c.revive.new.self = still_along _ _ _ e (record { params = refl; images = refl; book = refl; found = refl; processes = refl; next_pid = refl; next_sid = refl }) in
     rest_of c.self.inside c.args.self.now c.revive.new.self _ _ _ c.self.view_is s c.make_room.ensures.room
 
 pub returns-clause-step : goal.returns-clause-step

@@ -1,6 +1,7 @@
-use Rattle.std.proofs.Common.{ℕ, subst}
+use Rattle.std.proofs.Common.{ℕ, ◌≤◌, length, subst, arith}
 use Rattle.kernel_model.specs.Sound.{Sound}
-use Rattle.machine_state.specs.Machine.{Standing, kernel_by, before_of}
+use Rattle.machine_state.specs.Machine.{Standing, lists_of, kernel_by, before_of}
+use Rattle.machine_state.proofs.Held.{holds_length}
 use Rattle.machine_state.proofs.Standings.{stands_now}
 use Rattle.machine_state.proofs.machine.Machine.sound.Goals as goal
 
@@ -10,3 +11,11 @@ returns-clause-sound c =
     let now = stands_now m c.args.self.now c.self.invariant c.self.view_is c.requires in
     subst (λ (s : Standing). Sound s.params.swap_blocks (record s.kernel { holdings = s.before })) c.self.view_is
     (subst (λ (n : ℕ). Sound n (record (kernel_by m.tables m.journal.items m.stopped) { holdings = before_of m.tables })) now.stands.book now.stands.runs.sound)
+
+pub returns-clause-frames : goal.returns-clause-frames
+returns-clause-frames c =
+    let m = c.self.inside in
+    let now = stands_now m c.args.self.now c.self.invariant c.self.view_is c.requires in
+    let few = now.stands.runs.tied.few_frames in
+    let size = holds_length (lists_of m.tables) in
+    subst (λ (s : Standing). length s.kernel.place.holds ≤ 4096) c.self.view_is (omega (arith, few, size))

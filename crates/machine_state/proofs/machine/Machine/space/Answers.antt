@@ -1,4 +1,5 @@
 use Rattle.std.proofs.Common.{◌≡◌, ℕ, List, Some, None, IsSome, sym, ap, ◌∙◌, subst, refl, slice_get}
+use Rattle.page_model.specs.Placement.{image_of}
 use Rattle.kernel_model.specs.Asks.{HasSpace}
 use Rattle.core_map.specs.Frames.{Frames}
 use Rattle.table_view.specs.Views.{ShowsSpace}
@@ -8,7 +9,7 @@ use Rattle.machine_state.specs.View.{placement_of}
 use Rattle.machine_state.specs.Showing.{ShowsCore}
 use Rattle.machine_state.proofs.Standings.{stands_now}
 use Rattle.machine_state.proofs.UserFrames.{known_by, stands_there}
-use Rattle.machine_state.proofs.Showings.{space_shows, space_number_is, space_there}
+use Rattle.machine_state.proofs.Showings.{space_shows, space_number_is, space_there, space_image}
 use Rattle.machine_state.proofs.machine.Machine.space.Goals as goal
 
 pub returns-in_err-index-clause-there : goal.returns-in_err-index-clause-there
@@ -30,6 +31,13 @@ pub returns-clause-named : goal.returns-clause-named
 returns-clause-named c =
     let t : Tables = c.self.inside.tables in
     space_number_is (lists_of t) c.in_ok-index.index c.at-space.result.now c.at-space.ensures.space c.args.sid c.in_ok-index.ensures.found.number
+
+pub returns-clause-of_image : goal.returns-clause-of_image
+returns-clause-of_image c =
+    let t : Tables = c.self.inside.tables in
+    let named = space_number_is (lists_of t) c.in_ok-index.index c.at-space.result.now c.at-space.ensures.space c.args.sid c.in_ok-index.ensures.found.number in
+    space_image (lists_of t) c.in_ok-index.index c.at-space.result.now c.at-space.ensures.space c.at-space.ensures.rising c.args.sid named
+    ∙ ap (λ (s : Standing). image_of s.kernel.place c.args.sid) c.self.view_is
 
 pub returns-clause-shows : goal.returns-clause-shows
 returns-clause-shows c =

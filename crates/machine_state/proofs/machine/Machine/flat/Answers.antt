@@ -1,0 +1,61 @@
+use Rattle.std.proofs.Common.{◌≡◌, List, [], ◌∷◌, ◌++◌, length, ap, ◌∙◌, arith}
+use Rattle.vm_facts.specs.declared.entry.Entry.{Entry}
+use Rattle.kernel_model.specs.ChangeStep.{change_step}
+use Rattle.machine_state.specs.declared.tables.Tables.{Tables}
+use Rattle.machine_state.specs.Applying.{facts_named}
+use Rattle.machine_state.specs.Machine.{Standing, kernel_by}
+use Rattle.machine_state.proofs.Standings.{no_room, stands_now, pushed}
+use Rattle.machine_state.proofs.FlatSteps.{ready_of, made_of, flat_record, flat_may, flat_kernel, flat_stands}
+use Rattle.machine_state.proofs.Wholes.{changes_whole}
+use Rattle.machine_state.proofs.machine.Machine.flat.Goals as goal
+
+pub set_regs-requires : goal.set_regs-requires
+set_regs-requires c =
+    let r = ready_of c.self.inside c.args.self.now c.args.pid c.args.e c.args.change c.self.invariant c.self.view_is c.requires.running c.requires.can c.frames-frames.ensures.sound in
+    flat_record c.self.inside.tables c.self.inside.journal.items c.self.inside.stopped c.args.pid c.args.change r.can.ready
+
+pub apply-applied-requires : goal.apply-applied-requires
+apply-applied-requires c =
+    let r = ready_of c.self.inside c.args.self.now c.args.pid c.args.e c.args.change c.self.invariant c.self.view_is c.requires.running c.requires.can c.frames-frames.ensures.sound in
+    flat_may c.self.inside.tables c.set_regs.new.self c.self.inside.journal.items c.self.inside.stopped c.args.pid c.args.regs.now c.args.e c.args.change r c.set_regs.ensures
+
+pub invariant_of-self-2 : goal.invariant_of-self-2
+invariant_of-self-2 c _ =
+    let r = ready_of c.self.inside c.args.self.now c.args.pid c.args.e c.args.change c.self.invariant c.self.view_is c.requires.running c.requires.can c.frames-frames.ensures.sound in
+    let now = stands_now c.self.inside c.args.self.now c.self.invariant c.self.view_is c.requires.running in
+    let applies = made_of c.apply-applied.result _ c.in_ok-or_stop.ensures.made c.apply-applied.ensures.applied in
+    let same : length c.make_room.new.journal.items ≡ length c.self.inside.journal.items = ap length c.make_room.ensures.same in
+    record {
+      stands = flat_stands c.self.inside.tables c.set_regs.new.self c.self.inside.journal.items c.self.inside.stopped c.args.pid c.args.regs.now c.args.e c.args.change r c.set_regs.ensures
+          c.apply-applied.new.self _ applies (omega (arith, same, c.len.ensures)) c.push_reserved.new.self.items c.or_stop.new.stopped
+          (c.push_reserved.ensures.items ∙ ap (λ (j : List Entry). j ++ c.args.e ∷ []) c.make_room.ensures.same)
+          (c.in_ok-or_stop.ensures.same ∙ c.in_ok-make_room.ensures.ok.0)
+          (pushed c.self.inside.journal.items c.make_room.new.journal.items c.push_reserved.new.self.items _ c.self.inside.tables.params.journal
+          c.make_room.ensures.same c.push_reserved.ensures.items c.in_ok-make_room.ensures.ok.1).within;
+      none_lost = now.none_lost;
+      room = no_room _ _ _ c.make_room.ensures.room;
+    }
+
+pub returns-clause-step : goal.returns-clause-step
+returns-clause-step c =
+    let r = ready_of c.self.inside c.args.self.now c.args.pid c.args.e c.args.change c.self.invariant c.self.view_is c.requires.running c.requires.can c.frames-frames.ensures.sound in
+    let applies = made_of c.apply-applied.result _ c.in_ok-or_stop.ensures.made c.apply-applied.ensures.applied in
+    let same : length c.make_room.new.journal.items ≡ length c.self.inside.journal.items = ap length c.make_room.ensures.same in
+    flat_kernel c.self.inside.tables c.set_regs.new.self c.self.inside.journal.items c.self.inside.stopped c.args.pid c.args.regs.now c.args.e c.args.change r c.set_regs.ensures
+    c.apply-applied.new.self _ applies (omega (arith, same, c.len.ensures)) c.push_reserved.new.self.items c.or_stop.new.stopped
+    (c.push_reserved.ensures.items ∙ ap (λ (j : List Entry). j ++ c.args.e ∷ []) c.make_room.ensures.same)
+    (c.in_ok-or_stop.ensures.same ∙ c.in_ok-make_room.ensures.ok.0)
+    ∙ ap (λ (s : Standing). change_step (facts_named s.images) s.kernel c.args.pid c.args.regs.now c.args.e c.args.change) c.self.view_is
+
+pub returns-clause-keeps : goal.returns-clause-keeps
+returns-clause-keeps c =
+    let w : Tables = record c.apply-applied.new.self { found = 0 } in
+    let r = ready_of c.self.inside c.args.self.now c.args.pid c.args.e c.args.change c.self.invariant c.self.view_is c.requires.running c.requires.can c.frames-frames.ensures.sound in
+    let applies = made_of c.apply-applied.result _ c.in_ok-or_stop.ensures.made c.apply-applied.ensures.applied in
+    let same : length c.make_room.new.journal.items ≡ length c.self.inside.journal.items = ap length c.make_room.ensures.same in
+    changes_whole c.args.self.now (record c.args.self.now { kernel = kernel_by w c.push_reserved.new.self.items c.or_stop.new.stopped }) c.args.pid c.args.regs.now c.args.e c.args.change
+    (flat_kernel c.self.inside.tables c.set_regs.new.self c.self.inside.journal.items c.self.inside.stopped c.args.pid c.args.regs.now c.args.e c.args.change r c.set_regs.ensures
+    c.apply-applied.new.self _ applies (omega (arith, same, c.len.ensures)) c.push_reserved.new.self.items c.or_stop.new.stopped
+    (c.push_reserved.ensures.items ∙ ap (λ (j : List Entry). j ++ c.args.e ∷ []) c.make_room.ensures.same)
+    (c.in_ok-or_stop.ensures.same ∙ c.in_ok-make_room.ensures.ok.0)
+    ∙ ap (λ (s : Standing). change_step (facts_named s.images) s.kernel c.args.pid c.args.regs.now c.args.e c.args.change) c.self.view_is)

@@ -1,0 +1,89 @@
+//! The first processes.
+ghost use Rattle.std.specs.Prelude.{◌≡◌, ◌<◌, true, false, [], ◌∷◌, length, string_bytes, IfOk, OnOk, OnErr, Ok, Err};
+ghost use Rattle.aout_image.specs.Image.{IsSound};
+ghost use Rattle.flat_state.specs.Flat.{start_page, start_regs};
+ghost use Rattle.machine_state.specs.Beginning.{MayStart, StartedFirst, FindsNoPlace, MayLookFirst, LookedFirst, MayEnterFirst, BeganFirst};
+ghost use Rattle.machine_state.specs.Conditions.{HasStopped};
+
+use crate::machine::Machine;
+use crate::named::Named;
+use crate::pieces::{Want, image_wants};
+use crate::tables::Tables;
+use crate::{notes, pieces};
+use flat_model::{Arguments, start_page, start_regs};
+use proc_table::Life;
+use std::alloc::Global;
+use swap_book::Owner;
+use vm_facts::{Bytes, NoMemory, Regs, Stop};
+
+// The registers and the stack page 0 with which an image starts, its name being the one argument.
+fn start_of(alloc: Global, named: &Named) -> Result<(Regs, Bytes), NoMemory>
+    requires sound { IsSound named.now.facts }
+    requires short { length (string_bytes named.now.name) < 64 }
+    ensures regs { IfOk result (λ start. start.0 ≡ start_regs named.now.facts.entry (string_bytes named.now.name ∷ [])) }
+    ensures top { IfOk result (λ start. start.1 ≡ start_page (string_bytes named.now.name ∷ [])) }
+    ensures whole { IfOk result (λ start. length start.1 ≡ 1024) }
+{
+    let name = Vec::from_slice(alloc, named.name.as_bytes())?;
+    let arguments = Arguments::of(alloc, Bytes::from_vec(name))?;
+    let top = start_page(alloc, &arguments)?;
+    Ok((start_regs(named.facts.entry, &arguments), top))
+}
+
+impl Tables {
+    // The pieces of a first process are found, and with them nothing is done yet.
+    fn find_first(&mut self, pid: u32, image: u32) -> Result<bool, NoMemory>
+        requires { MayLookFirst self.old pid image }
+        ensures looked { IfOk result (λ fits. LookedFirst self.old self.new pid image fits) }
+        ensures err { OnErr result (self.new ≡ self.old) }
+    {
+        let facts = self.images[image as usize - 1].facts;
+        let [text, data, stack] = image_wants(&facts, image, self.next_sid);
+        let u = Want {
+            owner: Owner::U(pid),
+            blocks: 2,
+        };
+        if self.texts.sharers(image) > 0 {
+            pieces::find_all(&mut self.book, &[data, stack, u], true)
+        } else {
+            pieces::find_all(&mut self.book, &[text, data, stack, u], true)
+        }
+    }
+
+    // A first process starts, whose pieces were found.
+    fn start_first(&mut self, alloc: Global, image: u32) -> Result<(), NoMemory>
+        requires { MayEnterFirst self.old image }
+        ensures began { OnOk result (BeganFirst self.old self.new image) }
+        ensures params { self.new.params ≡ self.old.params }
+        ensures images { self.new.images ≡ self.old.images }
+    {
+        let (regs, top) = start_of(alloc, &self.images[image as usize - 1])?;
+        let sid = self.enter_image(alloc, image, top)?;
+        self.add_process(0, regs, Life::Holds(sid), 0)
+    }
+}
+
+impl Machine {
+    /// Begins a first process in an image: with its pieces of swap, its space, and its stack page 0, which is due. It
+    /// appends no entry. False comes exactly where the pieces find no place, and then nothing changes.
+    pub fn begin(&mut self, pid: u32, image: u32) -> Result<bool, Stop>
+        requires running { self.old.kernel.stopped ≡ false }
+        requires whole { self.old.before ≡ self.old.kernel.holdings }
+        requires may { MayStart self.old pid image }
+        ensures began { result ≡ Ok true → StartedFirst self.old self.new image }
+        ensures no_place { result ≡ Ok false → FindsNoPlace self.old image }
+        ensures same { result ≡ Ok false → self.new ≡ self.old }
+        ensures stop { OnErr result (HasStopped self.old self.new) }
+        ensures cause { OnErr result (result ≡ Err Stop.NoMemory) }
+    {
+        let _frames = self.tables.core.frames();
+        let found = self.tables.find_first(pid, image);
+        if !notes::or_stop(&mut self.stopped, found)? {
+            return Ok(false);
+        }
+        let started = self.tables.start_first(self.alloc, image);
+        notes::or_stop(&mut self.stopped, started)?;
+        self.tables.found = 0;
+        Ok(true)
+    }
+}
