@@ -1,0 +1,4 @@
+pub mod Units
+pub mod LastMoves
+pub mod Stopping
+pub mod Keeping

@@ -1,0 +1,91 @@
+-- A call that stops at a unit.
+use Rattle.std.proofs.Common.{◌≡◌, ◌⊎◌, ◌↔◌, inl, inr, ℕ, ◌<◌, ◌≤◌, Bool, List, [], ◌∷◌, length, Option, Some, None, Result, Ok, Err, OnErr, IfErr, sym, ap, ◌∙◌, subst, arith}
+use Rattle.std.proofs.lemmas.List.{length-append}
+use Rattle.vm_facts.specs.declared.entry.Entry.{Entry}
+use Rattle.vm_facts.specs.declared.entry.Entry.TheVariants as entries
+use Rattle.vm_facts.specs.declared.params.Params.{Params}
+use Rattle.vm_facts.specs.declared.stop.Stop.{Stop}
+use Rattle.vm_facts.specs.declared.stop.Stop.TheVariants as stops
+use Rattle.flat_state.specs.Journal.{append, IsPlain}
+use Rattle.flat_state.proofs.Joins.{append_plain}
+use Rattle.page_model.specs.Placement.{Transfer}
+use Rattle.kernel_model.specs.Kernel.{Kernel}
+use Rattle.machine_state.specs.Machine.{Standing}
+use Rattle.machine_state.specs.Conditions.{HasStopped}
+use Rattle.machine_state.specs.Done.{ImageAfter, StopsFor, SwapAfter, OldestReads, OldestWrites}
+use Rattle.paging_units.specs.Stops.{CauseBy, SpoilsBy, StopsAt}
+
+-- an entry that is never joined makes the journal longer
+pub plain_longer : (journal : List Entry) (e : Entry) → IsPlain e → length journal < length (append journal e)
+plain_longer journal e p =
+    let same = ap (λ (js : List Entry). length js) (append_plain journal e p) in
+    let l = length-append journal (e ∷ []) in
+    omega arith
+
+err_same : {A : Type 0} (s t : Stop) → (let r : Result A Stop = Err s in r) ≡ Err t → s ≡ t
+err_same s t e = cc
+
+-- a call of the machine that makes this unit and calls no device
+pub call_stops : {A : Type 0} (r : Result A Stop) (e : Entry) (old new : Standing) (i : Option (List ℕ))
+    → ((stop : Stop) → (stop ≡ stops.JournalFull) ⊎ (stop ≡ stops.NoMemory) → CauseBy e stop old.kernel.place.transfers)
+    → ((stop : Stop) → SpoilsBy e stop old.kernel i i)
+    → ((r ≡ Err stops.JournalFull) ↔ ((old.params.journal ≤ length old.kernel.journal) × (length old.kernel.journal < length (append old.kernel.journal e))))
+    → OnErr r (HasStopped old new) → OnErr r ((r ≡ Err stops.JournalFull) ⊎ (r ≡ Err stops.NoMemory))
+    → IfErr r (λ stop. StopsAt e old.kernel i stop new i)
+call_stops (Ok x) e old new i cause image full s c = tt
+call_stops {A} (Err stop) e old new i cause image full s c = record {
+  stopped = s.stopped;
+  journal = s.journal;
+  full = (
+    (λ h. subst (λ (p : Params). (p.journal ≤ length old.kernel.journal) × (length old.kernel.journal < length (append old.kernel.journal e))) (sym s.params)
+        (full.0 (ap (λ (t : Stop). let r : Result A Stop = Err t in r) h))),
+    (λ h. err_same {A = A} stop stops.JournalFull
+        (full.1 (subst (λ (p : Params). (p.journal ≤ length old.kernel.journal) × (length old.kernel.journal < length (append old.kernel.journal e))) s.params h))),
+  );
+  cause = cause stop (elim c [
+    | inl h ↦ inl (err_same {A = A} stop stops.JournalFull h)
+    | inr h ↦ inr (err_same {A = A} stop stops.NoMemory h)
+  ]);
+  image = image stop;
+}
+
+-- for an entry that is never joined, it is enough that the journal is at its bound
+pub plain_full : (e : Entry) (journal : List Entry) (limit : ℕ) (P : Type 0) → IsPlain e → (P ↔ (limit ≤ length journal)) → P ↔ ((limit ≤ length journal) × (length journal < length (append journal e)))
+plain_full e journal limit P p f = ((λ h. (f.0 h, plain_longer journal e p)), (λ h. f.1 h.0))
+
+-- some transfer was in flight
+some_reads : (ts : List Transfer) → OldestReads ts → 0 < length ts
+some_reads [] h = absurd h
+some_reads (t ∷ ts) h = omega arith
+
+some_writes : (ts : List Transfer) → OldestWrites ts → 0 < length ts
+some_writes [] h = absurd h
+some_writes (t ∷ ts) h = omega arith
+
+pub stops_some : (ts : List Transfer) (stop : Stop) → StopsFor (Err stop) ts → 0 < length ts
+stops_some ts stops.NoMemory h = h
+stops_some ts stops.JournalFull h = h
+stops_some ts stops.FileFault h = some_reads ts h
+stops_some ts stops.SwapReadFault h = some_reads ts h
+stops_some ts stops.SwapWriteFault h = some_writes ts h
+
+-- the call that ends the oldest transfer
+pub done_stops : (stop : Stop) (old new : Standing) (i j : Option (List ℕ)) → HasStopped old new → StopsFor (Err stop) old.kernel.place.transfers
+    → (((let r : Result Bool Stop = Err stop in r) ≡ Err stops.JournalFull) ↔ ((0 < length old.kernel.place.transfers) × (old.params.journal ≤ length old.kernel.journal)))
+    → SwapAfter (Err stop) old.kernel i j
+    → StopsAt entries.Done old.kernel i stop new j
+done_stops stop old new i j s c full image = record {
+  stopped = s.stopped;
+  journal = s.journal;
+  full = (
+    (λ h. (subst (λ (p : Params). p.journal ≤ length old.kernel.journal) (sym s.params) (full.0 (ap (λ (t : Stop). let r : Result Bool Stop = Err t in r) h)).1, plain_longer old.kernel.journal entries.Done tt)),
+    (λ h. err_same {A = Bool} stop stops.JournalFull (full.1 (stops_some old.kernel.place.transfers stop c, subst (λ (p : Params). p.journal ≤ length old.kernel.journal) s.params h.0))),
+  );
+  cause = c;
+  image = image;
+}
+
+-- where no transfer is in flight the end of none leaves the image
+pub image_idle : (k : Kernel) (i j : Option (List ℕ)) → k.place.transfers ≡ [] → ImageAfter k i j → j ≡ i
+image_idle k None j e h = h
+image_idle k (Some image) j e h = h ∙ ap (λ (ts : List Transfer). Some (Rattle.kernel_model.specs.Kernel.image_after_of k image ts)) e

@@ -1,0 +1,65 @@
+-- Which kernels units of paging lead to, and what they make of the swap image.
+use Rattle.std.specs.Prelude.{◌≡◌, ℕ, List, [], ◌∷◌, Option}
+use Rattle.vm_facts.specs.declared.page.Page.{Page}
+use Rattle.vm_facts.specs.declared.entry.Entry.{Entry}
+use Rattle.vm_facts.specs.declared.entry.Entry.TheVariants as entries
+use Rattle.kernel_model.specs.Kernel.{Kernel, StartBytes, starts_after, zero_step, copy_step, get_step, reclaim_step, hand_step, push_step}
+use Rattle.machine_state.specs.Machine.{Standing}
+use Rattle.machine_state.specs.Settled.{IsSameBeside}
+use Rattle.machine_state.specs.Done.{IsDone, ImageAfter}
+
+-- one unit; of the others none is a unit of paging
+abbrev pub MadeBy : List Page → Entry → Kernel → Kernel → Type 0
+MadeBy locked (entries.Zero q) k l = l ≡ zero_step k q
+MadeBy locked (entries.Copy q) k l = l ≡ copy_step k q
+MadeBy locked (entries.Get q lo n) k l = l ≡ get_step k q lo n
+MadeBy locked (entries.Reclaim q) k l = l ≡ reclaim_step k q
+MadeBy locked (entries.Hands n) k l = (n ≡ 1) × (l ≡ hand_step k locked)
+MadeBy locked (entries.Put q n) k l = l ≡ push_step k q n
+MadeBy locked entries.Done k l = IsDone k l
+MadeBy locked _ k l = ⊥
+
+-- the swap image, where it is told, before a unit and behind it: the end of a transfer alone may change it
+abbrev pub ImageBy : Entry → Kernel → Option (List ℕ) → Option (List ℕ) → Type 0
+ImageBy entries.Done k i j = ImageAfter k i j
+ImageBy _ k i j = j ≡ i
+
+-- a unit, and then something is so of the kernel and the image behind it
+pub record MadeFirst (locked : List Page) (e : Entry) (k : Kernel) (i : Option (List ℕ)) (Rest : Kernel → Option (List ℕ) → Type 0) : Type 0 where
+  pub next : Kernel
+  pub image : Option (List ℕ)
+  pub made : MadeBy locked e k next
+  pub told : ImageBy e k i image
+  pub rest : Rest next image
+
+-- these units, in order, lead from a kernel with a swap image to another
+abbrev pub Made : List Page → List Entry → Kernel → Option (List ℕ) → Kernel → Option (List ℕ) → Type 0
+Made locked [] k i l j = (k ≡ l) × (i ≡ j)
+Made locked (e ∷ us) k i l j = MadeFirst locked e k i (λ m h. Made locked us m h l j)
+
+-- Of a machine: a call that makes one unit, and one that makes these in order, and leaves its sizes and images.
+pub record MakesUnit (locked : List Page) (e : Entry) (old new : Standing) (i j : Option (List ℕ)) : Type 0 where
+  pub made : MadeBy locked e old.kernel new.kernel
+  pub told : ImageBy e old.kernel i j
+  pub beside : IsSameBeside old new
+
+pub record Makes (locked : List Page) (us : List Entry) (old new : Standing) (i j : Option (List ℕ)) : Type 0 where
+  pub made : Made locked us old.kernel i new.kernel j
+  pub beside : IsSameBeside old new
+
+-- All but the pages, the journal and the bytes of frames is as before.
+pub record SameBeside (k l : Kernel) : Type 0 where
+  pub holdings : l.holdings ≡ k.holdings
+  pub processes : l.processes ≡ k.processes
+  pub next_pid : l.next_pid ≡ k.next_pid
+  pub next_sid : l.next_sid ≡ k.next_sid
+  pub stopped : l.stopped ≡ k.stopped
+
+-- the bytes that are kept for stack pages that are due, behind a unit: a fill with zeros takes its page's
+abbrev pub starts_by : Entry → List StartBytes → List StartBytes
+starts_by (entries.Zero q) ss = starts_after ss q
+starts_by _ ss = ss
+
+abbrev pub starts_behind : List Entry → List StartBytes → List StartBytes
+starts_behind [] ss = ss
+starts_behind (e ∷ us) ss = starts_behind us (starts_by e ss)
