@@ -1,0 +1,172 @@
+-- Forcing a frame, unit by unit.
+use Rattle.std.proofs.Common.{◌≡◌, ℕ, ◌+◌, ◌<◌, ◌≤◌, ◌^◌, false, List, [], ◌∷◌, length, Option, refl, sym, ap, ◌∙◌, subst, arith}
+use Rattle.vm_facts.specs.declared.page.Page.{Page}
+use Rattle.vm_facts.specs.declared.entry.Entry.{Entry}
+use Rattle.vm_facts.specs.declared.stop.Stop.{Stop}
+use Rattle.flat_state.specs.Journal.{append, appended}
+use Rattle.page_model.specs.Placement.{Placement, Transfer, Part, Errand, Writes, Reads}
+use Rattle.page_model.specs.Serve.{force, force_entry, Forces}
+use Rattle.page_model.specs.Rank.{HandsStand, HasRoom, far, far_by, far_parts, far_transfers}
+use Rattle.page_model.specs.Conditions.{Spares}
+use Rattle.page_model.specs.Ownership.{OwnsFrames}
+use Rattle.page_laws.proofs.Ends.Forcing.{far_bound}
+use Rattle.page_laws.proofs.Ends.Serving.{force_falls}
+use Rattle.page_laws.proofs.Ends.Wholes.{force_room}
+use Rattle.page_laws.proofs.Moves.Locks.{spares_both, force_spares}
+use Rattle.page_laws.proofs.Ownership.Serve.{force_owner}
+use Rattle.span_laws.specs.Spans.{moves, moves_of}
+use Rattle.span_laws.proofs.Spanning.{units_added_false}
+use Rattle.span_laws.proofs.Forcing.{Short, forced_short, forced_moves}
+use Rattle.machine_state.specs.Machine.{Standing}
+use Rattle.paging_units.specs.Made.{MakesUnit}
+use Rattle.paging_units.specs.LastMoves.{last_moves}
+use Rattle.paging_units.specs.Stops.{StopsAt}
+use Rattle.paging_units.proofs.Units.{unit_journal, forced_place, made_journal, makes_none, makes_first}
+use Rattle.paging_units.proofs.LastMoves.{last_done, last_more}
+use Rattle.clock_hands.specs.Forced.{Forced, StopsForcing}
+
+pub none_free : (free : List ℕ) → length free ≤ 0 → free ≡ []
+none_free [] l = refl
+none_free (f ∷ free) l = absurd (omega arith)
+
+-- How far a free frame is.
+
+most_parts : (p : Placement) (e : Errand) (xs : List Part) (more : ℕ) → far_parts p e xs more ≤ length p.holds + 4 + more
+most_parts p Writes [] more = omega arith
+most_parts p Writes (x ∷ xs) more = omega arith
+most_parts p (Reads source demanded) xs more = omega arith
+
+most_flying : (p : Placement) (locked : List Page) (free : List ℕ) (t : Transfer) (ts : List Transfer) → p.free ≡ free → p.transfers ≡ t ∷ ts → far p locked ≤ length p.holds + 4 + length ts
+most_flying p locked [] t ts e f =
+    let same : far p locked ≡ far_parts p t.errand t.parts (length ts) = ap (far_by p locked) e ∙ ap (far_transfers p locked) f in
+    let most = most_parts p t.errand t.parts (length ts) in
+    omega arith
+most_flying p locked (x ∷ xs) t ts e f = let same : far p locked ≡ 0 = ap (far_by p locked) e in omega arith
+
+pub far_most : (p : Placement) (locked : List Page) → OwnsFrames p → HandsStand p → HasRoom p locked → length p.transfers ≤ 16 → far p locked ≤ length p.holds + 20
+far_most p locked o h r l = go p.transfers refl
+  where
+    go : (ts : List Transfer) → p.transfers ≡ ts → far p locked ≤ length p.holds + 20
+    go [] e = let most = far_bound p locked o h r e in omega arith
+    go (t ∷ ts) e =
+        let most = most_flying p locked p.free t ts refl e in
+        let few : length (t ∷ ts) ≤ 16 = subst (λ (us : List Transfer). length us ≤ 16) e l in
+        omega arith
+
+-- The moves that the last entry counts.
+
+append_last : (journal : List Entry) (ts : List Transfer) → last_moves (append journal (force_entry ts)) ≤ last_moves journal + moves (force_entry ts)
+append_last journal [] = last_more journal
+append_last journal (t ∷ ts) = let e = last_done journal in omega arith
+
+one_move : (ts : List Transfer) → moves (force_entry ts) ≤ 1
+one_move [] = omega arith
+one_move (t ∷ ts) = omega arith
+
+pub units_last : (locked : List Page) (us : List Entry) (p r : Placement) (journal : List Entry) → Forces us p locked r → last_moves (appended journal us) ≤ last_moves journal + moves_of us
+units_last locked [] p r journal f = omega arith
+units_last locked (e ∷ us) p r journal f =
+    let rest = units_last locked us (force p locked) r (append journal e) f.2 in
+    let first : last_moves (append journal e) ≤ last_moves journal + moves e =
+    subst (λ (u : Entry). last_moves (append journal u) ≤ last_moves journal + moves u) (sym f.1) (append_last journal p.transfers) in
+    omega arith
+
+-- One unit, and then the others.
+
+pub falls_on : (locked : List Page) (old next : Standing) (i h : Option (List ℕ)) → OwnsFrames old.kernel.place → HandsStand old.kernel.place → HasRoom old.kernel.place locked → old.kernel.place.free ≡ []
+    → MakesUnit locked (force_entry old.kernel.place.transfers) old next i h → far next.kernel.place locked < far old.kernel.place locked
+falls_on locked old next i h o s r n m =
+    subst (λ (p : Placement). far p locked < far old.kernel.place locked) (sym (forced_place locked old.kernel next.kernel m.made)) (force_falls old.kernel.place locked o s r n)
+
+pub room_on : (locked : List Page) (old next : Standing) (i h : Option (List ℕ)) → OwnsFrames old.kernel.place → HasRoom old.kernel.place locked
+    → MakesUnit locked (force_entry old.kernel.place.transfers) old next i h → HasRoom next.kernel.place locked
+room_on locked old next i h o r m =
+    subst (λ (p : Placement). HasRoom p locked) (sym (forced_place locked old.kernel next.kernel m.made)) (force_room old.kernel.place locked o r)
+
+pub fits_on : (locked : List Page) (old next : Standing) (i h : Option (List ℕ)) → far next.kernel.place locked < far old.kernel.place locked
+    → MakesUnit locked (force_entry old.kernel.place.transfers) old next i h
+    → last_moves old.kernel.journal + far old.kernel.place locked < 2 ^ 32 → last_moves next.kernel.journal + far next.kernel.place locked < 2 ^ 32
+fits_on locked old next i h f m l =
+    let more : last_moves next.kernel.journal ≤ last_moves old.kernel.journal + moves (force_entry old.kernel.place.transfers) =
+    subst (λ (j : List Entry). last_moves j ≤ last_moves old.kernel.journal + moves (force_entry old.kernel.place.transfers))
+    (sym (unit_journal locked (force_entry old.kernel.place.transfers) old.kernel next.kernel m.made)) (append_last old.kernel.journal old.kernel.place.transfers) in
+    let one = one_move old.kernel.place.transfers in
+    omega arith
+
+pub forced_none : (locked : List Page) (s : Standing) (i : Option (List ℕ)) → 0 < length s.kernel.place.free → Forced locked s s i i
+forced_none locked s i l = record { units = []; forces = refl; makes = makes_none locked s s i i refl refl; free = l; moves = omega arith }
+
+pub forced_first : (locked : List Page) (old next new : Standing) (i h j : Option (List ℕ)) → OwnsFrames old.kernel.place → HandsStand old.kernel.place → HasRoom old.kernel.place locked → old.kernel.place.free ≡ []
+    → MakesUnit locked (force_entry old.kernel.place.transfers) old next i h → Forced locked next new h j → Forced locked old new i j
+forced_first locked old next new i h j o s r n m f =
+    let forces : Forces (force_entry old.kernel.place.transfers ∷ f.units) old.kernel.place locked new.kernel.place =
+    (n, refl, subst (λ (p : Placement). Forces f.units p locked new.kernel.place) (forced_place locked old.kernel next.kernel m.made) f.forces) in
+    record {
+      units = force_entry old.kernel.place.transfers ∷ f.units;
+      forces = forces;
+      makes = makes_first locked (force_entry old.kernel.place.transfers) f.units old next new i h j m f.makes;
+      free = f.free;
+      moves = forced_moves (force_entry old.kernel.place.transfers ∷ f.units) old.kernel.place new.kernel.place locked o s r forces;
+    }
+
+pub stops_here : (locked : List Page) (old : Standing) (stop : Stop) (new : Standing) (i j : Option (List ℕ)) → old.kernel.place.free ≡ [] → new.params ≡ old.params → new.images ≡ old.images
+    → StopsAt (force_entry old.kernel.place.transfers) old.kernel i stop new j → StopsForcing locked old stop new i j
+stops_here locked old stop new i j n a b s =
+    record { units = []; at = old.kernel; image = i; forces = refl; made = (refl, refl); none = n; stops = s; params = a; images = b }
+
+pub stops_first : (locked : List Page) (old next : Standing) (stop : Stop) (new : Standing) (i h j : Option (List ℕ)) → old.kernel.place.free ≡ []
+    → MakesUnit locked (force_entry old.kernel.place.transfers) old next i h → StopsForcing locked next stop new h j → StopsForcing locked old stop new i j
+stops_first locked old next stop new i h j n m f = record {
+  units = force_entry old.kernel.place.transfers ∷ f.units;
+  at = f.at;
+  image = f.image;
+  forces = (n, refl, subst (λ (p : Placement). Forces f.units p locked f.at.place) (forced_place locked old.kernel next.kernel m.made) f.forces);
+  made = record { next = next.kernel; image = h; made = m.made; told = m.told; rest = f.made };
+  none = f.none;
+  stops = f.stops;
+  params = f.params ∙ m.beside.params;
+  images = f.images ∙ m.beside.images;
+}
+
+-- The whole.
+
+few_units : (p r : Placement) (locked : List Page) (journal us : List Entry) → OwnsFrames p → Forces us p locked r → length (appended journal us) + length r.transfers ≤ length journal + length p.transfers + 2
+few_units p r locked journal us o f =
+    let k : Short false us r (length p.transfers + 2) (length p.transfers) (length us) = forced_short false us p r locked o f in
+    let a = k.few in
+    let b = units_added_false journal us in
+    omega arith
+
+pub forced_few : (locked : List Page) (old new : Standing) (i j : Option (List ℕ)) → OwnsFrames old.kernel.place → Forced locked old new i j
+    → length new.kernel.journal + length new.kernel.place.transfers ≤ length old.kernel.journal + length old.kernel.place.transfers + 2
+forced_few locked old new i j o f =
+    let few = few_units old.kernel.place new.kernel.place locked old.kernel.journal f.units o f.forces in
+    let same = ap (λ (js : List Entry). length js) (made_journal locked f.units old.kernel new.kernel i j f.makes.made) in
+    omega arith
+
+pub stopped_few : (locked : List Page) (old : Standing) (stop : Stop) (new : Standing) (i j : Option (List ℕ)) → OwnsFrames old.kernel.place → StopsForcing locked old stop new i j
+    → length new.kernel.journal ≤ length old.kernel.journal + length old.kernel.place.transfers + 2
+stopped_few locked old stop new i j o f =
+    let few = few_units old.kernel.place f.at.place locked old.kernel.journal f.units o f.forces in
+    let same = ap (λ (js : List Entry). length js) (f.stops.journal ∙ made_journal locked f.units old.kernel f.at i f.image f.made) in
+    omega arith
+
+pub forced_flights : (locked : List Page) (old new : Standing) (i j : Option (List ℕ)) → OwnsFrames old.kernel.place → Forced locked old new i j → length new.kernel.place.transfers ≤ length old.kernel.place.transfers
+forced_flights locked old new i j o f =
+    let p = old.kernel.place in
+    let k : Short false f.units new.kernel.place (length p.transfers + 2) (length p.transfers) (length f.units) = forced_short false f.units p new.kernel.place locked o f.forces in
+    k.rest f.free
+
+pub forced_last : (locked : List Page) (old new : Standing) (i j : Option (List ℕ)) → Forced locked old new i j → last_moves new.kernel.journal ≤ last_moves old.kernel.journal + length old.kernel.place.holds
+forced_last locked old new i j f =
+    let more = units_last locked f.units old.kernel.place new.kernel.place old.kernel.journal f.forces in
+    let same = ap last_moves (made_journal locked f.units old.kernel new.kernel i j f.makes.made) in
+    let most = f.moves in
+    omega arith
+
+units_spare : (us : List Entry) (p r : Placement) (locked : List Page) → OwnsFrames p → Forces us p locked r → Spares p r locked
+units_spare [] p r locked o f = subst (λ (x : Placement). Spares p x locked) f (λ w a v. v)
+units_spare (e ∷ us) p r locked o f = spares_both p (force p locked) r locked (force_spares p locked o) (units_spare us (force p locked) r locked (force_owner p locked o) f.2)
+
+pub forced_spares : (locked : List Page) (old new : Standing) (i j : Option (List ℕ)) → OwnsFrames old.kernel.place → Forced locked old new i j → Spares old.kernel.place new.kernel.place locked
+forced_spares locked old new i j o f = units_spare f.units old.kernel.place new.kernel.place locked o f.forces

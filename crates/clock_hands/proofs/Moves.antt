@@ -1,0 +1,202 @@
+-- The unit that the policy names for a move of the hands.
+use Rattle.std.proofs.Common.{◌≡◌, ◌⊎◌, inl, inr, ℕ, zero, suc, ◌+◌, ◌-◌, ◌^◌, ◌<◌, ◌≤◌, ◌&&◌, nat_le, Bool, true, false, is_some, List, [], ◌∷◌, length, Option, Some, None, refl, sym, ap, ◌∙◌, subst, arith}
+use Rattle.std.proofs.lemmas.Bool.Decides.{nat_tests}
+use Rattle.vm_facts.specs.declared.page.Page.{Page}
+use Rattle.vm_facts.specs.declared.page.PageState.{PageState}
+use Rattle.vm_facts.specs.declared.page.PageState.TheVariants.{Unfilled, Valid, Invalid, Coming, Going, OnSwap}
+use Rattle.vm_facts.specs.declared.entry.Entry.{Entry}
+use Rattle.vm_facts.specs.declared.entry.Entry.TheVariants as entries
+use Rattle.vm_facts.specs.declared.stop.Stop.{Stop}
+use Rattle.vm_facts.specs.Lists.{times}
+use Rattle.flat_state.specs.Journal.{append}
+use Rattle.flat_state.specs.PageNames.{is_among}
+use Rattle.page_model.specs.Placement.{Placement, Transfer, state_of, page_of, is_dirty}
+use Rattle.page_model.specs.Runs.{Run, run_out}
+use Rattle.page_model.specs.Moves.{done}
+use Rattle.page_model.specs.Hands.{expire, write_by, write_to, write_of, hand_run, wants_moves}
+use Rattle.page_model.specs.Place.{place_entry}
+use Rattle.page_model.specs.Serve.{is_full}
+use Rattle.page_laws.proofs.Moves.Transfers.{entry_count}
+use Rattle.span_laws.specs.Spans.{moves}
+use Rattle.span_laws.proofs.Serving.{done_less}
+use Rattle.kernel_model.specs.Kernel.{hand_step}
+use Rattle.machine_state.specs.Calls.{IsRunOf}
+use Rattle.machine_state.specs.Machine.{Standing}
+use Rattle.run_model.specs.Next.{move_by, move_unit}
+use Rattle.machine_state.specs.Done.{IsDone}
+use Rattle.paging_units.specs.Made.{MadeBy, MakesUnit}
+use Rattle.paging_units.specs.LastMoves.{last_moves}
+use Rattle.paging_units.specs.Stops.{StopsAt}
+use Rattle.paging_units.proofs.Units.{unit_place, unit_journal, makes_first}
+use Rattle.paging_units.proofs.LastMoves.{last_done, last_more}
+use Rattle.clock_hands.specs.Moved.{Moves, IsMoveOf, Moved, StopsMoving}
+
+-- a write that a move begins has a page
+
+run_some : (p : Placement) (locked : List Page) (q : Page) → 0 < (run_out p locked q).n
+run_some p locked q = omega arith
+
+by_some : (p : Placement) (locked : List Page) (v : Page) (w : Page × Run) (d : Bool) → write_by p locked v d ≡ Some w → 0 < w.1.n
+by_some p locked v w true e =
+    let same : (v, run_out p locked v) ≡ w = cc in
+    subst (λ (x : Page × Run). 0 < x.1.n) same (run_some p locked v)
+by_some p locked v w false e = absurd cc
+
+to_some : (p : Placement) (locked : List Page) (v : Page) (w : Page × Run) (s : PageState) (n : ℕ) (b : Bool) → write_to p locked v s n b ≡ Some w → 0 < w.1.n
+to_some p locked v w (Invalid f) zero false e = by_some p locked v w (is_dirty p v) e
+to_some p locked v w (Invalid f) zero true e = absurd cc
+to_some p locked v w (Invalid f) (suc n) b e = absurd cc
+to_some p locked v w Unfilled n b e = absurd cc
+to_some p locked v w (Valid f) n b e = absurd cc
+to_some p locked v w (Coming f) n b e = absurd cc
+to_some p locked v w (Going f) n b e = absurd cc
+to_some p locked v w OnSwap n b e = absurd cc
+
+of_some : (p : Placement) (locked : List Page) (f : ℕ) (w : Page × Run) (o : Option Page) → write_of p locked f o ≡ Some w → 0 < w.1.n
+of_some p locked f w None e = absurd cc
+of_some p locked f w (Some v) e = to_some p locked v w (state_of p v) (times f p.free) (is_among v locked) e
+
+hand_some : (p : Placement) (locked : List Page) (w : Page × Run) → hand_run p locked ≡ Some w → 0 < w.1.n
+hand_some p locked w e = of_some (expire p locked) locked (expire p locked).back w (page_of (expire p locked) (expire p locked).back) e
+
+-- the hands move where no write begins, or where there is room for it
+
+not_full : (n : ℕ) → n < 16 → nat_le 16 n ≡ false
+not_full n l = grind (arith, nat_tests)
+
+pub moves_now : (p : Placement) (lo n : ℕ) → IsRunOf (hand_run p []) lo n → (n ≡ 0) ⊎ (length p.transfers < 16) → move_unit p [] ≡ entries.Hands 1
+moves_now p lo n r o = go (hand_run p []) refl r
+  where
+    go : (h : Option (Page × Run)) → hand_run p [] ≡ h → IsRunOf h lo n → move_unit p [] ≡ entries.Hands 1
+    go None e x = ap (λ (h : Option (Page × Run)). move_by (is_some h && is_full p)) e
+    go (Some w) e x = elim o [
+      | inl z ↦ absurd (let some = hand_some p [] w e in let same = x.1 in omega arith)
+      | inr l ↦ ap (λ (h : Option (Page × Run)). move_by (is_some h && is_full p)) e ∙ ap move_by (not_full (length p.transfers) l)
+    ]
+
+-- the call that makes a move
+pub hand_makes : (locked : List Page) (e : Entry) (old new : Standing) (i : Option (List ℕ)) → e ≡ entries.Hands 1 → new.kernel ≡ hand_step old.kernel locked → new ≡ record old { kernel = new.kernel; room = None }
+    → MakesUnit locked e old new i i
+hand_makes locked e old new i h k r = subst (λ (u : Entry). MakesUnit locked u old new i i) (sym h) (record {
+  made = (refl, k);
+  told = refl;
+  beside = record { params = ap (λ (s : Standing). s.params) r; images = ap (λ (s : Standing). s.images) r; before = ap (λ (s : Standing). s.before) r };
+})
+
+-- Units of moving, one by one.
+
+at_any : (p : Placement) (e : Entry) (at : ℕ) (moved : Bool) → IsMoveOf e moved → place_entry [] at p e ≡ place_entry [] 0 p e
+at_any p e at true h = ap (place_entry [] at p) h ∙ sym (ap (place_entry [] 0 p) h)
+at_any p e at false h = ap (place_entry [] at p) h ∙ sym (ap (place_entry [] 0 p) h)
+
+moved_place : (e : Entry) (moved : Bool) (old next : Standing) (i h : Option (List ℕ)) → IsMoveOf e moved → MakesUnit [] e old next i h → next.kernel.place ≡ place_entry [] 0 old.kernel.place e
+moved_place e moved old next i h k m =
+    unit_place [] e old.kernel next.kernel m.made ∙ at_any old.kernel.place e (length (append old.kernel.journal e)) moved k
+
+moves_first : (e : Entry) (moved : Bool) (n left : ℕ) (us : List Entry) (old next : Standing) (r : Placement) (i h : Option (List ℕ)) → IsMoveOf e moved → e ≡ move_unit old.kernel.place [] → n - moves e ≡ left
+    → 0 < n → wants_moves old.kernel.place ≡ true → MakesUnit [] e old next i h → Moves us left next.kernel.place r → Moves (e ∷ us) n old.kernel.place r
+moves_first e moved n left us old next r i h k u l s w m f =
+    (s, w, u, subst (λ (a : ℕ). Moves us a (place_entry [] 0 old.kernel.place e) r) (sym l) (subst (λ (p : Placement). Moves us left p r) (moved_place e moved old next i h k m) f))
+
+module _ (n : ℕ) (old next new : Standing) (i h j : Option (List ℕ)) (some : 0 < n) (wants : wants_moves old.kernel.place ≡ true) (m : MakesUnit [] (move_unit old.kernel.place []) old next i h) where
+  abbrev e : Entry
+  e = move_unit old.kernel.place []
+
+  one : e ≡ entries.Hands 1 → moves e ≡ 1
+  one k = ap moves k
+
+  none : e ≡ entries.Done → moves e ≡ 0
+  none k = ap moves k
+
+  less : e ≡ entries.Hands 1 → n - moves e ≡ n - 1
+  less k = ap (λ (a : ℕ). n - a) (one k)
+
+  same : e ≡ entries.Done → n - moves e ≡ n
+  same k = let z = none k in omega arith
+
+  pub moved_by_move : (made : ℕ) → IsMoveOf (move_unit old.kernel.place []) true → Moved (n - 1) next new made h j → Moved n old new (1 + made) i j
+  moved_by_move made k f = record {
+    units = move_unit old.kernel.place [] ∷ f.units;
+    moves = moves_first e true n (n - 1) f.units old next new.kernel.place i h k refl (less k) some wants m f.moves;
+    makes = makes_first [] e f.units old next new i h j m f.makes;
+    counted = (let a = one k in let b = f.counted in omega arith);
+    most = (let a = f.most in omega arith);
+    fewer = λ l. f.fewer (omega arith);
+  }
+
+  pub moved_by_done : (made : ℕ) → IsMoveOf (move_unit old.kernel.place []) false → Moved n next new made h j → Moved n old new made i j
+  moved_by_done made k f = record {
+    units = move_unit old.kernel.place [] ∷ f.units;
+    moves = moves_first e false n n f.units old next new.kernel.place i h k refl (same k) some wants m f.moves;
+    makes = makes_first [] e f.units old next new i h j m f.makes;
+    counted = (let a = none k in let b = f.counted in omega arith);
+    most = f.most;
+    fewer = f.fewer;
+  }
+
+  pub stops_by_move : (stop : Stop) → IsMoveOf (move_unit old.kernel.place []) true → StopsMoving (n - 1) next stop new h j → StopsMoving n old stop new i j
+  stops_by_move stop k f = record {
+    units = move_unit old.kernel.place [] ∷ f.units;
+    at = f.at;
+    image = f.image;
+    moves = moves_first e true n (n - 1) f.units old next f.at.place i h k refl (less k) some wants m f.moves;
+    made = record { next = next.kernel; image = h; made = m.made; told = m.told; rest = f.made };
+    left = (let a = one k in let b = f.left in omega arith);
+    wants = f.wants;
+    stops = f.stops;
+    params = f.params ∙ m.beside.params;
+    images = f.images ∙ m.beside.images;
+  }
+
+  pub stops_by_done : (stop : Stop) → IsMoveOf (move_unit old.kernel.place []) false → StopsMoving n next stop new h j → StopsMoving n old stop new i j
+  stops_by_done stop k f = record {
+    units = move_unit old.kernel.place [] ∷ f.units;
+    at = f.at;
+    image = f.image;
+    moves = moves_first e false n n f.units old next f.at.place i h k refl (same k) some wants m f.moves;
+    made = record { next = next.kernel; image = h; made = m.made; told = m.told; rest = f.made };
+    left = (let a = none k in let b = f.left in omega arith);
+    wants = f.wants;
+    stops = f.stops;
+    params = f.params ∙ m.beside.params;
+    images = f.images ∙ m.beside.images;
+  }
+
+pub stops_moving : (n : ℕ) (old : Standing) (stop : Stop) (new : Standing) (i j : Option (List ℕ)) → 0 < n → wants_moves old.kernel.place ≡ true → new.params ≡ old.params → new.images ≡ old.images
+    → StopsAt (move_unit old.kernel.place []) old.kernel i stop new j → StopsMoving n old stop new i j
+stops_moving n old stop new i j l w a b s =
+    record { units = []; at = old.kernel; image = i; moves = refl; made = (refl, refl); left = l; wants = w; stops = s; params = a; images = b }
+
+-- What a unit leaves for the next.
+
+pub move_flies : (old next : Standing) (i h : Option (List ℕ)) → IsMoveOf (move_unit old.kernel.place []) true → MakesUnit [] (move_unit old.kernel.place []) old next i h
+    → length next.kernel.place.transfers ≤ length old.kernel.place.transfers + 1
+move_flies old next i h k m =
+    let place : next.kernel.place ≡ place_entry [] 0 old.kernel.place (entries.Hands 1) = moved_place (move_unit old.kernel.place []) true old next i h k m ∙ ap (place_entry [] 0 old.kernel.place) k in
+    let e = ap (λ (p : Placement). length p.transfers) place in
+    let l = entry_count [] 0 old.kernel.place (entries.Hands 1) in
+    omega arith
+
+pub done_flies : (old next : Standing) (i h : Option (List ℕ)) → IsMoveOf (move_unit old.kernel.place []) false → MakesUnit [] (move_unit old.kernel.place []) old next i h
+    → length next.kernel.place.transfers < length old.kernel.place.transfers
+done_flies old next i h k m =
+    let place : next.kernel.place ≡ done old.kernel.place = moved_place (move_unit old.kernel.place []) false old next i h k m ∙ ap (place_entry [] 0 old.kernel.place) k in
+    let e = ap (λ (p : Placement). length p.transfers) place in
+    let d : IsDone old.kernel next.kernel = subst (λ (u : Entry). MadeBy [] u old.kernel next.kernel) k m.made in
+    let some = d.some in
+    let l = done_less old.kernel.place (λ z. absurd (let n = ap (λ (ts : List Transfer). length ts) z in omega arith)) in
+    omega arith
+
+pub move_last : (n : ℕ) (old next : Standing) (i h : Option (List ℕ)) → 0 < n → IsMoveOf (move_unit old.kernel.place []) true → MakesUnit [] (move_unit old.kernel.place []) old next i h
+    → last_moves old.kernel.journal + n < 2 ^ 32 → last_moves next.kernel.journal + (n - 1) < 2 ^ 32
+move_last n old next i h s k m l =
+    let e = ap last_moves (unit_journal [] (move_unit old.kernel.place []) old.kernel next.kernel m.made ∙ ap (append old.kernel.journal) k) in
+    let more = last_more old.kernel.journal in
+    omega arith
+
+pub done_last : (n : ℕ) (old next : Standing) (i h : Option (List ℕ)) → IsMoveOf (move_unit old.kernel.place []) false → MakesUnit [] (move_unit old.kernel.place []) old next i h
+    → last_moves old.kernel.journal + n < 2 ^ 32 → last_moves next.kernel.journal + n < 2 ^ 32
+done_last n old next i h k m l =
+    let e = ap last_moves (unit_journal [] (move_unit old.kernel.place []) old.kernel next.kernel m.made ∙ ap (append old.kernel.journal) k) in
+    let none = last_done old.kernel.journal in
+    omega arith

@@ -1,0 +1,120 @@
+//! A frame is forced.
+ghost use Rattle.std.specs.Prelude.{◌≡◌, ◌<◌, ◌≤◌, ◌+◌, ◌^◌, false, [], length, OnOk, OnErr, IfErr};
+ghost use Rattle.page_model.specs.Serve.{force_entry};
+ghost use Rattle.page_model.specs.Rank.{HasRoom, far};
+ghost use Rattle.page_model.specs.Conditions.{Spares};
+ghost use Rattle.machine_state.specs.Files.{AreFiles};
+ghost use Rattle.machine_state.specs.Done.{KeepsThrough, CountsPages, CountsReads, CountsWrites};
+ghost use Rattle.paging_units.specs.Made.{MakesUnit};
+ghost use Rattle.paging_units.specs.LastMoves.{last_moves};
+ghost use Rattle.paging_units.specs.Stops.{StopsAt};
+ghost use Rattle.clock_hands.specs.Forced.{Forced, StopsForcing};
+
+use crate::looking::next_write;
+use io_edge::{Files, SwapDev};
+use machine_state::Machine;
+use vm_facts::{Page, Stop};
+
+// One unit of forcing: the oldest transfer completes where one is in flight, and else the hands move, which pass over the
+// locked pages.
+fn force_once<F: Files, D: SwapDev>(
+    m: &mut Machine,
+    files: &mut F,
+    swap: &mut D,
+    locked: &[Page],
+) -> Result<(), Stop>
+    requires running { m.old.kernel.stopped ≡ false }
+    requires whole { m.old.before ≡ m.old.kernel.holdings }
+    requires area { m.old.params.swap_blocks ≤ D.blocks swap.old }
+    requires files { AreFiles m.old.images (F.holds files.old) }
+    requires none { m.old.kernel.place.free ≡ [] }
+    requires room { HasRoom m.old.kernel.place locked.now }
+    requires fits { last_moves m.old.kernel.journal + 1 < 2 ^ 32 }
+    ensures made { OnOk result (MakesUnit locked.now (force_entry m.old.kernel.place.transfers) m.old m.new (D.image swap.old) (D.image swap.new)) }
+    ensures keeps { OnOk result (KeepsThrough m.old m.new (F.holds files.old) (D.image swap.old) (D.image swap.new)) }
+    ensures stopped { IfErr result (λ stop. StopsAt (force_entry m.old.kernel.place.transfers) m.old.kernel (D.image swap.old) stop m.new (D.image swap.new)) }
+    ensures params { m.new.params ≡ m.old.params }
+    ensures images { m.new.images ≡ m.old.images }
+    ensures files_lead { F.leads files.old files.new }
+    ensures swap_leads { D.leads swap.old swap.new }
+    ensures holds { F.holds files.new ≡ F.holds files.old }
+    ensures blocks { D.blocks swap.new ≡ D.blocks swap.old }
+    ensures open_faults { F.open_faults files.new ≡ F.open_faults files.old }
+    ensures page_faults { CountsPages result (F.page_faults files.old) (F.page_faults files.new) }
+    ensures read_faults { CountsReads result (D.read_faults swap.old) (D.read_faults swap.new) }
+    ensures write_faults { CountsWrites result (D.write_faults swap.old) (D.write_faults swap.new) }
+{
+    if m.done(files, swap)? {
+        return Ok(());
+    }
+    let (lo, n) = next_write(m, locked);
+    m.hand(locked, lo, n)
+}
+
+// Units of forcing, until a frame is free.
+fn force_frame<F: Files, D: SwapDev>(
+    m: &mut Machine,
+    files: &mut F,
+    swap: &mut D,
+    locked: &[Page],
+) -> Result<(), Stop>
+    requires running { m.old.kernel.stopped ≡ false }
+    requires whole { m.old.before ≡ m.old.kernel.holdings }
+    requires area { m.old.params.swap_blocks ≤ D.blocks swap.old }
+    requires files { AreFiles m.old.images (F.holds files.old) }
+    requires room { HasRoom m.old.kernel.place locked.now }
+    requires fits { last_moves m.old.kernel.journal + far m.old.kernel.place locked.now < 2 ^ 32 }
+    ensures forced { OnOk result (Forced locked.now m.old m.new (D.image swap.old) (D.image swap.new)) }
+    ensures keeps { OnOk result (KeepsThrough m.old m.new (F.holds files.old) (D.image swap.old) (D.image swap.new)) }
+    ensures stopped { IfErr result (λ stop. StopsForcing locked.now m.old stop m.new (D.image swap.old) (D.image swap.new)) }
+    ensures files_lead { F.leads files.old files.new }
+    ensures swap_leads { D.leads swap.old swap.new }
+    ensures holds { F.holds files.new ≡ F.holds files.old }
+    ensures blocks { D.blocks swap.new ≡ D.blocks swap.old }
+    ensures open_faults { F.open_faults files.new ≡ F.open_faults files.old }
+    ensures page_faults { CountsPages result (F.page_faults files.old) (F.page_faults files.new) }
+    ensures read_faults { CountsReads result (D.read_faults swap.old) (D.read_faults swap.new) }
+    ensures write_faults { CountsWrites result (D.write_faults swap.old) (D.write_faults swap.new) }
+{
+    m.sound();
+    if m.free_frames() > 0 {
+        return Ok(());
+    }
+    force_once(m, files, swap, locked)?;
+    force_frame(m, files, swap, locked)
+}
+
+/// Forces a frame, unless one is free: transfers complete while some are in flight, and else the hands move, which pass
+/// over the locked pages. Afterwards a frame is free.
+pub fn make_room<F: Files, D: SwapDev>(
+    m: &mut Machine,
+    files: &mut F,
+    swap: &mut D,
+    locked: &[Page],
+) -> Result<(), Stop>
+    requires running { m.old.kernel.stopped ≡ false }
+    requires whole { m.old.before ≡ m.old.kernel.holdings }
+    requires area { m.old.params.swap_blocks ≤ D.blocks swap.old }
+    requires files { AreFiles m.old.images (F.holds files.old) }
+    requires room { HasRoom m.old.kernel.place locked.now }
+    requires low { last_moves m.old.kernel.journal ≤ 1000000 }
+    ensures forced { OnOk result (Forced locked.now m.old m.new (D.image swap.old) (D.image swap.new)) }
+    ensures keeps { OnOk result (KeepsThrough m.old m.new (F.holds files.old) (D.image swap.old) (D.image swap.new)) }
+    ensures stopped { IfErr result (λ stop. StopsForcing locked.now m.old stop m.new (D.image swap.old) (D.image swap.new)) }
+    ensures few { OnOk result (length m.new.kernel.journal + length m.new.kernel.place.transfers ≤ length m.old.kernel.journal + length m.old.kernel.place.transfers + 2) }
+    ensures few_at_stop { OnErr result (length m.new.kernel.journal ≤ length m.old.kernel.journal + length m.old.kernel.place.transfers + 2) }
+    ensures flights { OnOk result (length m.new.kernel.place.transfers ≤ length m.old.kernel.place.transfers) }
+    ensures counted { OnOk result (last_moves m.new.kernel.journal ≤ last_moves m.old.kernel.journal + length m.old.kernel.place.holds) }
+    ensures spares { OnOk result (Spares m.old.kernel.place m.new.kernel.place locked.now) }
+    ensures files_lead { F.leads files.old files.new }
+    ensures swap_leads { D.leads swap.old swap.new }
+    ensures holds { F.holds files.new ≡ F.holds files.old }
+    ensures blocks { D.blocks swap.new ≡ D.blocks swap.old }
+    ensures open_faults { F.open_faults files.new ≡ F.open_faults files.old }
+    ensures page_faults { CountsPages result (F.page_faults files.old) (F.page_faults files.new) }
+    ensures read_faults { CountsReads result (D.read_faults swap.old) (D.read_faults swap.new) }
+    ensures write_faults { CountsWrites result (D.write_faults swap.old) (D.write_faults swap.new) }
+{
+    m.sound();
+    force_frame(m, files, swap, locked)
+}

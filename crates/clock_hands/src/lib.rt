@@ -1,0 +1,16 @@
+//! The clock with two hands: pages that weren't used between the hands lose their frames (the 4.3BSD book).
+//!
+//! - looking.rt: the pages at which the hands stand, and the write that the next move begins.
+//! - forcing.rt: a frame is forced.
+//! - moving.rt: the hands move as a line of the schedule asks.
+//! - laws.rt: the units of moving are those of the policy.
+#![tactic(auto)]
+
+mod forcing;
+mod laws;
+mod looking;
+mod moving;
+
+pub use forcing::make_room;
+pub use laws::moves_are_asked;
+pub use moving::move_hands;

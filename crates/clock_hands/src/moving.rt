@@ -1,0 +1,100 @@
+//! The hands move as a line of the schedule asks.
+ghost use Rattle.std.specs.Prelude.{◌≡◌, ◌<◌, ◌≤◌, ◌+◌, ◌/◌, ◌^◌, true, false, [], length, IfOk, OnOk, IfErr};
+ghost use Rattle.page_model.specs.Hands.{wants_moves};
+ghost use Rattle.page_model.specs.Rank.{HasRoom};
+ghost use Rattle.machine_state.specs.Files.{AreFiles};
+ghost use Rattle.machine_state.specs.Done.{KeepsThrough, CountsPages, CountsReads, CountsWrites};
+ghost use Rattle.run_model.specs.Next.{move_unit};
+ghost use Rattle.paging_units.specs.Made.{MakesUnit};
+ghost use Rattle.paging_units.specs.LastMoves.{last_moves};
+ghost use Rattle.paging_units.specs.Stops.{StopsAt};
+ghost use Rattle.clock_hands.specs.Moved.{Moved, StopsMoving, IsMoveOf};
+
+use crate::looking::next_write;
+use io_edge::{Files, SwapDev};
+use machine_state::Machine;
+use vm_facts::Stop;
+
+/// The transfers that may be in flight.
+const MOST_IN_FLIGHT: u32 = 16;
+
+// Whether fewer than a quarter of the frames are free.
+fn wants_moves(m: &Machine) -> bool
+    requires { m.now.kernel.stopped ≡ false }
+    ensures { result ≡ wants_moves m.now.kernel.place }
+{
+    m.free_frames() < m.core().frames() / 4
+}
+
+// One unit of moving: a move of the hands; or, where that would begin a write and 16 transfers are in flight, the end of the
+// oldest transfer. Answers whether the hands moved.
+fn move_once<F: Files, D: SwapDev>(
+    m: &mut Machine,
+    files: &mut F,
+    swap: &mut D,
+) -> Result<bool, Stop>
+    requires running { m.old.kernel.stopped ≡ false }
+    requires whole { m.old.before ≡ m.old.kernel.holdings }
+    requires area { m.old.params.swap_blocks ≤ D.blocks swap.old }
+    requires files { AreFiles m.old.images (F.holds files.old) }
+    requires wants { wants_moves m.old.kernel.place ≡ true }
+    requires fits { last_moves m.old.kernel.journal + 1 < 2 ^ 32 }
+    ensures made { OnOk result (MakesUnit [] (move_unit m.old.kernel.place []) m.old m.new (D.image swap.old) (D.image swap.new)) }
+    ensures moved { IfOk result (λ moved. IsMoveOf (move_unit m.old.kernel.place []) moved) }
+    ensures keeps { OnOk result (KeepsThrough m.old m.new (F.holds files.old) (D.image swap.old) (D.image swap.new)) }
+    ensures stopped { IfErr result (λ stop. StopsAt (move_unit m.old.kernel.place []) m.old.kernel (D.image swap.old) stop m.new (D.image swap.new)) }
+    ensures params { m.new.params ≡ m.old.params }
+    ensures images { m.new.images ≡ m.old.images }
+    ensures files_lead { F.leads files.old files.new }
+    ensures swap_leads { D.leads swap.old swap.new }
+    ensures holds { F.holds files.new ≡ F.holds files.old }
+    ensures blocks { D.blocks swap.new ≡ D.blocks swap.old }
+    ensures open_faults { F.open_faults files.new ≡ F.open_faults files.old }
+    ensures page_faults { CountsPages result (F.page_faults files.old) (F.page_faults files.new) }
+    ensures read_faults { CountsReads result (D.read_faults swap.old) (D.read_faults swap.new) }
+    ensures write_faults { CountsWrites result (D.write_faults swap.old) (D.write_faults swap.new) }
+{
+    m.sound();
+    let (lo, n) = next_write(m, &[]);
+    if n > 0 && m.in_flight() == MOST_IN_FLIGHT {
+        m.done(files, swap)?;
+        return Ok(false);
+    }
+    m.hand(&[], lo, n)?;
+    Ok(true)
+}
+
+/// Moves the hands, at most `n` times, and answers the number of moves made. None is made while a quarter of the frames
+/// are free, so fewer than `n` are made only where so many are free then.
+pub fn move_hands<F: Files, D: SwapDev>(
+    m: &mut Machine,
+    files: &mut F,
+    swap: &mut D,
+    n: u32,
+) -> Result<u32, Stop>
+    requires running { m.old.kernel.stopped ≡ false }
+    requires whole { m.old.before ≡ m.old.kernel.holdings }
+    requires area { m.old.params.swap_blocks ≤ D.blocks swap.old }
+    requires files { AreFiles m.old.images (F.holds files.old) }
+    requires fits { last_moves m.old.kernel.journal + n < 2 ^ 32 }
+    ensures moved { IfOk result (λ made. Moved n m.old m.new made (D.image swap.old) (D.image swap.new)) }
+    ensures keeps { OnOk result (KeepsThrough m.old m.new (F.holds files.old) (D.image swap.old) (D.image swap.new)) }
+    ensures stopped { IfErr result (λ stop. StopsMoving n m.old stop m.new (D.image swap.old) (D.image swap.new)) }
+    ensures files_lead { F.leads files.old files.new }
+    ensures swap_leads { D.leads swap.old swap.new }
+    ensures holds { F.holds files.new ≡ F.holds files.old }
+    ensures blocks { D.blocks swap.new ≡ D.blocks swap.old }
+    ensures open_faults { F.open_faults files.new ≡ F.open_faults files.old }
+    ensures page_faults { CountsPages result (F.page_faults files.old) (F.page_faults files.new) }
+    ensures read_faults { CountsReads result (D.read_faults swap.old) (D.read_faults swap.new) }
+    ensures write_faults { CountsWrites result (D.write_faults swap.old) (D.write_faults swap.new) }
+{
+    if n == 0 || !wants_moves(m) {
+        return Ok(0);
+    }
+    if move_once(m, files, swap)? {
+        Ok(1 + move_hands(m, files, swap, n - 1)?)
+    } else {
+        move_hands(m, files, swap, n)
+    }
+}
