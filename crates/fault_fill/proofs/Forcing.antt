@@ -1,0 +1,64 @@
+-- A frame that is forced serves a page that needs one.
+use Rattle.std.proofs.Common.{◌≡◌, ℕ, true, List, [], ◌∷◌, length, Option, None, ap, ◌∙◌, subst, arith}
+use Rattle.vm_facts.specs.declared.page.Page.{Page}
+use Rattle.vm_facts.specs.declared.stop.Stop.{Stop}
+use Rattle.vm_facts.specs.declared.entry.Entry.{Entry}
+use Rattle.io_edge.specs.FileHolding.{NamedFile}
+use Rattle.page_model.specs.Pages.{frame_of}
+use Rattle.page_model.specs.Placement.{Placement, state_of}
+use Rattle.page_model.specs.Serve.{force, force_entry, Forces}
+use Rattle.page_model.specs.Ownership.{OwnsFrames}
+use Rattle.page_laws.proofs.Moves.Stays.{Stays, force_stays}
+use Rattle.page_laws.proofs.Ownership.Serve.{force_owner}
+use Rattle.machine_state.specs.Machine.{Standing}
+use Rattle.machine_state.specs.Done.{KeepsThrough}
+use Rattle.clock_hands.specs.Forced.{Forced, StopsForcing}
+use Rattle.fault_fill.specs.Serving.{StopsServing}
+use Rattle.fault_fill.specs.Units.{NoneMade, NeedsFrame, Further}
+use Rattle.fault_fill.proofs.Serving.{unit_forces, forces_serve, forces_some}
+
+-- a page that has no frame still has none behind units that force one
+still_frameless : (us : List Entry) (p r : Placement) (locked : List Page) (q : Page) → OwnsFrames p → frame_of (state_of p q) ≡ None → Forces us p locked r → frame_of (state_of r q) ≡ None
+still_frameless [] p r locked q o n h = subst (λ (x : Placement). frame_of (state_of x q) ≡ None) h n
+still_frameless (e ∷ us) p r locked q o n h =
+    let s : Stays p (force p locked) = force_stays p locked o in
+    still_frameless us (force p locked) r locked q (force_owner p locked o) (s.frames q ∙ n) h.2
+
+pub room_further : (locked : List Page) (q : Page) (old next new : Standing) (holds later : Option (List NamedFile)) (i h j : Option (List ℕ)) → NoneMade old next i h → later ≡ holds
+    → OwnsFrames old.kernel.place → NeedsFrame old.kernel.place q → Forced locked next new h j → KeepsThrough next new later h j → Further locked q old new holds i j
+room_further locked q old next new holds later i h j n e o needs f keeps = record {
+  serves = record {
+    units = d.units;
+    leads = forces_serve d.units old.kernel.place new.kernel.place locked q o needs.frameless d.forces;
+    makes = d.makes;
+    keeps = kept;
+  };
+  some = forces_some d.units old.kernel.place new.kernel.place locked d.forces needs.none d.free;
+  low = λ none. (let a = d.free in let b = ap length none in absurd (omega arith));
+}
+  where
+    d : Forced locked old new i j
+    d = subst (λ (s : Standing). Forced locked s new i j) n.machine (subst (λ (x : Option (List ℕ)). Forced locked next new x j) n.image f)
+
+    kept : KeepsThrough old new holds i j
+    kept =
+        subst (λ (s : Standing). KeepsThrough s new holds i j) n.machine
+        (subst (λ (x : Option (List ℕ)). KeepsThrough next new holds x j) n.image (subst (λ (x : Option (List NamedFile)). KeepsThrough next new x h j) e keeps))
+
+pub room_stops : (locked : List Page) (q : Page) (old next new : Standing) (i h j : Option (List ℕ)) (stop : Stop) → NoneMade old next i h
+    → OwnsFrames old.kernel.place → NeedsFrame old.kernel.place q → StopsForcing locked next stop new h j → StopsServing true locked q old new i j stop
+room_stops locked q old next new i h j stop n o needs f = record {
+  units = d.units;
+  kernel = d.at;
+  image = d.image;
+  leads = forces_serve d.units old.kernel.place d.at.place locked q o needs.frameless d.forces;
+  made = d.made;
+  entry = force_entry d.at.place.transfers;
+  next = unit_forces d.at.place q (still_frameless d.units old.kernel.place d.at.place locked q o needs.frameless d.forces) d.none;
+  at = d.stops;
+  params = d.params;
+  images = d.images;
+}
+  where
+    d : StopsForcing locked old stop new i j
+    d = subst (λ (s : Standing). StopsForcing locked s stop new i j) n.machine (subst (λ (x : Option (List ℕ)). StopsForcing locked next stop new x j) n.image f)

@@ -1,0 +1,107 @@
+-- The space of a page, or one that shares its text.
+use Rattle.std.proofs.Common.{◌≡◌, ◌≢◌, inl, inr, ℕ, ◌<◌, ◌≤◌, IsSome, List, [], ◌∷◌, length, map, Option, Some, None, slice_get, refl, sym, ap, ◌∙◌, arith}
+use Rattle.std.proofs.lemmas.Bool.{cases_eq}
+use Rattle.std.proofs.lemmas.Bool.Decides.{nat_tests}
+use Rattle.vm_facts.specs.declared.page.Page.{Page}
+use Rattle.vm_facts.specs.declared.page.Page.TheVariants.{Data, Stack, Text}
+use Rattle.vax_pte.specs.declared.Place.{Place}
+use Rattle.core_map.specs.Frames.{Frames}
+use Rattle.space_map.specs.Space.{Places, place_in}
+use Rattle.flat_state.specs.Numbers.{IsAbsent, AllDistinct}
+use Rattle.flat_state.specs.PageNames.{number_of}
+use Rattle.page_model.specs.Pages.{SpacePages, numbered, data_in, stack_in}
+use Rattle.page_model.specs.Placement.{Placement, space_number, IsThere, sharers_in, image_in, image_of}
+use Rattle.page_model.specs.Conditions.{IsShared}
+use Rattle.page_laws.proofs.Lists.Pages.{numbered_hit, numbered_miss}
+use Rattle.kernel_model.specs.Asks.{HasSpace}
+use Rattle.table_view.specs.Views.{IsNamedBy, ShowsPage, ShowsSpace}
+use Rattle.machine_state.specs.Sharing.{IsSharer}
+use Rattle.machine_state.proofs.UserFrames.{get_below}
+use Rattle.fault_fill.specs.Homes.{IsHome}
+
+absent_there : (n : ℕ) (ss : List SpacePages) (m : ℕ) (x : SpacePages) → IsAbsent n (map space_number ss) → numbered space_number m ss ≡ Some x → n ≢ m
+absent_there n [] m x a e h = absurd cc
+absent_there n (s ∷ ss) m x a e h = elim (cases_eq s.sid m) [
+  | inl i ↦ a.0 (i ∙ sym h)
+  | inr d ↦ absent_there n ss m x a.1 (sym (numbered_miss space_number m s ss d) ∙ e) h
+]
+
+shares_hit : (image : ℕ) (s : SpacePages) (ss : List SpacePages) → s.image ≢ image → sharers_in image (s ∷ ss) ≡ sharers_in image ss
+shares_hit image s ss n = grind (arith, nat_tests)
+
+record Sharer (image : ℕ) (ss : List SpacePages) : Type 0 where
+  sid : ℕ
+  space : SpacePages
+  there : numbered space_number sid ss ≡ Some space
+  shares : space.image ≡ image
+
+shared_by : (image : ℕ) (ss : List SpacePages) → AllDistinct (map space_number ss) → 0 < sharers_in image ss → Sharer image ss
+shared_by image [] d l = absurd (omega arith)
+shared_by image (s ∷ ss) d l = elim (cases_eq s.image image) [
+  | inl e ↦ record { sid = s.sid; space = s; there = numbered_hit space_number s.sid s ss refl; shares = e }
+  | inr n ↦
+      let h : Sharer image ss = shared_by image ss d.1 (let a = shares_hit image s ss n in omega arith) in
+      record {
+        sid = h.sid;
+        space = h.space;
+        there = numbered_miss space_number h.sid s ss (absent_there s.sid ss h.sid h.space d.0 h.there) ∙ h.there;
+        shares = h.shares;
+      }
+]
+
+-- text that is shared has a sharer
+pub no_sharer : (p : Placement) (image v : ℕ) → AllDistinct (map space_number p.spaces) → IsShared p (Text image v) → ((sid : ℕ) → IsSharer p image sid → ⊥) → ⊥
+no_sharer p image v d l none =
+    let h : Sharer image p.spaces = shared_by image p.spaces d l in
+    none h.sid (record { space = h.space; there = h.there; shares = h.shares })
+
+sharer_home : (p : Placement) (image v sid : ℕ) → IsSharer p image sid → HasSpace p sid × IsHome p (Text image v) sid
+sharer_home p image v sid h = (
+  λ e. (let k : Some h.space ≡ None = sym h.there ∙ e in absurd cc),
+  ap image_in h.there ∙ h.shares,
+)
+
+pub text_home : (p : Placement) (image v sid : ℕ) → IsSharer p image sid → HasSpace p sid
+text_home p image v sid h = (sharer_home p image v sid h).0
+
+pub text_image : (p : Placement) (image v sid : ℕ) → IsSharer p image sid → image_of p sid ≡ image
+text_image p image v sid h = (sharer_home p image v sid h).1
+
+pub data_home : (p : Placement) (sid v : ℕ) → IsThere p (Data sid v) → HasSpace p sid
+data_home p sid v there e = let a = ap (λ (o : Option SpacePages). length (data_in o)) e in absurd (omega arith)
+
+pub stack_home : (p : Placement) (sid v : ℕ) → IsThere p (Stack sid v) → HasSpace p sid
+stack_home p sid v there e = let a = ap (λ (o : Option SpacePages). length (stack_in o)) e in absurd (omega arith)
+
+-- the map of the space names the page
+pub home_names : (p : Placement) (q : Page) (sid : ℕ) (s : Places) → IsHome p q sid → s.sid ≡ sid → s.image ≡ image_of p sid → IsNamedBy s q
+home_names p (Data n v) sid s h a b = sym h ∙ sym a
+home_names p (Stack n v) sid s h a b = sym h ∙ sym a
+home_names p (Text n v) sid s h a b = sym h ∙ sym b
+
+-- and has an entry for it
+pub home_place : (p : Placement) (core : Frames) (s : Places) (q : Page) → ShowsSpace p core s → IsNamedBy s q → IsThere p q → IsSome (place_in s q)
+home_place p core s q shows named there = go (place_in s q) (shows.pages q named)
+  where
+    go : (o : Option Place) → ShowsPage p core.slots q o → IsSome o
+    go None h = absurd (h there)
+    go (Some x) h = refl
+
+pub some_place : (o : Option Place) → IsSome o → (x : Place) × (o ≡ Some x)
+some_place None e = absurd cc
+some_place (Some x) e = (x, refl)
+
+-- so the page's number is small
+pub number_small : (s : Places) (q : Page) → IsNamedBy s q → IsSome (place_in s q) → length s.«data» ≤ 4096 → length s.stack ≤ 512 → length s.text ≤ 2048 → number_of q ≤ 4096
+number_small s (Data n v) named h a b c =
+    let x = some_place (place_in s (Data n v)) h in
+    let at : slice_get s.«data» v ≡ Some x.0 = (let k = x.1 in grind (arith, nat_tests)) in
+    let l = get_below s.«data» v x.0 at in omega arith
+number_small s (Stack n v) named h a b c =
+    let x = some_place (place_in s (Stack n v)) h in
+    let at : slice_get s.stack v ≡ Some x.0 = (let k = x.1 in grind (arith, nat_tests)) in
+    let l = get_below s.stack v x.0 at in omega arith
+number_small s (Text n v) named h a b c =
+    let x = some_place (place_in s (Text n v)) h in
+    let at : slice_get s.text v ≡ Some x.0 = (let k = x.1 in grind (arith, nat_tests)) in
+    let l = get_below s.text v x.0 at in omega arith

@@ -1,0 +1,322 @@
+-- Units of serving, and calls of them, one after another.
+use Rattle.std.proofs.Common.{◌≡◌, ◌↔◌, ◌⊎◌, ℕ, ◌+◌, ◌<◌, ◌≤◌, ◌^◌, Bool, true, false, List, [], ◌∷◌, ◌++◌, length, Option, Some, None, Result, Ok, Err, MatchResult, OnOk, OnErr, refl, sym, ap, ◌∙◌, subst, arith}
+use Rattle.std.proofs.lemmas.List.{length_push}
+use Rattle.vm_facts.specs.declared.page.Page.{Page}
+use Rattle.vm_facts.specs.declared.stop.Stop.{Stop}
+use Rattle.vm_facts.specs.declared.stop.Stop.TheVariants as stops
+use Rattle.vm_facts.specs.declared.entry.Entry.{Entry}
+use Rattle.vm_facts.specs.declared.entry.Entry.TheVariants as entries
+use Rattle.vm_facts.specs.declared.params.Params.{Params}
+use Rattle.io_edge.specs.FileHolding.{NamedFile}
+use Rattle.flat_state.specs.Journal.{append}
+use Rattle.page_model.specs.Placement.{Placement, Transfer, state_of}
+use Rattle.page_laws.proofs.Moves.Units.{unit_is}
+use Rattle.paging_units.specs.LastMoves.{last_moves}
+use Rattle.paging_units.proofs.LastMoves.{last_done}
+use Rattle.page_model.specs.Serve.{serve_unit}
+use Rattle.page_model.specs.Ownership.{OwnsFrames}
+use Rattle.kernel_model.specs.Kernel.{Kernel}
+use Rattle.machine_state.specs.Machine.{Standing}
+use Rattle.machine_state.specs.Sourced.{ImageNamed}
+use Rattle.machine_state.specs.Files.{AreFiles}
+use Rattle.machine_state.specs.Conditions.{HasStopped, KeepsFlat}
+use Rattle.machine_state.specs.Done.{KeepsThrough, CountsPages, CountsReads, CountsWrites}
+use Rattle.machine_state.specs.Settled.{IsSameBeside}
+use Rattle.paging_units.specs.Made.{MadeBy, ImageBy, SameBeside}
+use Rattle.paging_units.specs.Stops.{CauseBy, SpoilsBy}
+use Rattle.paging_units.proofs.Units.{served_place, unit_journal, unit_same, made_append, made_one, made_same, makes_none, makes_both}
+use Rattle.paging_units.proofs.Keeping.{made_shaped, keeps_flat, keeps_same, keeps_both}
+use Rattle.fault_fill.specs.Serving.{CanServe, UnitMade, UnitStops, ServesTo, StopsServing}
+use Rattle.fault_fill.specs.Units.{AnyUnit, PlainMade, PlainStop, EndMade, EndStops, NoneMade}
+use Rattle.fault_fill.specs.Units.{is_flying, Further}
+use Rattle.fault_fill.specs.Answers.{ServesAs, ServesNow}
+use Rattle.fault_fill.specs.declared.pages.Served.{Served}
+use Rattle.fault_fill.proofs.Serving.{due_same, serves_append, Behind, served_behind, near, near_falls, calm_unit, unit_waits}
+
+pub match_map : {A E : Type 0} (P Q : A → Type 0) (R S : E → Type 0) (r : Result A E) → ((x : A) → P x → Q x) → ((e : E) → R e → S e) → MatchResult r P R → MatchResult r Q S
+match_map P Q R S (Ok x) f g m = f x m
+match_map P Q R S (Err e) f g m = g e m
+
+-- What a step answers that calls no device.
+
+pub beside_of : (old new : Standing) → new ≡ record old { kernel = new.kernel; room = None } → IsSameBeside old new
+beside_of old new e = record {
+  params = ap (λ (s : Standing). s.params) e;
+  images = ap (λ (s : Standing). s.images) e;
+  before = ap (λ (s : Standing). s.before) e;
+}
+
+pub plain_made : (q : Page) (e : Entry) (old new : Standing) → ((now : Bool) → serve_unit old.kernel.place q now ≡ Some e)
+    → ((locked : List Page) → MadeBy locked e old.kernel new.kernel) → ((i : Option (List ℕ)) → ImageBy e old.kernel i i)
+    → new ≡ record old { kernel = new.kernel; room = None } → KeepsFlat old.kernel new.kernel → PlainMade q old new
+plain_made q e old new next made told rest keeps = λ holds image now locked. record {
+  entry = e;
+  next = next now;
+  made = made locked;
+  told = told image;
+  rest = beside_of old new rest;
+  keeps = keeps_flat old new holds image keeps;
+}
+
+plain_longer : (journal : List Entry) (e : Entry) → append journal e ≡ journal ++ e ∷ [] → length journal < length (append journal e)
+plain_longer journal e h = let a = ap length h in let b = length_push journal e in omega arith
+
+full_same : {A : Type 0} (stop : Stop) (new old : Standing) (k : ℕ) → new.params ≡ old.params → length old.kernel.journal < k
+    → ((let r : Result A Stop = Err stop in r) ≡ Err stops.JournalFull) ↔ (old.params.journal ≤ length old.kernel.journal)
+    → (stop ≡ stops.JournalFull) ↔ ((new.params.journal ≤ length old.kernel.journal) × (length old.kernel.journal < k))
+full_same {A} stop new old k e l h =
+    let same = ap (λ (x : Params). x.journal) e in (
+      λ s. (let a = h.0 (ap (λ (x : Stop). let r : Result A Stop = Err x in r) s) in (omega arith, l)),
+      λ m. (let b = m.0 in let a : (let r : Result A Stop = Err stop in r) ≡ Err stops.JournalFull = h.1 (omega arith) in cc),
+    )
+
+-- by the causes of a step that calls no device
+cause_same : {A : Type 0} (stop : Stop) → ((let r : Result A Stop = Err stop in r) ≡ Err stops.JournalFull) ⊎ ((let r : Result A Stop = Err stop in r) ≡ Err stops.NoMemory)
+    → (stop ≡ stops.JournalFull) ⊎ (stop ≡ stops.NoMemory)
+cause_same {A} stop h = elim h [
+  | Rattle.std.proofs.Common.inl e ↦ Rattle.std.proofs.Common.inl cc
+  | Rattle.std.proofs.Common.inr e ↦ Rattle.std.proofs.Common.inr cc
+]
+
+pub plain_stops : {A : Type 0} (q : Page) (e : Entry) (old new : Standing) (stop : Stop) → ((now : Bool) → serve_unit old.kernel.place q now ≡ Some e)
+    → ((s : Stop) (ts : List Transfer) → (s ≡ stops.JournalFull) ⊎ (s ≡ stops.NoMemory) → CauseBy e s ts)
+    → ((i : Option (List ℕ)) → SpoilsBy e stop old.kernel i i) → append old.kernel.journal e ≡ old.kernel.journal ++ e ∷ []
+    → HasStopped old new
+    → ((let r : Result A Stop = Err stop in r) ≡ Err stops.JournalFull) ⊎ ((let r : Result A Stop = Err stop in r) ≡ Err stops.NoMemory)
+    → ((let r : Result A Stop = Err stop in r) ≡ Err stops.JournalFull) ↔ (old.params.journal ≤ length old.kernel.journal) → PlainStop q old new stop
+plain_stops {A} q e old new stop next causes spoils plain has cause full = λ image now. record {
+  entry = e;
+  next = next now;
+  at = record {
+    stopped = has.stopped;
+    journal = has.journal;
+    full = full_same {A = A} stop new old (length (append old.kernel.journal e)) has.params (plain_longer old.kernel.journal e plain) full;
+    cause = causes stop old.kernel.place.transfers (cause_same {A = A} stop cause);
+    image = spoils image;
+  };
+  params = has.params;
+  images = has.images;
+}
+
+-- an entry of a step that calls no device, and is never joined to the last one
+pub record CallsNone (e : Entry) : Type 0 where
+  pub told : (k : Kernel) (i : Option (List ℕ)) → ImageBy e k i i
+  pub causes : (s : Stop) (ts : List Transfer) → (s ≡ stops.JournalFull) ⊎ (s ≡ stops.NoMemory) → CauseBy e s ts
+  pub spoils : (s : Stop) (k : Kernel) (i : Option (List ℕ)) → SpoilsBy e s k i i
+  pub longer : (journal : List Entry) → append journal e ≡ journal ++ e ∷ []
+
+pub zero_calls : (q : Page) → CallsNone (entries.Zero q)
+zero_calls q = record { told = λ k i. refl; causes = λ s ts h. h; spoils = λ s k i. refl; longer = λ j. refl }
+
+pub get_calls : (q : Page) (lo n : ℕ) → CallsNone (entries.Get q lo n)
+get_calls q lo n = record { told = λ k i. refl; causes = λ s ts h. h; spoils = λ s k i. refl; longer = λ j. refl }
+
+pub reclaim_calls : (q : Page) → CallsNone (entries.Reclaim q)
+reclaim_calls q = record { told = λ k i. refl; causes = λ s ts h. h; spoils = λ s k i. refl; longer = λ j. refl }
+
+pub plain_either : {A S : Type 0} (r : Result A Stop) (q : Page) (e : Entry) (old new : Standing) → CallsNone e → ((now : Bool) → serve_unit old.kernel.place q now ≡ Some e)
+    → (S → (locked : List Page) → MadeBy locked e old.kernel new.kernel)
+    → OnOk r S → OnOk r (new ≡ record old { kernel = new.kernel; room = None }) → OnOk r (KeepsFlat old.kernel new.kernel)
+    → OnErr r (HasStopped old new) → OnErr r ((r ≡ Err stops.JournalFull) ⊎ (r ≡ Err stops.NoMemory))
+    → ((r ≡ Err stops.JournalFull) ↔ (old.params.journal ≤ length old.kernel.journal)) → MatchResult r (λ (u : A). PlainMade q old new) (PlainStop q old new)
+plain_either (Ok x) q e old new calls next made step rest keeps stopped cause full =
+    plain_made q e old new next (made step) (calls.told old.kernel) rest keeps
+plain_either {A} (Err s) q e old new calls next made step rest keeps stopped cause full =
+    plain_stops {A = A} q e old new s next calls.causes (calls.spoils s old.kernel) (calls.longer old.kernel.journal) stopped cause full
+
+-- The end of a transfer, where it is the next unit.
+
+pub end_unit : (now : Bool) (locked : List Page) (q : Page) (old new : Standing) (holds : Option (List NamedFile)) (before after : Option (List ℕ))
+    → serve_unit old.kernel.place q now ≡ Some entries.Done → EndMade old new holds before after → UnitMade now locked q old new holds before after
+end_unit now locked q old new holds before after next m = record { entry = entries.Done; next = next; made = m.done; told = m.told; rest = m.rest; keeps = m.keeps }
+
+pub end_stops : (now : Bool) (q : Page) (old new : Standing) (before after : Option (List ℕ)) (stop : Stop)
+    → serve_unit old.kernel.place q now ≡ Some entries.Done → EndStops old new before after stop → UnitStops now q old new before after stop
+end_stops now q old new before after stop next m = record { entry = entries.Done; next = next; at = m.at; params = m.params; images = m.images }
+
+-- What goes on.
+
+pub record GoesOn (old new : Standing) : Type 0 where
+  pub stopped : new.kernel.stopped ≡ old.kernel.stopped
+  pub holdings : new.kernel.holdings ≡ old.kernel.holdings
+
+pub unit_on : (now : Bool) (locked : List Page) (q : Page) (old new : Standing) (holds : Option (List NamedFile)) (before after : Option (List ℕ))
+    → UnitMade now locked q old new holds before after → GoesOn old new
+unit_on now locked q old new holds before after u =
+    let s : SameBeside old.kernel new.kernel = unit_same locked u.entry old.kernel new.kernel u.made in
+    record { stopped = s.stopped; holdings = s.holdings }
+
+pub units_on : (now : Bool) (locked : List Page) (q : Page) (old new : Standing) (holds : Option (List NamedFile)) (before after : Option (List ℕ))
+    → ServesTo now locked q old new holds before after → GoesOn old new
+units_on now locked q old new holds before after u =
+    let s : SameBeside old.kernel new.kernel = made_same locked u.units old.kernel new.kernel before after u.makes.made in
+    record { stopped = s.stopped; holdings = s.holdings }
+
+pub whole_on : (old new : Standing) → IsSameBeside old new → GoesOn old new → old.before ≡ old.kernel.holdings → new.before ≡ new.kernel.holdings
+whole_on old new r g w = r.before ∙ w ∙ sym g.holdings
+
+pub area_on : (old new : Standing) (n m : ℕ) → IsSameBeside old new → m ≡ n → old.params.swap_blocks ≤ n → new.params.swap_blocks ≤ m
+area_on old new n m r e l = let a = ap (λ (x : Params). x.swap_blocks) r.params in omega arith
+
+pub files_on : (old new : Standing) (a b : Option (List NamedFile)) → IsSameBeside old new → b ≡ a → AreFiles old.images a → AreFiles new.images b
+files_on old new a b r e f =
+    subst (λ (ns : List ImageNamed). AreFiles ns b) (sym r.images) (subst (λ (h : Option (List NamedFile)). AreFiles old.images h) (sym e) f)
+
+-- Units in order.
+
+pub one_serves : (now : Bool) (locked : List Page) (q : Page) (old new : Standing) (holds : Option (List NamedFile)) (before after : Option (List ℕ))
+    → CanServe old.kernel.place q → UnitMade now locked q old new holds before after → ServesTo now locked q old new holds before after
+one_serves now locked q old new holds before after c u = record {
+  units = u.entry ∷ [];
+  leads = (u.next, sym (served_place locked q now u.entry old.kernel new.kernel u.next (due_same old.kernel.place.due q c.fresh) u.made));
+  makes = record { made = made_one locked u.entry old.kernel new.kernel before after u.made u.told; beside = u.rest };
+  keeps = u.keeps;
+}
+
+pub none_serves : (now : Bool) (locked : List Page) (q : Page) (old new : Standing) (holds : Option (List NamedFile)) (before after : Option (List ℕ))
+    → NoneMade old new before after → ServesTo now locked q old new holds before after
+none_serves now locked q old new holds before after n = record {
+  units = [];
+  leads = ap (λ (s : Standing). s.kernel.place) (sym n.machine);
+  makes = makes_none locked old new before after n.machine n.image;
+  keeps = subst (λ (i : Option (List ℕ)). KeepsThrough old new holds before i) (sym n.image) (keeps_same old new holds before (ap (λ (s : Standing). s.kernel) (sym n.machine)));
+}
+
+pub both_serve : (now : Bool) (locked : List Page) (q : Page) (old next new : Standing) (holds later : Option (List NamedFile)) (a b c : Option (List ℕ)) → later ≡ holds
+    → ServesTo now locked q old next holds a b → ServesTo now locked q next new later b c → ServesTo now locked q old new holds a c
+both_serve now locked q old next new holds later a b c e s t = record {
+  units = s.units ++ t.units;
+  leads = serves_append s.units t.units old.kernel.place next.kernel.place new.kernel.place locked q now s.leads t.leads;
+  makes = makes_both locked s.units t.units old next new a b c s.makes t.makes;
+  keeps = keeps_both old next new holds later a b c s.makes.beside.images (made_shaped locked s.units old.kernel next.kernel a b s.makes.made) e s.keeps t.keeps;
+}
+
+pub stops_here : (now : Bool) (locked : List Page) (q : Page) (old new : Standing) (before after : Option (List ℕ)) (stop : Stop)
+    → UnitStops now q old new before after stop → StopsServing now locked q old new before after stop
+stops_here now locked q old new before after stop u = record {
+  units = [];
+  kernel = old.kernel;
+  image = before;
+  leads = refl;
+  made = (refl, refl);
+  entry = u.entry;
+  next = u.next;
+  at = u.at;
+  params = u.params;
+  images = u.images;
+}
+
+pub stops_later : (now : Bool) (locked : List Page) (q : Page) (old next new : Standing) (holds : Option (List NamedFile)) (a b c : Option (List ℕ)) (stop : Stop)
+    → ServesTo now locked q old next holds a b → StopsServing now locked q next new b c stop → StopsServing now locked q old new a c stop
+stops_later now locked q old next new holds a b c stop s t = record {
+  units = s.units ++ t.units;
+  kernel = t.kernel;
+  image = t.image;
+  leads = serves_append s.units t.units old.kernel.place next.kernel.place t.kernel.place locked q now s.leads t.leads;
+  made = made_append locked s.units t.units old.kernel next.kernel t.kernel a b t.image s.makes.made t.made;
+  entry = t.entry;
+  next = t.next;
+  at = t.at;
+  params = t.params ∙ s.makes.beside.params;
+  images = t.images ∙ s.makes.beside.images;
+}
+
+-- Behind a unit.
+
+pub unit_behind : (now : Bool) (locked : List Page) (q : Page) (old new : Standing) (holds : Option (List NamedFile)) (before after : Option (List ℕ))
+    → OwnsFrames old.kernel.place → CanServe old.kernel.place q → UnitMade now locked q old new holds before after → Behind old.kernel.place new.kernel.place locked q
+unit_behind now locked q old new holds before after o c u =
+    let s : ServesTo now locked q old new holds before after = one_serves now locked q old new holds before after c u in
+    served_behind s.units old.kernel.place new.kernel.place locked q now o c s.leads
+
+pub unit_nearer : (q : Page) (old new : Standing) (holds : Option (List NamedFile)) (before after : Option (List ℕ))
+    → OwnsFrames old.kernel.place → CanServe old.kernel.place q → UnitMade false [] q old new holds before after → near new.kernel.place q < near old.kernel.place q
+unit_nearer q old new holds before after o c u =
+    subst (λ (p : Placement). near p q < near old.kernel.place q) (sym (served_place [] q false u.entry old.kernel new.kernel u.next (due_same old.kernel.place.due q c.fresh) u.made))
+    (near_falls old.kernel.place q u.entry o c.there u.next)
+
+pub served_later : (answer : Served) (q : Page) (old next new : Standing) (holds later : Option (List NamedFile)) (a b c : Option (List ℕ)) → later ≡ holds
+    → ServesTo false [] q old next holds a b → ServesAs answer q next new later b c → ServesAs answer q old new holds a c
+served_later answer q old next new holds later a b c e s t = (both_serve false [] q old next new holds later a b c e s t.0, t.1)
+
+pub served_now_later : (locked : List Page) (q : Page) (old next new : Standing) (holds later : Option (List NamedFile)) (a b c : Option (List ℕ)) → later ≡ holds
+    → ServesTo true locked q old next holds a b → ServesNow locked q next new later b c → ServesNow locked q old new holds a c
+served_now_later locked q old next new holds later a b c e s t = (both_serve true locked q old next new holds later a b c e s t.0, t.1)
+
+-- Serving now: further by one unit.
+
+pub unit_further : (locked : List Page) (q : Page) (old new : Standing) (holds : Option (List NamedFile)) (before after : Option (List ℕ))
+    → CanServe old.kernel.place q → (u : UnitMade true locked q old new holds before after) → last_moves (append old.kernel.journal u.entry) ≡ 0
+    → Further locked q old new holds before after
+unit_further locked q old new holds before after c u z = record {
+  serves = record {
+    units = u.entry ∷ [];
+    leads = (u.next, sym (served_place locked q true u.entry old.kernel new.kernel u.next (due_same old.kernel.place.due q c.fresh) u.made));
+    makes = record { made = made_one locked u.entry old.kernel new.kernel before after u.made u.told; beside = u.rest };
+    keeps = u.keeps;
+  };
+  some = omega arith;
+  low = λ e. (let j = ap last_moves (unit_journal locked u.entry old.kernel new.kernel u.made) in omega arith);
+}
+
+pub any_further : (locked : List Page) (q : Page) (old new : Standing) (holds : Option (List NamedFile)) (before after : Option (List ℕ))
+    → CanServe old.kernel.place q → AnyUnit q old new holds before after → Further locked q old new holds before after
+any_further locked q old new holds before after c any =
+    let u : UnitMade true locked q old new holds before after = any true locked in
+    let v : UnitMade false locked q old new holds before after = any false locked in
+    let same : v.entry ≡ u.entry = (unit_is old.kernel.place q false v.entry v.next).1 ∙ sym (unit_is old.kernel.place q true u.entry u.next).1 in
+    unit_further locked q old new holds before after c u
+    (subst (λ (e : Entry). last_moves (append old.kernel.journal e) ≡ 0) same (calm_unit old.kernel.place q v.entry old.kernel.journal v.next))
+
+-- nothing was done before
+pub end_same : (old next new : Standing) (holds later : Option (List NamedFile)) (i h j : Option (List ℕ)) → NoneMade old next i h → later ≡ holds
+    → EndMade next new later h j → EndMade old new holds i j
+end_same old next new holds later i h j n e m =
+    subst (λ (s : Standing). EndMade s new holds i j) n.machine
+    (subst (λ (x : Option (List ℕ)). EndMade next new holds x j) n.image (subst (λ (x : Option (List NamedFile)). EndMade next new x h j) e m))
+
+pub stop_same : (old next new : Standing) (i h j : Option (List ℕ)) (stop : Stop) → NoneMade old next i h → EndStops next new h j stop → EndStops old new i j stop
+stop_same old next new i h j stop n m =
+    subst (λ (s : Standing). EndStops s new i j stop) n.machine (subst (λ (x : Option (List ℕ)). EndStops next new x j stop) n.image m)
+
+pub end_further : (locked : List Page) (q : Page) (old next new : Standing) (holds later : Option (List NamedFile)) (i h j : Option (List ℕ)) → NoneMade old next i h → later ≡ holds
+    → CanServe old.kernel.place q → is_flying (state_of old.kernel.place q) ≡ true → EndMade next new later h j → Further locked q old new holds i j
+end_further locked q old next new holds later i h j n e c f m =
+    unit_further locked q old new holds i j c
+    (record { entry = entries.Done; next = unit_waits old.kernel.place q f; made = d.done; told = d.told; rest = d.rest; keeps = d.keeps })
+    (last_done old.kernel.journal)
+  where
+    d : EndMade old new holds i j
+    d = end_same old next new holds later i h j n e m
+
+pub end_stops_now : (locked : List Page) (q : Page) (old next new : Standing) (i h j : Option (List ℕ)) (stop : Stop) → NoneMade old next i h
+    → is_flying (state_of old.kernel.place q) ≡ true → EndStops next new h j stop → StopsServing true locked q old new i j stop
+end_stops_now locked q old next new i h j stop n f m =
+    stops_here true locked q old new i j stop (end_stops true q old new i j stop (unit_waits old.kernel.place q f) (stop_same old next new i h j stop n m))
+
+-- The counts of faults of a step that calls no device.
+
+module _ {A : Type 0} (n : ℕ) where
+  pub pages_stay : (r : Result A Stop) → OnErr r ((r ≡ Err stops.JournalFull) ⊎ (r ≡ Err stops.NoMemory)) → CountsPages r n n
+  pages_stay (Ok x) h = refl
+  pages_stay (Err stops.JournalFull) h = refl
+  pages_stay (Err stops.NoMemory) h = refl
+  pages_stay (Err stops.SwapReadFault) h = refl
+  pages_stay (Err stops.SwapWriteFault) h = refl
+  pages_stay (Err stops.FileFault) h = absurd (elim h [ Rattle.std.proofs.Common.inl e ↦ cc | Rattle.std.proofs.Common.inr e ↦ cc ])
+
+  pub reads_stay : (r : Result A Stop) → OnErr r ((r ≡ Err stops.JournalFull) ⊎ (r ≡ Err stops.NoMemory)) → CountsReads r n n
+  reads_stay (Ok x) h = refl
+  reads_stay (Err stops.JournalFull) h = refl
+  reads_stay (Err stops.NoMemory) h = refl
+  reads_stay (Err stops.FileFault) h = refl
+  reads_stay (Err stops.SwapWriteFault) h = refl
+  reads_stay (Err stops.SwapReadFault) h = absurd (elim h [ Rattle.std.proofs.Common.inl e ↦ cc | Rattle.std.proofs.Common.inr e ↦ cc ])
+
+  pub writes_stay : (r : Result A Stop) → OnErr r ((r ≡ Err stops.JournalFull) ⊎ (r ≡ Err stops.NoMemory)) → CountsWrites r n n
+  writes_stay (Ok x) h = refl
+  writes_stay (Err stops.JournalFull) h = refl
+  writes_stay (Err stops.NoMemory) h = refl
+  writes_stay (Err stops.FileFault) h = refl
+  writes_stay (Err stops.SwapReadFault) h = refl
+  writes_stay (Err stops.SwapWriteFault) h = absurd (elim h [ Rattle.std.proofs.Common.inl e ↦ cc | Rattle.std.proofs.Common.inr e ↦ cc ])

@@ -1,0 +1,10 @@
+pub mod Grows
+pub mod GrownStacks
+pub mod Homes
+pub mod Accesses
+pub mod Touching
+pub mod Readings
+pub mod Leading
+pub mod Bounds
+pub mod Forcing
+pub mod Serving

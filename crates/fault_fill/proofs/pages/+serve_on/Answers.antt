@@ -1,0 +1,67 @@
+use Rattle.std.proofs.Common.{◌<◌, [], false, subst, ◌∙◌, arith}
+use Rattle.page_model.specs.Ownership.{OwnsFrames}
+use Rattle.fault_fill.specs.Serving.{UnitMade, ServesTo, StopsServing}
+use Rattle.fault_fill.specs.Units.{ComesTo, AnyUnit}
+use Rattle.fault_fill.specs.Answers.{ServesAs}
+use Rattle.fault_fill.specs.declared.pages.Served.{Served}
+use Rattle.fault_fill.specs.declared.unit.Unit.{Unit as Came}
+use Rattle.fault_fill.proofs.Serving.{near, Behind}
+use Rattle.fault_fill.proofs.Leading.{match_map, GoesOn, unit_on, whole_on, area_on, files_on, one_serves, stops_here, stops_later, unit_behind, unit_nearer, served_later}
+use Rattle.fault_fill.proofs.pages.+serve_on.Goals as goal
+
+pub returns-in-Err-clause-served : goal.returns-in-Err-clause-served
+returns-in-Err-clause-served g t c =
+    stops_here false [] c.args.page c.args.m.now c.serve_unit.new.m (g.D.SwapDev.image c.args.swap.now) (g.D.SwapDev.image c.serve_unit.new.swap) c.in-Err.stop
+    (c.in-Err.ensures.made false)
+
+pub serve_on-requires : goal.serve_on-requires
+serve_on-requires g t c κs out =
+    let q = c.args.page in
+    let old = c.args.m.now in
+    let new = c.serve_unit.new.m in
+    let holds = g.F.Files.holds c.args.files.now in
+    let i = g.D.SwapDev.image c.args.swap.now in
+    let j = g.D.SwapDev.image c.serve_unit.new.swap in
+    let any : AnyUnit q old new holds i j = subst (λ (u : Came). ComesTo u q old new holds i j) c.in-Nearer.is c.in-Ok.ensures.made in
+    let u : UnitMade false [] q old new holds i j = any false [] in
+    let owner : OwnsFrames old.kernel.place = c.sound.ensures.sound.owner.frames in
+    let b : Behind old.kernel.place new.kernel.place [] q = unit_behind false [] q old new holds i j owner c.requires.can u in
+    let o : GoesOn old new = unit_on false [] q old new holds i j u in
+    let less : near new.kernel.place q < near old.kernel.place q = unit_nearer q old new holds i j owner c.requires.can u in (
+      omega (arith, c.decreases, less),
+      (
+        out.0,
+        (
+          out.1,
+          (
+            o.stopped ∙ c.requires.running,
+            (
+              whole_on old new u.rest o c.requires.whole,
+              (
+                area_on old new _ _ u.rest c.in-Ok.ensures.blocks c.requires.area,
+                (files_on old new holds _ u.rest c.in-Ok.ensures.holds c.requires.files, b.can),
+              ),
+            ),
+          ),
+        ),
+      ),
+    )
+
+pub returns-in-Nearer-clause-served : goal.returns-in-Nearer-clause-served
+returns-in-Nearer-clause-served g t c =
+    let q = c.args.page in
+    let old = c.args.m.now in
+    let next = c.serve_unit.new.m in
+    let new = c.serve_on.new.m in
+    let holds = g.F.Files.holds c.args.files.now in
+    let later = g.F.Files.holds c.serve_unit.new.files in
+    let i = g.D.SwapDev.image c.args.swap.now in
+    let h = g.D.SwapDev.image c.serve_unit.new.swap in
+    let j = g.D.SwapDev.image c.serve_on.new.swap in
+    let any : AnyUnit q old next holds i h = subst (λ (u : Came). ComesTo u q old next holds i h) c.in-Nearer.is c.in-Ok.ensures.made in
+    let s : ServesTo false [] q old next holds i h = one_serves false [] q old next holds i h c.requires.can (any false []) in
+    match_map (λ (a : Served). ServesAs a q next new later h j) (λ (a : Served). ServesAs a q old new holds i j)
+    (StopsServing false [] q next new h j) (StopsServing false [] q old new i j) c.serve_on.result
+    (λ a m. served_later a q old next new holds later i h j c.in-Ok.ensures.holds s m)
+    (λ stop m. stops_later false [] q old next new holds i h j stop s m)
+    c.serve_on.ensures.served

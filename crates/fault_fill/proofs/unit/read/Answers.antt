@@ -1,0 +1,38 @@
+use Rattle.std.proofs.Common.{ap, ◌∙◌, subst, false}
+use Rattle.vm_facts.specs.declared.entry.Entry.TheVariants as entries
+use Rattle.page_model.specs.Runs.{Run}
+use Rattle.page_model.specs.Placement.{state_of, filling_of}
+use Rattle.std.proofs.Common.{Some}
+use Rattle.machine_state.specs.Conditions.{CanBringIn}
+use Rattle.fault_fill.proofs.Readings.{can_read}
+use Rattle.fault_fill.proofs.Serving.{not_full, of_image, unit_reads}
+use Rattle.fault_fill.proofs.Leading.{get_calls, plain_either, pages_stay, reads_stay, writes_stay}
+use Rattle.fault_fill.proofs.unit.read.Goals as goal
+
+pub begin_get-requires-clause-can : goal.begin_get-requires-clause-can
+begin_get-requires-clause-can c =
+    let q = c.args.page in
+    let p = c.args.m.now.kernel.place in
+    subst (λ (r : Run). CanBringIn p q r.lo r.n) c.run_of-lo.ensures.run
+    (can_read p q c.sound.ensures.due c.requires.can.there c.requires.can.shared c.requires.can.fresh c.requires.frameless
+    (of_image (state_of p q) (filling_of p q) c.requires.filled) c.requires.free c.requires.few c.run_of-lo.ensures.small)
+
+pub returns-clause-made : goal.returns-clause-made
+returns-clause-made c =
+    let q = c.args.page in
+    let p = c.args.m.now.kernel.place in
+    let lo = c.run_of-lo.result.0 in
+    let n = c.run_of-lo.result.1 in
+    plain_either c.begin_get.result q (entries.Get q lo n) c.args.m.now c.begin_get.new.self (get_calls q lo n)
+    (λ now. unit_reads p q now false (not_full p c.requires.few) c.requires.frameless c.requires.filled c.requires.free ∙ ap (λ (r : Run). Some (entries.Get q r.lo r.n)) c.run_of-lo.ensures.run)
+    (λ h locked. h)
+    c.begin_get.ensures.step c.begin_get.ensures.rest c.begin_get.ensures.keeps c.begin_get.ensures.stop c.begin_get.ensures.cause c.begin_get.ensures.full
+
+pub returns-clause-page_faults : goal.returns-clause-page_faults
+returns-clause-page_faults c = λ n. pages_stay n c.begin_get.result c.begin_get.ensures.cause
+
+pub returns-clause-read_faults : goal.returns-clause-read_faults
+returns-clause-read_faults c = λ n. reads_stay n c.begin_get.result c.begin_get.ensures.cause
+
+pub returns-clause-write_faults : goal.returns-clause-write_faults
+returns-clause-write_faults c = λ n. writes_stay n c.begin_get.result c.begin_get.ensures.cause

@@ -1,0 +1,21 @@
+use Rattle.vm_facts.specs.declared.entry.Entry.TheVariants as entries
+use Rattle.fault_fill.proofs.Serving.{unit_blank}
+use Rattle.fault_fill.proofs.Leading.{zero_calls, plain_either, pages_stay, reads_stay, writes_stay}
+use Rattle.fault_fill.proofs.unit.zero.Goals as goal
+
+pub returns-clause-made : goal.returns-clause-made
+returns-clause-made c =
+    let q = c.args.page in
+    let p = c.args.m.now.kernel.place in
+    plain_either c.fill_zero.result q (entries.Zero q) c.args.m.now c.fill_zero.new.self (zero_calls q)
+    (λ now. unit_blank p q now c.requires.blank c.requires.free) (λ h locked. h)
+    c.fill_zero.ensures.step c.fill_zero.ensures.rest c.fill_zero.ensures.keeps c.fill_zero.ensures.stop c.fill_zero.ensures.cause c.fill_zero.ensures.full
+
+pub returns-clause-page_faults : goal.returns-clause-page_faults
+returns-clause-page_faults c = λ n. pages_stay n c.fill_zero.result c.fill_zero.ensures.cause
+
+pub returns-clause-read_faults : goal.returns-clause-read_faults
+returns-clause-read_faults c = λ n. reads_stay n c.fill_zero.result c.fill_zero.ensures.cause
+
+pub returns-clause-write_faults : goal.returns-clause-write_faults
+returns-clause-write_faults c = λ n. writes_stay n c.fill_zero.result c.fill_zero.ensures.cause

@@ -1,0 +1,63 @@
+-- What serving a page asks, and what it does.
+use Rattle.std.specs.Prelude.{◌≡◌, ℕ, Bool, true, List, [], Option, Some}
+use Rattle.vm_facts.specs.declared.page.Page.{Page}
+use Rattle.vm_facts.specs.declared.entry.Entry.{Entry}
+use Rattle.vm_facts.specs.declared.stop.Stop.{Stop}
+use Rattle.io_edge.specs.FileHolding.{NamedFile}
+use Rattle.page_model.specs.Placement.{Placement, IsThere, state_of, filling_of}
+use Rattle.page_model.specs.Conditions.{IsShared}
+use Rattle.page_model.specs.Dues.{NotDue}
+use Rattle.page_model.specs.Serve.{serve_unit, Serves}
+use Rattle.kernel_model.specs.Kernel.{Kernel}
+use Rattle.machine_state.specs.Machine.{Standing}
+use Rattle.machine_state.specs.PlaceOf.{is_blank}
+use Rattle.machine_state.specs.Done.{KeepsThrough}
+use Rattle.machine_state.specs.Settled.{IsSameBeside}
+use Rattle.paging_units.specs.Made.{MadeBy, ImageBy, Made, Makes}
+use Rattle.paging_units.specs.Stops.{StopsAt}
+
+-- A page that is there, of text that a space shares where it is text, and not due. Another page may be due, unless this
+-- one has to be filled with zeros.
+pub record CanServe (p : Placement) (q : Page) : Type 0 where
+  pub there : IsThere p q
+  pub shared : IsShared p q
+  pub fresh : NotDue p.due q
+  pub blank : is_blank (state_of p q) (filling_of p q) ≡ true → p.due ≡ []
+
+-- the next unit of serving the page was made, with the swap image before and behind it
+pub record UnitMade (now : Bool) (locked : List Page) (q : Page) (old new : Standing) (holds : Option (List NamedFile)) (before after : Option (List ℕ)) : Type 0 where
+  pub entry : Entry
+  pub next : serve_unit old.kernel.place q now ≡ Some entry
+  pub made : MadeBy locked entry old.kernel new.kernel
+  pub told : ImageBy entry old.kernel before after
+  pub rest : IsSameBeside old new
+  pub keeps : KeepsThrough old new holds before after
+
+-- the machine stopped where that unit comes next
+pub record UnitStops (now : Bool) (q : Page) (old new : Standing) (before after : Option (List ℕ)) (stop : Stop) : Type 0 where
+  pub entry : Entry
+  pub next : serve_unit old.kernel.place q now ≡ Some entry
+  pub at : StopsAt entry old.kernel before stop new after
+  pub params : new.params ≡ old.params
+  pub images : new.images ≡ old.images
+
+-- Units of serving the page, one after another, lead from the one machine and swap image to the other, and the flat states
+-- for which the machine stood stay so.
+pub record ServesTo (now : Bool) (locked : List Page) (q : Page) (old new : Standing) (holds : Option (List NamedFile)) (before after : Option (List ℕ)) : Type 0 where
+  pub units : List Entry
+  pub leads : Serves units old.kernel.place locked q now new.kernel.place
+  pub makes : Makes locked units old new before after
+  pub keeps : KeepsThrough old new holds before after
+
+-- Units of serving the page lead to a kernel and a swap image, and there the machine stopped where the next one comes.
+pub record StopsServing (now : Bool) (locked : List Page) (q : Page) (old new : Standing) (before after : Option (List ℕ)) (stop : Stop) : Type 0 where
+  pub units : List Entry
+  pub kernel : Kernel
+  pub image : Option (List ℕ)
+  pub leads : Serves units old.kernel.place locked q now kernel.place
+  pub made : Made locked units old.kernel before kernel image
+  pub entry : Entry
+  pub next : serve_unit kernel.place q now ≡ Some entry
+  pub at : StopsAt entry kernel image stop new after
+  pub params : new.params ≡ old.params
+  pub images : new.images ≡ old.images

@@ -1,0 +1,78 @@
+-- What one unit of serving comes to, whether waiting is allowed or not.
+use Rattle.std.specs.Prelude.{◌≡◌, ℕ, ◌<◌, ◌≤◌, Bool, true, false, List, [], length, Option, None}
+use Rattle.vm_facts.specs.declared.page.Page.{Page}
+use Rattle.vm_facts.specs.declared.page.PageState.{PageState}
+use Rattle.vm_facts.specs.declared.page.PageState.TheVariants.{Coming, Going}
+use Rattle.vm_facts.specs.declared.stop.Stop.{Stop}
+use Rattle.vm_facts.specs.declared.entry.Entry.TheVariants as entries
+use Rattle.io_edge.specs.FileHolding.{NamedFile}
+use Rattle.page_model.specs.Pages.{frame_of, is_valid}
+use Rattle.page_model.specs.Placement.{Placement, state_of}
+use Rattle.machine_state.specs.Machine.{Standing}
+use Rattle.machine_state.specs.Done.{IsDone, ImageAfter, KeepsThrough}
+use Rattle.machine_state.specs.Settled.{IsSameBeside}
+use Rattle.paging_units.specs.Stops.{StopsAt}
+use Rattle.paging_units.specs.LastMoves.{last_moves}
+use Rattle.fault_fill.specs.Serving.{UnitMade, UnitStops, ServesTo}
+use Rattle.fault_fill.specs.declared.unit.Unit.{Unit as Came}
+use Rattle.fault_fill.specs.declared.unit.Unit.TheVariants as came
+
+-- a read or a write of the page is in flight
+abbrev pub is_flying : PageState → Bool
+is_flying (Coming f) = true
+is_flying (Going f) = true
+is_flying _ = false
+
+-- the page has no frame, and none is free
+pub record NeedsFrame (p : Placement) (q : Page) : Type 0 where
+  pub frameless : frame_of (state_of p q) ≡ None
+  pub none : p.free ≡ []
+
+-- a unit, or a stop, that is the next one whether waiting is allowed or not
+abbrev pub AnyUnit : Page → Standing → Standing → Option (List NamedFile) → Option (List ℕ) → Option (List ℕ) → Type 0
+AnyUnit q old new holds before after = (now : Bool) (locked : List Page) → UnitMade now locked q old new holds before after
+
+abbrev pub AnyStop : Page → Standing → Standing → Option (List ℕ) → Option (List ℕ) → Stop → Type 0
+AnyStop q old new before after stop = (now : Bool) → UnitStops now q old new before after stop
+
+-- a unit, or a stop, that calls no device
+abbrev pub PlainMade : Page → Standing → Standing → Type 0
+PlainMade q old new = (holds : Option (List NamedFile)) (image : Option (List ℕ)) → AnyUnit q old new holds image image
+
+abbrev pub PlainStop : Page → Standing → Standing → Stop → Type 0
+PlainStop q old new stop = (image : Option (List ℕ)) → AnyStop q old new image image stop
+
+-- the end of the oldest transfer
+pub record EndMade (old new : Standing) (holds : Option (List NamedFile)) (before after : Option (List ℕ)) : Type 0 where
+  pub done : IsDone old.kernel new.kernel
+  pub told : ImageAfter old.kernel before after
+  pub rest : IsSameBeside old new
+  pub keeps : KeepsThrough old new holds before after
+
+pub record EndStops (old new : Standing) (before after : Option (List ℕ)) (stop : Stop) : Type 0 where
+  pub at : StopsAt entries.Done old.kernel before stop new after
+  pub params : new.params ≡ old.params
+  pub images : new.images ≡ old.images
+
+-- nothing was done
+pub record NoneMade (old new : Standing) (before after : Option (List ℕ)) : Type 0 where
+  pub machine : new ≡ old
+  pub image : after ≡ before
+
+-- by what it came to
+abbrev pub ComesTo : Came → Page → Standing → Standing → Option (List NamedFile) → Option (List ℕ) → Option (List ℕ) → Type 0
+ComesTo came.Served q old new holds before after = NoneMade old new before after × (is_valid (state_of old.kernel.place q) ≡ true)
+ComesTo came.Nearer q old new holds before after = AnyUnit q old new holds before after
+ComesTo came.Waits q old new holds before after = NoneMade old new before after × (is_flying (state_of old.kernel.place q) ≡ true)
+ComesTo came.Starves q old new holds before after = NoneMade old new before after × NeedsFrame old.kernel.place q
+
+-- Where a call that serves the page now came to: further, by some units, after which a last entry that counts moves of the
+-- hands counts few where no frame is free; or it did nothing, since the page is valid.
+pub record Further (locked : List Page) (q : Page) (old new : Standing) (holds : Option (List NamedFile)) (before after : Option (List ℕ)) : Type 0 where
+  pub serves : ServesTo true locked q old new holds before after
+  pub some : 0 < length serves.units
+  pub low : new.kernel.place.free ≡ [] → last_moves new.kernel.journal ≤ 1000000
+
+abbrev pub GoesFurther : Bool → List Page → Page → Standing → Standing → Option (List NamedFile) → Option (List ℕ) → Option (List ℕ) → Type 0
+GoesFurther true locked q old new holds before after = Further locked q old new holds before after
+GoesFurther false locked q old new holds before after = NoneMade old new before after × (is_valid (state_of old.kernel.place q) ≡ true)

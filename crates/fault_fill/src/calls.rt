@@ -1,0 +1,81 @@
+//! The calls that serve a page.
+ghost use Rattle.std.specs.Prelude.{◌≡◌, ◌+◌, ◌≤◌, true, false, [], length, OnOk, OnErr, MatchResult};
+ghost use Rattle.page_model.specs.Conditions.{Spares};
+ghost use Rattle.page_model.specs.Rank.{HasRoom};
+ghost use Rattle.machine_state.specs.Files.{AreFiles};
+ghost use Rattle.machine_state.specs.Done.{CountsPages, CountsReads, CountsWrites};
+ghost use Rattle.paging_units.specs.LastMoves.{last_moves};
+ghost use Rattle.fault_fill.specs.Serving.{CanServe, StopsServing};
+ghost use Rattle.fault_fill.specs.Answers.{ServedAs, ServedNow, IsShort, AllStayValid};
+
+use crate::pages::{Served, serve_now_on, serve_on};
+use io_edge::{Files, SwapDev};
+use machine_state::Machine;
+use vm_facts::{Page, Stop};
+
+/// Serves a page as far as that needs no waiting: it is valid then, or a read or a write of it is in flight, or it has no
+/// frame and none is free. Other valid pages stay valid.
+pub fn serve_page<F: Files, D: SwapDev>(
+    m: &mut Machine,
+    files: &mut F,
+    swap: &mut D,
+    page: Page,
+) -> Result<Served, Stop>
+    requires running { m.old.kernel.stopped ≡ false }
+    requires whole { m.old.before ≡ m.old.kernel.holdings }
+    requires area { m.old.params.swap_blocks ≤ D.blocks swap.old }
+    requires files { AreFiles m.old.images (F.holds files.old) }
+    requires can { CanServe m.old.kernel.place page }
+    ensures served { MatchResult result (λ answer. ServedAs answer page m.old m.new (F.holds files.old) (D.image swap.old) (D.image swap.new))
+        (StopsServing false [] page m.old m.new (D.image swap.old) (D.image swap.new)) }
+    ensures few { OnOk result (IsShort page m.old m.new) }
+    ensures few_at_stop { OnErr result (length m.new.kernel.journal ≤ length m.old.kernel.journal + length m.old.kernel.place.transfers + 5) }
+    ensures low { OnOk result (last_moves m.new.kernel.journal ≤ last_moves m.old.kernel.journal) }
+    ensures stay { OnOk result (AllStayValid m.old.kernel.place m.new.kernel.place) }
+    ensures files_lead { F.leads files.old files.new }
+    ensures swap_leads { D.leads swap.old swap.new }
+    ensures holds { F.holds files.new ≡ F.holds files.old }
+    ensures blocks { D.blocks swap.new ≡ D.blocks swap.old }
+    ensures open_faults { F.open_faults files.new ≡ F.open_faults files.old }
+    ensures page_faults { CountsPages result (F.page_faults files.old) (F.page_faults files.new) }
+    ensures read_faults { CountsReads result (D.read_faults swap.old) (D.read_faults swap.new) }
+    ensures write_faults { CountsWrites result (D.write_faults swap.old) (D.write_faults swap.new) }
+{
+    m.sound();
+    serve_on(m, files, swap, page)
+}
+
+/// Serves a page until it is valid: transfers complete in order while it waits for one, and a frame is forced where none
+/// is free, by hands that pass over the locked pages.
+pub fn serve_page_now<F: Files, D: SwapDev>(
+    m: &mut Machine,
+    files: &mut F,
+    swap: &mut D,
+    page: Page,
+    locked: &[Page],
+) -> Result<(), Stop>
+    requires running { m.old.kernel.stopped ≡ false }
+    requires whole { m.old.before ≡ m.old.kernel.holdings }
+    requires area { m.old.params.swap_blocks ≤ D.blocks swap.old }
+    requires files { AreFiles m.old.images (F.holds files.old) }
+    requires can { CanServe m.old.kernel.place page }
+    requires room { HasRoom m.old.kernel.place locked.now }
+    requires low { last_moves m.old.kernel.journal ≤ 1000000 }
+    ensures served { MatchResult result (λ u. ServedNow locked.now page m.old m.new (F.holds files.old) (D.image swap.old) (D.image swap.new))
+        (StopsServing true locked.now page m.old m.new (D.image swap.old) (D.image swap.new)) }
+    ensures few { OnOk result (IsShort page m.old m.new) }
+    ensures few_at_stop { OnErr result (length m.new.kernel.journal ≤ length m.old.kernel.journal + length m.old.kernel.place.transfers + 5) }
+    ensures low { OnOk result (last_moves m.new.kernel.journal ≤ last_moves m.old.kernel.journal) }
+    ensures spares { OnOk result (Spares m.old.kernel.place m.new.kernel.place locked.now) }
+    ensures files_lead { F.leads files.old files.new }
+    ensures swap_leads { D.leads swap.old swap.new }
+    ensures holds { F.holds files.new ≡ F.holds files.old }
+    ensures blocks { D.blocks swap.new ≡ D.blocks swap.old }
+    ensures open_faults { F.open_faults files.new ≡ F.open_faults files.old }
+    ensures page_faults { CountsPages result (F.page_faults files.old) (F.page_faults files.new) }
+    ensures read_faults { CountsReads result (D.read_faults swap.old) (D.read_faults swap.new) }
+    ensures write_faults { CountsWrites result (D.write_faults swap.old) (D.write_faults swap.new) }
+{
+    m.sound();
+    serve_now_on(m, files, swap, page, locked)
+}

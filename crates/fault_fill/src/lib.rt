@@ -1,0 +1,13 @@
+//! Pages that are touched come in: each by its state, until it is usable (the 4.3BSD book).
+#![tactic(auto)]
+
+mod access;
+mod calls;
+mod pages;
+mod touch;
+mod unit;
+
+pub use access::{Access, access_in};
+pub use calls::{serve_page, serve_page_now};
+pub use pages::Served as Came;
+pub use touch::{Served, serve, serve_now};

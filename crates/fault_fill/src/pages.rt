@@ -1,0 +1,145 @@
+//! Pages are served, unit by unit.
+ghost use Rattle.std.specs.Prelude.{◌≡◌, ◌≤◌, true, false, [], MatchResult};
+ghost use Rattle.machine_state.specs.Files.{AreFiles};
+ghost use Rattle.machine_state.specs.Done.{CountsPages, CountsReads, CountsWrites};
+ghost use Rattle.page_model.specs.Rank.{HasRoom};
+ghost use Rattle.paging_units.specs.LastMoves.{last_moves};
+ghost use Rattle.fault_fill.specs.Serving.{CanServe, StopsServing};
+ghost use Rattle.fault_fill.specs.Units.{GoesFurther};
+ghost use Rattle.fault_fill.specs.Answers.{ServesAs, ServesNow};
+
+use crate::unit::{Unit, finish, serve_unit};
+use clock_hands::make_room;
+use io_edge::{Files, SwapDev};
+use machine_state::Machine;
+use vm_facts::{Page, Stop};
+
+/// What serving a page comes to.
+#[derive(Clone, Copy, Debug, PartialEq, Eq, Drop)]
+pub enum Served {
+    /// The page is valid.
+    Valid,
+    /// A read or a write of the page is in flight.
+    Asleep(Page),
+    /// The page has no frame, and none is free.
+    NoFrame,
+}
+
+// Serves a page as far as that needs no waiting.
+pub(crate) fn serve_on<F: Files, D: SwapDev>(
+    m: &mut Machine,
+    files: &mut F,
+    swap: &mut D,
+    page: Page,
+) -> Result<Served, Stop>
+    requires running { m.old.kernel.stopped ≡ false }
+    requires whole { m.old.before ≡ m.old.kernel.holdings }
+    requires area { m.old.params.swap_blocks ≤ D.blocks swap.old }
+    requires files { AreFiles m.old.images (F.holds files.old) }
+    requires can { CanServe m.old.kernel.place page }
+    ensures served { MatchResult result (λ answer. ServesAs answer page m.old m.new (F.holds files.old) (D.image swap.old) (D.image swap.new))
+        (StopsServing false [] page m.old m.new (D.image swap.old) (D.image swap.new)) }
+    ensures files_lead { F.leads files.old files.new }
+    ensures swap_leads { D.leads swap.old swap.new }
+    ensures holds { F.holds files.new ≡ F.holds files.old }
+    ensures blocks { D.blocks swap.new ≡ D.blocks swap.old }
+    ensures open_faults { F.open_faults files.new ≡ F.open_faults files.old }
+    ensures page_faults { CountsPages result (F.page_faults files.old) (F.page_faults files.new) }
+    ensures read_faults { CountsReads result (D.read_faults swap.old) (D.read_faults swap.new) }
+    ensures write_faults { CountsWrites result (D.write_faults swap.old) (D.write_faults swap.new) }
+{
+    m.sound();
+    let unit = match serve_unit(m, files, swap, page) {
+        Ok(unit) => unit,
+        Err(stop) => return Err(stop),
+    };
+    match unit {
+        Unit::Served => Ok(Served::Valid),
+        Unit::Nearer => serve_on(m, files, swap, page),
+        Unit::Waits => Ok(Served::Asleep(page)),
+        Unit::Starves => Ok(Served::NoFrame),
+    }
+}
+
+// Units of serving a page, waiting included: false comes exactly where it is valid.
+fn serve_further<F: Files, D: SwapDev>(
+    m: &mut Machine,
+    files: &mut F,
+    swap: &mut D,
+    page: Page,
+    locked: &[Page],
+) -> Result<bool, Stop>
+    requires running { m.old.kernel.stopped ≡ false }
+    requires whole { m.old.before ≡ m.old.kernel.holdings }
+    requires area { m.old.params.swap_blocks ≤ D.blocks swap.old }
+    requires files { AreFiles m.old.images (F.holds files.old) }
+    requires can { CanServe m.old.kernel.place page }
+    requires room { HasRoom m.old.kernel.place locked.now }
+    requires low { m.old.kernel.place.free ≡ [] → last_moves m.old.kernel.journal ≤ 1000000 }
+    ensures made { MatchResult result (λ more. GoesFurther more locked.now page m.old m.new (F.holds files.old) (D.image swap.old) (D.image swap.new))
+        (StopsServing true locked.now page m.old m.new (D.image swap.old) (D.image swap.new)) }
+    ensures files_lead { F.leads files.old files.new }
+    ensures swap_leads { D.leads swap.old swap.new }
+    ensures holds { F.holds files.new ≡ F.holds files.old }
+    ensures blocks { D.blocks swap.new ≡ D.blocks swap.old }
+    ensures open_faults { F.open_faults files.new ≡ F.open_faults files.old }
+    ensures page_faults { CountsPages result (F.page_faults files.old) (F.page_faults files.new) }
+    ensures read_faults { CountsReads result (D.read_faults swap.old) (D.read_faults swap.new) }
+    ensures write_faults { CountsWrites result (D.write_faults swap.old) (D.write_faults swap.new) }
+{
+    m.sound();
+    let unit = match serve_unit(m, files, swap, page) {
+        Ok(unit) => unit,
+        Err(stop) => return Err(stop),
+    };
+    match unit {
+        Unit::Served => Ok(false),
+        Unit::Nearer => Ok(true),
+        Unit::Waits => match finish(m, files, swap) {
+            Ok(()) => Ok(true),
+            Err(stop) => Err(stop),
+        },
+        Unit::Starves => match make_room(m, files, swap, locked) {
+            Ok(()) => Ok(true),
+            Err(stop) => Err(stop),
+        },
+    }
+}
+
+// Serves a page until it is valid.
+pub(crate) fn serve_now_on<F: Files, D: SwapDev>(
+    m: &mut Machine,
+    files: &mut F,
+    swap: &mut D,
+    page: Page,
+    locked: &[Page],
+) -> Result<(), Stop>
+    requires running { m.old.kernel.stopped ≡ false }
+    requires whole { m.old.before ≡ m.old.kernel.holdings }
+    requires area { m.old.params.swap_blocks ≤ D.blocks swap.old }
+    requires files { AreFiles m.old.images (F.holds files.old) }
+    requires can { CanServe m.old.kernel.place page }
+    requires room { HasRoom m.old.kernel.place locked.now }
+    requires low { m.old.kernel.place.free ≡ [] → last_moves m.old.kernel.journal ≤ 1000000 }
+    ensures served { MatchResult result (λ u. ServesNow locked.now page m.old m.new (F.holds files.old) (D.image swap.old) (D.image swap.new))
+        (StopsServing true locked.now page m.old m.new (D.image swap.old) (D.image swap.new)) }
+    ensures files_lead { F.leads files.old files.new }
+    ensures swap_leads { D.leads swap.old swap.new }
+    ensures holds { F.holds files.new ≡ F.holds files.old }
+    ensures blocks { D.blocks swap.new ≡ D.blocks swap.old }
+    ensures open_faults { F.open_faults files.new ≡ F.open_faults files.old }
+    ensures page_faults { CountsPages result (F.page_faults files.old) (F.page_faults files.new) }
+    ensures read_faults { CountsReads result (D.read_faults swap.old) (D.read_faults swap.new) }
+    ensures write_faults { CountsWrites result (D.write_faults swap.old) (D.write_faults swap.new) }
+{
+    m.sound();
+    let more = match serve_further(m, files, swap, page, locked) {
+        Ok(more) => more,
+        Err(stop) => return Err(stop),
+    };
+    if more {
+        serve_now_on(m, files, swap, page, locked)
+    } else {
+        Ok(())
+    }
+}

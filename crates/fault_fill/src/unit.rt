@@ -1,0 +1,241 @@
+//! One unit of serving a page, by the state of the page.
+ghost use Rattle.std.specs.Prelude.{◌≡◌, ℕ, ◌+◌, ◌<◌, ◌≤◌, ◌^◌, true, false, [], length, None, MatchResult};
+ghost use Rattle.core_map.specs.Frames.{Frames};
+ghost use Rattle.page_model.specs.Pages.{frame_of};
+ghost use Rattle.page_model.specs.Placement.{IsThere, state_of, filling_of};
+ghost use Rattle.page_model.specs.Conditions.{IsShared};
+ghost use Rattle.flat_state.specs.PageNames.{number_of};
+ghost use Rattle.vm_facts.specs.declared.page.PageState.TheVariants.{Invalid};
+ghost use Rattle.page_model.specs.Runs.{run_in, spare_frames};
+ghost use Rattle.kernel_model.specs.Asks.{HasSpace};
+ghost use Rattle.table_view.specs.Views.{IsNamedBy, ShowsSpace};
+ghost use Rattle.machine_state.specs.Showing.{ShowsCore};
+ghost use Rattle.machine_state.specs.PlaceOf.{is_blank};
+ghost use Rattle.machine_state.specs.Files.{AreFiles};
+ghost use Rattle.machine_state.specs.Done.{CountsPages, CountsReads, CountsWrites};
+ghost use Rattle.fault_fill.specs.Homes.{IsHome};
+ghost use Rattle.fault_fill.specs.Serving.{CanServe};
+ghost use Rattle.fault_fill.specs.Units.{PlainMade, PlainStop, AnyUnit, AnyStop, EndMade, EndStops, ComesTo};
+
+use io_edge::{Files, SwapDev};
+use kluster_io::pick_in;
+use machine_state::Machine;
+use space_map::SpaceMap;
+use vm_facts::{Page, PageState, Stop};
+
+/// The transfers that may be in flight.
+const MOST_IN_FLIGHT: u32 = 16;
+
+// What a unit of serving a page comes to.
+pub(crate) enum Unit {
+    // The page is valid.
+    Served,
+    // One step nearer.
+    Nearer,
+    // It waits for a transfer of the page.
+    Waits,
+    // It waits for a free frame.
+    Starves,
+}
+
+// The space that has a page of its own, or the lowest one that shares the page's text.
+fn home_of(m: &Machine, page: Page) -> u32
+    requires running { m.now.kernel.stopped ≡ false }
+    requires there { IsThere m.now.kernel.place page }
+    requires shared { IsShared m.now.kernel.place page }
+    ensures space { HasSpace m.now.kernel.place result }
+    ensures home { IsHome m.now.kernel.place page result }
+{
+    m.sound();
+    match page {
+        Page::Data { sid, .. } | Page::Stack { sid, .. } => sid,
+        Page::Text { image, .. } => match m.sharer(image) {
+            Some(sid) => sid,
+            None => unreachable!(),
+        },
+    }
+}
+
+// Its map.
+fn space_of(m: &Machine, page: Page) -> &SpaceMap
+    requires running { m.now.kernel.stopped ≡ false }
+    requires there { IsThere m.now.kernel.place page }
+    requires shared { IsShared m.now.kernel.place page }
+    ensures named { IsNamedBy result.now page }
+    ensures shows { (core : Frames) → ShowsCore m.now.kernel.place core → ShowsSpace m.now.kernel.place core result.now }
+{
+    match m.space(home_of(m, page)) {
+        Some(space) => space,
+        None => unreachable!(),
+    }
+}
+
+// The frames that the read of a page may take.
+fn spare_of(m: &Machine) -> u32
+    requires { m.now.kernel.stopped ≡ false }
+    ensures { result ≡ spare_frames m.now.kernel.place }
+{
+    m.free_frames().saturating_sub(m.core().frames() / 8).max(1)
+}
+
+// The run of the read of a page.
+fn run_of(m: &Machine, page: Page) -> (u32, u32)
+    requires running { m.now.kernel.stopped ≡ false }
+    requires there { IsThere m.now.kernel.place page }
+    requires shared { IsShared m.now.kernel.place page }
+    ensures run { run_in m.now.kernel.place page ≡ record { lo = result.0; n = result.1 } }
+    ensures small { number_of page ≤ 4096 }
+{
+    let space = space_of(m, page);
+    let core = m.core();
+    let _sizes = (space.data_pages(), space.stack_pages(), space.text_pages());
+    pick_in(space, core, page, spare_of(m))
+}
+
+// The page is filled with zeros.
+fn zero(m: &mut Machine, page: Page) -> Result<(), Stop>
+    requires running { m.old.kernel.stopped ≡ false }
+    requires whole { m.old.before ≡ m.old.kernel.holdings }
+    requires can { CanServe m.old.kernel.place page }
+    requires blank { is_blank (state_of m.old.kernel.place page) (filling_of m.old.kernel.place page) ≡ true }
+    requires free { 0 < length m.old.kernel.place.free }
+    ensures made { MatchResult result (λ u. PlainMade page m.old m.new) (PlainStop page m.old m.new) }
+    ensures page_faults { (n : ℕ) → CountsPages result n n }
+    ensures read_faults { (n : ℕ) → CountsReads result n n }
+    ensures write_faults { (n : ℕ) → CountsWrites result n n }
+{
+    m.fill_zero(page)
+}
+
+// The read of the page begins, with its run.
+fn read(m: &mut Machine, page: Page) -> Result<(), Stop>
+    requires running { m.old.kernel.stopped ≡ false }
+    requires whole { m.old.before ≡ m.old.kernel.holdings }
+    requires can { CanServe m.old.kernel.place page }
+    requires frameless { frame_of (state_of m.old.kernel.place page) ≡ None }
+    requires filled { is_blank (state_of m.old.kernel.place page) (filling_of m.old.kernel.place page) ≡ false }
+    requires free { 0 < length m.old.kernel.place.free }
+    requires few { length m.old.kernel.place.transfers < 16 }
+    ensures made { MatchResult result (λ u. PlainMade page m.old m.new) (PlainStop page m.old m.new) }
+    ensures page_faults { (n : ℕ) → CountsPages result n n }
+    ensures read_faults { (n : ℕ) → CountsReads result n n }
+    ensures write_faults { (n : ℕ) → CountsWrites result n n }
+{
+    m.sound();
+    let (lo, n) = run_of(m, page);
+    m.begin_get(page, lo, n)
+}
+
+// The page is usable again.
+fn revive(m: &mut Machine, page: Page, frame: u32) -> Result<(), Stop>
+    requires running { m.old.kernel.stopped ≡ false }
+    requires whole { m.old.before ≡ m.old.kernel.holdings }
+    requires can { CanServe m.old.kernel.place page }
+    requires invalid { state_of m.old.kernel.place page ≡ Invalid frame }
+    ensures made { MatchResult result (λ u. PlainMade page m.old m.new) (PlainStop page m.old m.new) }
+    ensures page_faults { (n : ℕ) → CountsPages result n n }
+    ensures read_faults { (n : ℕ) → CountsReads result n n }
+    ensures write_faults { (n : ℕ) → CountsWrites result n n }
+{
+    m.reclaim(page)
+}
+
+// The oldest transfer completes.
+pub(crate) fn finish<F: Files, D: SwapDev>(
+    m: &mut Machine,
+    files: &mut F,
+    swap: &mut D,
+) -> Result<(), Stop>
+    requires running { m.old.kernel.stopped ≡ false }
+    requires whole { m.old.before ≡ m.old.kernel.holdings }
+    requires area { m.old.params.swap_blocks ≤ D.blocks swap.old }
+    requires files { AreFiles m.old.images (F.holds files.old) }
+    requires some { 0 < length m.old.kernel.place.transfers }
+    ensures made { MatchResult result (λ u. EndMade m.old m.new (F.holds files.old) (D.image swap.old) (D.image swap.new))
+        (EndStops m.old m.new (D.image swap.old) (D.image swap.new)) }
+    ensures files_lead { F.leads files.old files.new }
+    ensures swap_leads { D.leads swap.old swap.new }
+    ensures holds { F.holds files.new ≡ F.holds files.old }
+    ensures blocks { D.blocks swap.new ≡ D.blocks swap.old }
+    ensures open_faults { F.open_faults files.new ≡ F.open_faults files.old }
+    ensures page_faults { CountsPages result (F.page_faults files.old) (F.page_faults files.new) }
+    ensures read_faults { CountsReads result (D.read_faults swap.old) (D.read_faults swap.new) }
+    ensures write_faults { CountsWrites result (D.write_faults swap.old) (D.write_faults swap.new) }
+{
+    m.done(files, swap)?;
+    Ok(())
+}
+
+// A page that has no frame is filled with zeros, or its read begins; before that a transfer completes where 16 are in
+// flight. A frame is free.
+fn fill<F: Files, D: SwapDev>(
+    m: &mut Machine,
+    files: &mut F,
+    swap: &mut D,
+    page: Page,
+) -> Result<(), Stop>
+    requires running { m.old.kernel.stopped ≡ false }
+    requires whole { m.old.before ≡ m.old.kernel.holdings }
+    requires area { m.old.params.swap_blocks ≤ D.blocks swap.old }
+    requires files { AreFiles m.old.images (F.holds files.old) }
+    requires can { CanServe m.old.kernel.place page }
+    requires frameless { frame_of (state_of m.old.kernel.place page) ≡ None }
+    requires free { 0 < length m.old.kernel.place.free }
+    ensures made { MatchResult result (λ u. AnyUnit page m.old m.new (F.holds files.old) (D.image swap.old) (D.image swap.new))
+        (AnyStop page m.old m.new (D.image swap.old) (D.image swap.new)) }
+    ensures files_lead { F.leads files.old files.new }
+    ensures swap_leads { D.leads swap.old swap.new }
+    ensures holds { F.holds files.new ≡ F.holds files.old }
+    ensures blocks { D.blocks swap.new ≡ D.blocks swap.old }
+    ensures open_faults { F.open_faults files.new ≡ F.open_faults files.old }
+    ensures page_faults { CountsPages result (F.page_faults files.old) (F.page_faults files.new) }
+    ensures read_faults { CountsReads result (D.read_faults swap.old) (D.read_faults swap.new) }
+    ensures write_faults { CountsWrites result (D.write_faults swap.old) (D.write_faults swap.new) }
+{
+    m.sound();
+    if m.is_blank(page) {
+        return zero(m, page);
+    }
+    if m.in_flight() == MOST_IN_FLIGHT {
+        return finish(m, files, swap);
+    }
+    read(m, page)
+}
+
+// One unit of serving a page that needs no waiting.
+pub(crate) fn serve_unit<F: Files, D: SwapDev>(
+    m: &mut Machine,
+    files: &mut F,
+    swap: &mut D,
+    page: Page,
+) -> Result<Unit, Stop>
+    requires running { m.old.kernel.stopped ≡ false }
+    requires whole { m.old.before ≡ m.old.kernel.holdings }
+    requires area { m.old.params.swap_blocks ≤ D.blocks swap.old }
+    requires files { AreFiles m.old.images (F.holds files.old) }
+    requires can { CanServe m.old.kernel.place page }
+    ensures made { MatchResult result (λ u. ComesTo u page m.old m.new (F.holds files.old) (D.image swap.old) (D.image swap.new))
+        (AnyStop page m.old m.new (D.image swap.old) (D.image swap.new)) }
+    ensures files_lead { F.leads files.old files.new }
+    ensures swap_leads { D.leads swap.old swap.new }
+    ensures holds { F.holds files.new ≡ F.holds files.old }
+    ensures blocks { D.blocks swap.new ≡ D.blocks swap.old }
+    ensures open_faults { F.open_faults files.new ≡ F.open_faults files.old }
+    ensures page_faults { CountsPages result (F.page_faults files.old) (F.page_faults files.new) }
+    ensures read_faults { CountsReads result (D.read_faults swap.old) (D.read_faults swap.new) }
+    ensures write_faults { CountsWrites result (D.write_faults swap.old) (D.write_faults swap.new) }
+{
+    match m.state_of(page) {
+        Some(PageState::Valid(_)) => return Ok(Unit::Served),
+        Some(PageState::Invalid(frame)) => revive(m, page, frame)?,
+        Some(PageState::Coming(_) | PageState::Going(_)) => return Ok(Unit::Waits),
+        Some(PageState::Unfilled | PageState::OnSwap) => {
+            if m.free_frames() == 0 {
+                return Ok(Unit::Starves);
+            }
+            fill(m, files, swap, page)?;
+        }
+        None => unreachable!(),
+    }
+    Ok(Unit::Nearer)
+}
