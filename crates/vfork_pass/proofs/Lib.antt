@@ -1,0 +1,4 @@
+pub mod Walk
+pub mod FirstLender
+pub mod Lives
+pub mod Returned

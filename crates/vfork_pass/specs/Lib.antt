@@ -1,0 +1,2 @@
+pub mod Lenders
+pub mod Passed
