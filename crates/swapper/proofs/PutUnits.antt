@@ -1,0 +1,326 @@
+-- Putting a process out, unit by unit.
+use Rattle.std.proofs.Common.{◌≡◌, ◌≢◌, ◌⊎◌, inl, inr, ℕ, ◌+◌, ◌<◌, ◌≤◌, ◌&&◌, Bool, true, false, cond, List, [], ◌∷◌, ◌++◌, length, Option, Some, None, Result, Ok, Err, OnOk, OnErr, IfErr, refl, sym, ap, ◌∙◌, subst, arith, ◌↔◌}
+use Rattle.std.proofs.lemmas.Bool.{and_parts, leb-false}
+use Rattle.std.proofs.lemmas.List.{length-append}
+use Rattle.std.proofs.lemmas.Option.{same_Some}
+use Rattle.vm_facts.specs.declared.page.Page.{Page}
+use Rattle.vm_facts.specs.declared.page.Page.TheVariants.{Data, Stack, Text}
+use Rattle.vm_facts.specs.declared.entry.Entry.{Entry}
+use Rattle.vm_facts.specs.declared.entry.Entry.TheVariants as entries
+use Rattle.vm_facts.specs.declared.params.Params.{Params}
+use Rattle.vm_facts.specs.declared.stop.Stop.{Stop}
+use Rattle.vm_facts.specs.declared.stop.Stop.TheVariants as stops
+use Rattle.io_edge.specs.FileHolding.{NamedFile}
+use Rattle.flat_state.specs.Journal.{append, IsPlain}
+use Rattle.flat_state.specs.PageNames.{number_of, beside, pages_from}
+use Rattle.flat_state.proofs.Joins.{append_plain}
+use Rattle.page_model.specs.Pages.{SpacePages, numbered}
+use Rattle.page_model.specs.Placement.{Placement, Residence, space_number, is_dirty}
+use Rattle.page_model.specs.Runs.{is_seated, is_near, run_put, run_put_by, run_up, most_written}
+use Rattle.page_model.specs.Serve.{is_full}
+use Rattle.page_model.specs.Place.{moved, place_entry, data_from, stack_from, data_count, stack_count, pages_of_space}
+use Rattle.page_model.specs.Swapper.{is_out, first_seated, put_unit_by, put_out_by, put_out_if, put_out_unit}
+use Rattle.page_model.specs.PuttingOut.{IsResident, PutsOut, put_rank}
+use Rattle.page_model.specs.Conditions.{EachPage}
+use Rattle.page_model.specs.Ownership.{OwnsFrames}
+use Rattle.page_model.specs.PageBytes.{IsWritable}
+use Rattle.page_laws.proofs.Lists.Local.{none_some}
+use Rattle.page_laws.proofs.Lists.Runs.{pages_from_each, run_each, run_up_in}
+use Rattle.page_laws.proofs.Moves.Puts.{SameRest, rest_by_puts, done_kept, put_step_kept}
+use Rattle.page_laws.proofs.Ownership.Runs.{seated_seat}
+use Rattle.page_laws.proofs.Runs.Widest.{above_le}
+use Rattle.page_laws.proofs.Swapper.PuttingOut.{seated_first, run_some, run_seats, same_out, unit_falls}
+use Rattle.page_laws.proofs.Swapper.Residences.{moved_own}
+use Rattle.kernel_model.specs.Kernel.{Kernel, HoldsSpace, Proc, out_step}
+use Rattle.kernel_model.specs.ChangeStep.{life_of_proc}
+use Rattle.kernel_model.specs.Numbers.{EachResides}
+use Rattle.kernel_model.specs.Sound.{lives_in, has_life}
+use Rattle.kernel_laws.proofs.Machine.Swaps.{out_record}
+use Rattle.kernel_model.specs.Unit.{proc_of}
+use Rattle.kernel_laws.proofs.Machine.Shapes.{shape_in}
+use Rattle.machine_state.specs.Sourced.{ImageNamed}
+use Rattle.machine_state.specs.Machine.{Standing}
+use Rattle.machine_state.specs.Files.{AreFiles}
+use Rattle.machine_state.specs.Settled.{IsSameBeside}
+use Rattle.machine_state.specs.Calls.{life_in, AreAlike, CanPush, CanGoOut}
+use Rattle.machine_state.specs.Conditions.{HasStopped}
+use Rattle.machine_state.specs.Swapping.{WritesU, SwapBehind}
+use Rattle.paging_units.specs.Made.{MakesUnit}
+use Rattle.paging_units.specs.Stops.{StopsAt, SpoilsBy}
+use Rattle.paging_units.proofs.Units.{unit_place, unit_journal, unit_same, unit_whole}
+use Rattle.paging_units.proofs.Keeping.{unit_shaped}
+use Rattle.paging_units.proofs.Stopping.{plain_longer}
+use Rattle.swapper.specs.declared.putting_out.Step.{Step}
+use Rattle.swapper.specs.declared.putting_out.Step.TheVariants as steps
+use Rattle.swapper.specs.Putting.{IsOfSegment, IsStep, IsNext, HoldsThere, PutOut, StopsPutting}
+
+-- The first page in a frame off the free list.
+
+each_both : (P : Page → Type 0) (qs rs : List Page) → EachPage P qs → EachPage P rs → EachPage P (qs ++ rs)
+each_both P [] rs a b = b
+each_both P (q ∷ qs) rs a b = (a.0, each_both P qs rs a.1 b)
+
+first_each : (P : Page → Type 0) (p : Placement) (qs : List Page) (q : Page) → EachPage P qs → first_seated p qs ≡ Some q → P q
+first_each P p [] q a e = none_some q e
+first_each P p (r ∷ qs) q a e = go (is_seated p r) e (first_each P p qs q a.1)
+  where
+    go : (b : Bool) → cond b (Some r) (first_seated p qs) ≡ Some q → (first_seated p qs ≡ Some q → P q) → P q
+    go true k ih = subst P (same_Some r q k) a.0
+    go false k ih = ih k
+
+pub first_own : (p : Placement) (sid : ℕ) (q : Page) → first_seated p (pages_of_space p sid) ≡ Some q → IsOfSegment sid q
+first_own p sid q e = first_each (IsOfSegment sid) p (pages_of_space p sid) q
+    (each_both (IsOfSegment sid) (data_from sid 0 (data_count p sid)) (stack_from sid 0 (stack_count p sid))
+    (pages_from_each (IsOfSegment sid) (Data sid 0) 0 (data_count p sid) (λ w l m. refl)) (pages_from_each (IsOfSegment sid) (Stack sid 0) 0 (stack_count p sid) (λ w l m. refl)))
+    e
+
+pub first_is_seated : (p : Placement) (sid : ℕ) (q : Page) → first_seated p (pages_of_space p sid) ≡ Some q → is_seated p q ≡ true
+first_is_seated p sid q e = seated_first p (pages_of_space p sid) q e
+
+-- The page and those that go along may leave their frames.
+
+own_writable : (sid : ℕ) (q : Page) → IsOfSegment sid q → IsWritable q
+own_writable sid (Data s v) o = tt
+own_writable sid (Stack s v) o = tt
+own_writable sid (Text image v) o = o
+
+few_pages : (p : Placement) (q : Page) → (run_put p q).n ≤ 16
+few_pages p q = go (is_dirty p q)
+  where
+    passes : ℕ → Bool
+    passes w = is_seated p (beside q w) && (is_dirty p (beside q w) && is_near q w)
+
+    go : (b : Bool) → (run_put_by p q b).n ≤ 16
+    go true = let l = above_le passes (number_of q) 15 in omega arith
+    go false = omega arith
+
+alike : (p : Placement) (q : Page) → (is_dirty p q && is_full p) ≡ false → AreAlike p q (run_put p q).n (is_dirty p q)
+alike p q r = go (is_dirty p q) refl r
+  where
+    passes : ℕ → Bool
+    passes w = is_seated p (beside q w) && (is_dirty p (beside q w) && is_near q w)
+
+    go : (b : Bool) → is_dirty p q ≡ b → (b && is_full p) ≡ false → AreAlike p q (run_put_by p q b).n b
+    go true e f = (
+      run_each (λ w. is_dirty p w ≡ true) passes q (run_up passes (number_of q) most_written) (run_up_in passes (number_of q) most_written) e
+          (λ w h. (and_parts (is_dirty p (beside q w)) (is_near q w) (and_parts (is_seated p (beside q w)) (is_dirty p (beside q w) && is_near q w) h).1).0),
+      leb-false 16 (length p.transfers) f,
+    )
+    go false e f = refl
+
+pub can_push : (p : Placement) (sid n : ℕ) (q : Page) → p.due ≡ [] → IsOfSegment sid q → is_seated p q ≡ true → (is_dirty p q && is_full p) ≡ false → n ≡ (run_put p q).n → CanPush p q n
+can_push p sid n q d o s r e = subst (CanPush p q) (sym e) (record {
+  clear = d;
+  writable = own_writable sid q o;
+  some = run_some p q;
+  most = few_pages p q;
+  seats = run_seats p q (seated_seat p q s);
+  alike = alike p q r;
+})
+
+-- What each unit is.
+
+pub step_case : (P : Entry → Type 0) (p : Placement) (pid sid : ℕ) (step : Step) → IsStep p sid step → P entries.Done → ((q : Page) → P (entries.Put q (run_put p q).n)) → P (put_out_unit p pid sid)
+step_case P p pid sid steps.Wait s d u = subst P (sym (s.1 pid)) d
+step_case P p pid sid (steps.Put q) s d u =
+    subst P (sym (ap (put_out_if p pid sid) s.0 ∙ ap (put_out_by p pid) s.1 ∙ ap (put_unit_by p q) s.2)) (u q)
+
+pub last_unit : (p : Placement) (pid sid : ℕ) → IsNext p sid None → put_out_unit p pid sid ≡ entries.SwapOut pid
+last_unit p pid sid n = ap (put_out_if p pid sid) n.0 ∙ ap (put_out_by p pid) n.1
+
+rest_kept : (p : Placement) (pid sid at : ℕ) (step : Step) → IsStep p sid step → SameRest p (place_entry [] at p (put_out_unit p pid sid))
+rest_kept p pid sid at step s =
+    step_case (λ (e : Entry). SameRest p (place_entry [] at p e)) p pid sid step s (done_kept rest_by_puts p)
+    (λ q. put_step_kept rest_by_puts p q (pages_from q (number_of q) (run_put p q).n))
+
+step_plain : (p : Placement) (pid sid : ℕ) (step : Step) → IsStep p sid step → IsPlain (put_out_unit p pid sid)
+step_plain p pid sid step s = step_case IsPlain p pid sid step s tt (λ q. tt)
+
+one_more : (journal : List Entry) (e : Entry) → IsPlain e → length (append journal e) ≡ length journal + 1
+one_more journal e p = ap (λ (js : List Entry). length js) (append_plain journal e p) ∙ length-append journal (e ∷ [])
+
+beside_both : (a b c : Standing) → IsSameBeside a b → IsSameBeside b c → IsSameBeside a c
+beside_both a b c f g = record { params = g.params ∙ f.params; images = g.images ∙ f.images; before = g.before ∙ f.before }
+
+err_same : {A : Type 0} (s t : Stop) → (let r : Result A Stop = Err s in r) ≡ Err t → s ≡ t
+err_same s t e = cc
+
+-- What holds of the machine, for the next unit.
+
+pub record Puts (s : Standing) (holds : Option (List NamedFile)) (blocks pid sid : ℕ) : Type 0 where
+  pub running : s.kernel.stopped ≡ false
+  pub whole : s.before ≡ s.kernel.holdings
+  pub area : s.params.swap_blocks ≤ blocks
+  pub files : AreFiles s.images holds
+  pub clear : s.kernel.place.due ≡ []
+  pub holds_there : HoldsThere s.kernel pid sid
+  pub resident : is_out s.kernel.place pid ≡ false
+
+same_there : (o w : Option SpacePages) → shape_in w ≡ shape_in o → o ≢ None → w ≢ None
+same_there None w e n = absurd (n refl)
+same_there (Some x) None e n = absurd cc
+same_there (Some x) (Some y) e n = λ k. absurd cc
+
+module _ (old next : Standing) (pid sid : ℕ) (step : Step) (i h : Option (List ℕ)) (s : IsStep old.kernel.place sid step) (m : MakesUnit [] (put_out_unit old.kernel.place pid sid) old next i h) where
+  abbrev e : Entry
+  e = put_out_unit old.kernel.place pid sid
+
+  longer : length (append old.kernel.journal e) ≡ length old.kernel.journal + 1
+  longer = one_more old.kernel.journal e (step_plain old.kernel.place pid sid step s)
+
+  place_is : next.kernel.place ≡ place_entry [] (length old.kernel.journal + 1) old.kernel.place e
+  place_is = unit_place [] e old.kernel next.kernel m.made ∙ ap (λ (at : ℕ). place_entry [] at old.kernel.place e) longer
+
+  journal_is : length next.kernel.journal ≡ length old.kernel.journal + 1
+  journal_is = ap (λ (js : List Entry). length js) (unit_journal [] e old.kernel next.kernel m.made) ∙ longer
+
+  rest : SameRest old.kernel.place next.kernel.place
+  rest = subst (SameRest old.kernel.place) (sym place_is) (rest_kept old.kernel.place pid sid (length old.kernel.journal + 1) step s)
+
+  pub puts_on : (holds later : Option (List NamedFile)) (blocks more : ℕ) → later ≡ holds → more ≡ blocks → Puts old holds blocks pid sid → Puts next later more pid sid
+  puts_on holds later blocks more f g a = record {
+    running = (unit_same [] e old.kernel next.kernel m.made).stopped ∙ a.running;
+    whole = unit_whole [] e old next i h m a.whole;
+    area = let x = a.area in let size = ap (λ (x : Params). x.swap_blocks) m.beside.params in omega arith;
+    files = subst (λ (ns : List ImageNamed). AreFiles ns later) (sym m.beside.images) (subst (λ (x : Option (List NamedFile)). AreFiles old.images x) (sym f) a.files);
+    clear = rest.due ∙ a.clear;
+    holds_there = record {
+      holds = ap (λ (ps : List Proc). life_of_proc (numbered (λ (p : Proc). p.pid) pid ps)) (unit_same [] e old.kernel next.kernel m.made).processes ∙ a.holds_there.holds;
+      there = same_there (numbered space_number sid old.kernel.place.spaces) (numbered space_number sid next.kernel.place.spaces)
+          ((unit_shaped [] e old.kernel next.kernel m.made).spaces sid) a.holds_there.there;
+    };
+    resident = same_out old.kernel.place next.kernel.place pid rest.residents ∙ a.resident;
+  }
+
+  pub falls_on : OwnsFrames old.kernel.place → IsResident old.kernel.place pid → is_out old.kernel.place pid ≡ false → put_rank next.kernel.place pid sid < put_rank old.kernel.place pid sid
+  falls_on o r n =
+      subst (λ (p : Placement). put_rank p pid sid < put_rank old.kernel.place pid sid) (sym place_is) (unit_falls [] (length old.kernel.journal + 1) old.kernel.place pid sid o r n)
+
+  puts_first : (us : List Entry) (q : Placement) → is_out old.kernel.place pid ≡ false → PutsOut us (length next.kernel.journal) next.kernel.place pid sid q
+      → PutsOut (e ∷ us) (length old.kernel.journal) old.kernel.place pid sid q
+  puts_first us q n p = (
+    n,
+    refl,
+    subst (λ (x : Placement). PutsOut us (length old.kernel.journal + 1) x pid sid q) place_is (subst (λ (at : ℕ). PutsOut us at next.kernel.place pid sid q) journal_is p),
+  )
+
+  pub put_first : (new : Standing) (j : Option (List ℕ)) → is_out old.kernel.place pid ≡ false → PutOut pid sid next new h j → PutOut pid sid old new i j
+  put_first new j n f = record {
+    units = e ∷ f.units;
+    at = f.at;
+    image = f.image;
+    made = record { next = next.kernel; image = h; made = m.made; told = m.told; rest = f.made };
+    step = f.step;
+    bare = f.bare;
+    wrote = f.wrote;
+    puts = puts_first (f.units ++ entries.SwapOut pid ∷ []) new.kernel.place n f.puts;
+    out = f.out;
+    beside = beside_both old next new m.beside f.beside;
+  }
+
+  pub stops_first : (stop : Stop) (new : Standing) (j : Option (List ℕ)) → is_out old.kernel.place pid ≡ false → StopsPutting pid sid next stop new h j → StopsPutting pid sid old stop new i j
+  stops_first stop new j n f = record {
+    units = e ∷ f.units;
+    at = f.at;
+    image = f.image;
+    made = record { next = next.kernel; image = h; made = m.made; told = m.told; rest = f.made };
+    puts = puts_first f.units f.at.place n f.puts;
+    still = f.still;
+    stops = f.stops;
+    params = f.params ∙ m.beside.params;
+    images = f.images ∙ m.beside.images;
+  }
+
+pub stops_here : (pid sid : ℕ) (old : Standing) (stop : Stop) (new : Standing) (i j : Option (List ℕ)) → is_out old.kernel.place pid ≡ false → new.params ≡ old.params → new.images ≡ old.images
+    → StopsAt (put_out_unit old.kernel.place pid sid) old.kernel i stop new j → StopsPutting pid sid old stop new i j
+stops_here pid sid old stop new i j n a b s = record { units = []; at = old.kernel; image = i; made = (refl, refl); puts = refl; still = n; stops = s; params = a; images = b }
+
+-- The last unit.
+
+pub beside_of : (old new : Standing) → new ≡ record old { kernel = new.kernel; room = None } → IsSameBeside old new
+beside_of old new e = record {
+  params = ap (λ (s : Standing). s.params) e;
+  images = ap (λ (s : Standing). s.images) e;
+  before = ap (λ (s : Standing). s.before) e;
+}
+
+lives_holding : (o : Option Proc) (sid : ℕ) → life_of_proc o ≡ HoldsSpace sid → lives_in o ≡ true
+lives_holding None sid e = absurd cc
+lives_holding (Some p) sid e = ap has_life e
+
+pub holder_resides : (k : Kernel) (pid sid : ℕ) → EachResides k → life_in k pid ≡ HoldsSpace sid → IsResident k.place pid
+holder_resides k pid sid r e = r pid (lives_holding (numbered (λ (p : Proc). p.pid) pid k.processes) sid e)
+
+pub can_go_out : (k : Kernel) (pid sid : ℕ) → k.place.due ≡ [] → HoldsThere k pid sid → is_out k.place pid ≡ false → IsNext k.place sid None → CanGoOut k pid
+can_go_out k pid sid d h r n = record { clear = d; sid = sid; holds = h.holds; there = h.there; resident = r; settled = n.0; empty = n.1 }
+
+pub put_last : (pid sid : ℕ) (old new : Standing) (i j : Option (List ℕ)) → IsResident old.kernel.place pid → is_out old.kernel.place pid ≡ false → IsNext old.kernel.place sid None
+    → new.kernel ≡ out_step old.kernel pid → IsSameBeside old new → WritesU old.kernel pid i j → PutOut pid sid old new i j
+put_last pid sid old new i j r n l e b w =
+    let p = old.kernel.place in
+    let at = length old.kernel.journal + 1 in
+    let place_is : new.kernel.place ≡ moved p pid true at =
+    ap (λ (k : Kernel). k.place) e ∙ ap (λ (n : ℕ). moved p pid true n) (one_more old.kernel.journal (entries.SwapOut pid) tt) in
+    record {
+      units = [];
+      at = old.kernel;
+      image = i;
+      made = (refl, refl);
+      step = e;
+      bare = λ q h. ap (λ (k : Kernel). proc_of k pid) e ∙ out_record old.kernel pid q h;
+      wrote = w;
+      puts = (n, sym (last_unit p pid sid l), sym place_is);
+      out = ap (λ (q : Placement). is_out q pid) place_is ∙ ap (λ (x : Residence). x.out) (moved_own p pid true at r);
+      beside = b;
+    }
+
+-- Where the last unit stops the machine.
+
+ok_is : {A : Type 0} (r : Result A Stop) (limit : ℕ) (journal : List Entry) (pid : ℕ) (s t : Stop) → r ≡ Err s → ((r ≡ Err t) ↔ (limit ≤ length journal))
+    → (s ≡ t) ↔ ((limit ≤ length journal) × (length journal < length (append journal (entries.SwapOut pid))))
+ok_is {A} r limit journal pid s t e f = (
+  (λ h. (f.0 (e ∙ ap (λ (x : Stop). let z : Result A Stop = Err x in z) h), plain_longer journal (entries.SwapOut pid) tt)),
+  (λ h. err_same {A = A} s t (sym e ∙ f.1 h.0)),
+)
+
+pub out_stops : (pid sid : ℕ) (old new : Standing) (i j : Option (List ℕ)) (r : Result (Unit {0}) Stop) → is_out old.kernel.place pid ≡ false → IsNext old.kernel.place sid None
+    → OnErr r (HasStopped old new) → OnErr r ((r ≡ Err stops.JournalFull) ⊎ ((r ≡ Err stops.NoMemory) ⊎ (r ≡ Err stops.SwapWriteFault)))
+    → ((r ≡ Err stops.JournalFull) ↔ (old.params.journal ≤ length old.kernel.journal)) → OnErr r (SwapBehind r old.kernel pid i j)
+    → IfErr r (λ stop. StopsPutting pid sid old stop new i j)
+out_stops pid sid old new i j (Ok x) n l s c f b = tt
+out_stops pid sid old new i j (Err stop) n l s c f b =
+    stops_here pid sid old stop new i j n s.params s.images (subst (λ (e : Entry). StopsAt e old.kernel i stop new j) (sym (last_unit old.kernel.place pid sid l)) (record {
+      stopped = s.stopped;
+      journal = s.journal;
+      full = subst (λ (p : Params). (stop ≡ stops.JournalFull) ↔ ((p.journal ≤ length old.kernel.journal) × (length old.kernel.journal < length (append old.kernel.journal (entries.SwapOut pid))))) (sym s.params)
+          (ok_is {A = Unit {0}} (Err stop) old.params.journal old.kernel.journal pid stop stops.JournalFull refl f);
+      cause = elim c [
+        | inl h ↦ inl (err_same {A = Unit {0}} stop stops.JournalFull h)
+        | inr h ↦ inr (elim h [
+          | inl h ↦ inl (err_same {A = Unit {0}} stop stops.NoMemory h)
+          | inr h ↦ inr (err_same {A = Unit {0}} stop stops.SwapWriteFault h)
+        ])
+      ];
+      image = spoils stop b;
+    }))
+  where
+    spoils : (stop : Stop) → (let z : Result (Unit {0}) Stop = Err stop in SwapBehind z old.kernel pid i j) → SpoilsBy (entries.SwapOut pid) stop old.kernel i j
+    spoils stops.NoMemory b = b
+    spoils stops.JournalFull b = b
+    spoils stops.FileFault b = b
+    spoils stops.SwapReadFault b = b
+    spoils stops.SwapWriteFault b = b
+
+-- What is known of an answer, weakened.
+
+pub on_ok : {A E P Q : Type 0} (r : Result A E) → (P → Q) → OnOk r P → OnOk r Q
+on_ok (Ok x) f h = f h
+on_ok (Err e) f h = h
+
+pub on_ok_with : {A E P Q R S : Type 0} (r : Result A E) → (P → Q → R → S) → OnOk r P → OnOk r Q → OnOk r R → OnOk r S
+on_ok_with (Ok x) f p q r = f p q r
+on_ok_with (Err e) f p q r = p
+
+pub if_err : {A E : Type 0} {P Q : E → Type 0} (r : Result A E) → ((e : E) → P e → Q e) → IfErr r P → IfErr r Q
+if_err (Ok x) f h = h
+if_err (Err e) f h = f e h

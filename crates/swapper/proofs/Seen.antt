@@ -1,0 +1,190 @@
+-- What the entries of a space tell of its pages.
+use Rattle.std.proofs.Common.{◌≡◌, ℕ, zero, suc, ◌+◌, ◌-◌, ◌<◌, ◌≤◌, ◌==◌, Bool, true, false, cond, List, [], ◌∷◌, ◌++◌, length, Option, Some, None, IsSome, slice_get, refl, sym, ap, ap₂, ◌∙◌, subst, arith}
+use Rattle.vm_facts.specs.declared.page.Page.{Page}
+use Rattle.vm_facts.specs.declared.page.Page.TheVariants.{Data, Stack}
+use Rattle.vm_facts.specs.declared.page.PageState.{PageState}
+use Rattle.vm_facts.specs.declared.page.PageState.TheVariants.{Unfilled, Valid, Invalid, Coming, Going, OnSwap}
+use Rattle.vm_facts.specs.Lists.{times}
+use Rattle.vax_pte.specs.declared.Place.{Place}
+use Rattle.vax_pte.specs.declared.Place.TheVariants.{Frame}
+use Rattle.core_map.specs.declared.slot.Slot.{Slot}
+use Rattle.core_map.specs.declared.slot.Slot.TheVariants.{Free, Resident, Away}
+use Rattle.core_map.specs.Slots.{slot_at, is_resident, listings}
+use Rattle.core_map.specs.Frames.{Frames, IsSound}
+use Rattle.flat_state.specs.PageNames.{beside, pages_from}
+use Rattle.space_map.specs.Space.{Places, place_in}
+use Rattle.page_model.specs.Pages.{frame_of}
+use Rattle.page_model.specs.Placement.{Placement, IsThere, state_of}
+use Rattle.page_model.specs.Runs.{is_seated, is_seated_by}
+use Rattle.page_model.specs.Swapper.{first_seated, seated_count}
+use Rattle.page_model.specs.Place.{data_from, stack_from, data_count, stack_count, pages_of_space}
+use Rattle.page_laws.proofs.Moves.Steps.{page_in}
+use Rattle.vm_facts.proofs.Tests.{eq_self}
+use Rattle.table_view.specs.Shown.{is_away, idle_state, state_shown, MarkShown, ShowsMark}
+use Rattle.table_view.specs.Views.{IsNamedBy, ShowsPage, ShowsSpace}
+
+-- Whether a frame off the free list has the page, by the slot of its frame.
+
+seat_by : (p : Placement) (f : ℕ) (slot : Slot) (valid changed dirty : Bool) → times f p.free ≡ listings slot → MarkShown slot valid dirty
+    → is_resident slot ≡ is_seated_by p (cond valid (Valid f) (idle_state f (is_away slot) changed))
+seat_by p f (Resident token page mark) true changed dirty t m = refl
+seat_by p f (Resident token page mark) false changed dirty t m = sym (ap (λ (n : ℕ). n == 0) t)
+seat_by p f (Free token page) true changed dirty t m = absurd cc
+seat_by p f (Free token page) false changed dirty t m = sym (ap (λ (n : ℕ). n == 0) t)
+seat_by p f Away true changed dirty t m = absurd cc
+seat_by p f Away false true dirty t m = refl
+seat_by p f Away false false dirty t m = refl
+
+frame_shown : (slots : List Slot) (f : ℕ) (valid changed : Bool)
+    → cond valid (Valid f) (idle_state f (is_away (slot_at slots f)) changed) ≡ state_shown slots (Frame f valid changed)
+frame_shown slots f true changed = refl
+frame_shown slots f false changed = refl
+
+pub seat_shown : (p : Placement) (free : List ℕ) (slots : List Slot) (f : ℕ) (valid changed dirty : Bool) → IsSound free slots → p.free ≡ free
+    → ShowsMark slots (Frame f valid changed) dirty → is_resident (slot_at slots f) ≡ is_seated_by p (state_shown slots (Frame f valid changed))
+seat_shown p free slots f valid changed dirty s e m =
+    seat_by p f (slot_at slots f) valid changed dirty (ap (times f) e ∙ s.listed f) m ∙ ap (is_seated_by p) (frame_shown slots f valid changed)
+
+-- A page that isn't there is in no frame.
+
+seated_frame : (p : Placement) (s : PageState) → is_seated_by p s ≡ true → (f : ℕ) × (frame_of s ≡ Some f)
+seated_frame p Unfilled e = absurd cc
+seated_frame p (Valid f) e = (f, refl)
+seated_frame p (Invalid f) e = (f, refl)
+seated_frame p (Coming f) e = absurd cc
+seated_frame p (Going f) e = absurd cc
+seated_frame p OnSwap e = absurd cc
+
+pub seated_there : (p : Placement) (q : Page) → is_seated p q ≡ true → IsThere p q
+seated_there p q e = let x = seated_frame p (state_of p q) e in page_in p q x.0 x.1
+
+none_by : (b : Bool) → (b ≡ true → ⊥) → false ≡ b
+none_by false h = refl
+none_by true h = absurd (h refl)
+
+pub absent_page : (p : Placement) (core : Frames) (s : Places) (q : Page) → ShowsSpace p core s → IsNamedBy s q → place_in s q ≡ None → false ≡ is_seated p q
+absent_page p core s q h n e =
+    let x : ShowsPage p core.slots q None = subst (ShowsPage p core.slots q) e (h.pages q n) in
+    none_by (is_seated p q) (λ t. x (seated_there p q t))
+
+pub shown_page : (p : Placement) (core : Frames) (s : Places) (q : Page) (place : Place) → ShowsSpace p core s → IsNamedBy s q → place_in s q ≡ Some place → ShowsPage p core.slots q (Some place)
+shown_page p core s q place h n e = subst (ShowsPage p core.slots q) e (h.pages q n)
+
+-- The pages of a segment, from one on.
+
+pub first_passes : (p : Placement) (q : Page) (v n : ℕ) (b : Bool) → v < n → b ≡ is_seated p (beside q v) → b ≡ false
+    → first_seated p (pages_from q v (n - v)) ≡ first_seated p (pages_from q (v + 1) (n - (v + 1)))
+first_passes p q v n b l e f =
+    let m : n - v ≡ suc (n - (v + 1)) = omega arith in
+    ap (λ (k : ℕ). first_seated p (pages_from q v k)) m
+    ∙ ap (λ (c : Bool). cond c (Some (beside q v)) (first_seated p (pages_from q (v + 1) (n - (v + 1))))) (sym e ∙ f)
+
+pub first_found : (p : Placement) (q : Page) (v n : ℕ) (b : Bool) → v < n → b ≡ is_seated p (beside q v) → b ≡ true
+    → first_seated p (pages_from q v (n - v)) ≡ Some (beside q v)
+first_found p q v n b l e f =
+    let m : n - v ≡ suc (n - (v + 1)) = omega arith in
+    ap (λ (k : ℕ). first_seated p (pages_from q v k)) m
+    ∙ ap (λ (c : Bool). cond c (Some (beside q v)) (first_seated p (pages_from q (v + 1) (n - (v + 1))))) (sym e ∙ f)
+
+pub first_end : (p : Placement) (q : Page) (v n : ℕ) → n ≤ v → first_seated p (pages_from q v (n - v)) ≡ None
+first_end p q v n l = let m : n - v ≡ 0 = omega arith in ap (λ (k : ℕ). first_seated p (pages_from q v k)) m
+
+pub count_passes : (p : Placement) (q : Page) (v n c : ℕ) (b : Bool) → v < n → b ≡ is_seated p (beside q v) → b ≡ false
+    → c + seated_count p (pages_from q (v + 1) (n - (v + 1))) ≡ c + seated_count p (pages_from q v (n - v))
+count_passes p q v n c b l e f =
+    let m : n - v ≡ suc (n - (v + 1)) = omega arith in
+    let x : seated_count p (pages_from q v (n - v)) ≡ 0 + seated_count p (pages_from q (v + 1) (n - (v + 1))) =
+    ap (λ (k : ℕ). seated_count p (pages_from q v k)) m
+    ∙ ap (λ (d : Bool). cond d 1 0 + seated_count p (pages_from q (v + 1) (n - (v + 1)))) (sym e ∙ f) in
+    omega arith
+
+pub count_found : (p : Placement) (q : Page) (v n c : ℕ) (b : Bool) → v < n → b ≡ is_seated p (beside q v) → b ≡ true
+    → (c + 1) + seated_count p (pages_from q (v + 1) (n - (v + 1))) ≡ c + seated_count p (pages_from q v (n - v))
+count_found p q v n c b l e f =
+    let m : n - v ≡ suc (n - (v + 1)) = omega arith in
+    let x : seated_count p (pages_from q v (n - v)) ≡ 1 + seated_count p (pages_from q (v + 1) (n - (v + 1))) =
+    ap (λ (k : ℕ). seated_count p (pages_from q v k)) m
+    ∙ ap (λ (d : Bool). cond d 1 0 + seated_count p (pages_from q (v + 1) (n - (v + 1)))) (sym e ∙ f) in
+    omega arith
+
+pub count_end : (p : Placement) (q : Page) (v n c : ℕ) → n ≤ v → c + seated_count p (pages_from q v (n - v)) ≡ c
+count_end p q v n c l =
+    let m : n - v ≡ 0 = omega arith in
+    let x : seated_count p (pages_from q v (n - v)) ≡ 0 = ap (λ (k : ℕ). seated_count p (pages_from q v k)) m in
+    omega arith
+
+-- A space has as many pages of data and of stack in its entries as in the placement.
+
+same_count : (a b : ℕ) → ((v : ℕ) → v < a → v < b) → ((v : ℕ) → v < b → v < a) → a ≡ b
+same_count zero zero f g = refl
+same_count zero (suc b) f g = absurd (let l = g 0 (omega arith) in omega arith)
+same_count (suc a) zero f g = absurd (let l = f 0 (omega arith) in omega arith)
+same_count (suc a) (suc b) f g = let l = f a (omega arith) in let m = g b (omega arith) in omega arith
+
+some_page : (p : Placement) (slots : List Slot) (q : Page) (o : Option Place) → ShowsPage p slots q o → IsThere p q → IsSome o
+some_page p slots q None x t = absurd (x t)
+some_page p slots q (Some place) x t = refl
+
+there_page : (p : Placement) (slots : List Slot) (q : Page) (o : Option Place) → ShowsPage p slots q o → IsSome o → IsThere p q
+there_page p slots q None x t = absurd cc
+there_page p slots q (Some place) x t = x.0
+
+in_data : (s : Places) (v : ℕ) → place_in s (Data s.sid v) ≡ slice_get s.data v
+in_data s v = ap (λ (b : Bool). cond b (slice_get s.data v) None) (eq_self s.sid)
+
+in_stack : (s : Places) (v : ℕ) → place_in s (Stack s.sid v) ≡ slice_get s.stack v
+in_stack s v = ap (λ (b : Bool). cond b (slice_get s.stack v) None) (eq_self s.sid)
+
+within : (xs : List Place) (v : ℕ) → IsSome (slice_get xs v) → v < length xs
+within [] v s = absurd cc
+within (x ∷ xs) zero s = omega arith
+within (x ∷ xs) (suc v) s = let l = within xs v s in omega arith
+
+holds : (xs : List Place) (v : ℕ) → v < length xs → IsSome (slice_get xs v)
+holds [] v l = absurd (omega arith)
+holds (x ∷ xs) zero l = refl
+holds (x ∷ xs) (suc v) l = holds xs v (omega arith)
+
+pub data_pages : (p : Placement) (core : Frames) (s : Places) → ShowsSpace p core s → length s.data ≡ data_count p s.sid
+data_pages p core s h = same_count (length s.data) (data_count p s.sid)
+    (λ v l. there_page p core.slots (Data s.sid v) (place_in s (Data s.sid v)) (h.pages (Data s.sid v) refl) (subst (λ (o : Option Place). IsSome o) (sym (in_data s v)) (holds s.data v l)))
+    (λ v l. within s.data v (subst (λ (o : Option Place). IsSome o) (in_data s v) (some_page p core.slots (Data s.sid v) (place_in s (Data s.sid v)) (h.pages (Data s.sid v) refl) l)))
+
+pub stack_pages : (p : Placement) (core : Frames) (s : Places) → ShowsSpace p core s → length s.stack ≡ stack_count p s.sid
+stack_pages p core s h = same_count (length s.stack) (stack_count p s.sid)
+    (λ v l. there_page p core.slots (Stack s.sid v) (place_in s (Stack s.sid v)) (h.pages (Stack s.sid v) refl) (subst (λ (o : Option Place). IsSome o) (sym (in_stack s v)) (holds s.stack v l)))
+    (λ v l. within s.stack v (subst (λ (o : Option Place). IsSome o) (in_stack s v) (some_page p core.slots (Stack s.sid v) (place_in s (Stack s.sid v)) (h.pages (Stack s.sid v) refl) l)))
+
+-- Data first, and then the stack.
+
+abbrev pub first_of : Option Page → Option Page → Option Page
+first_of None w = w
+first_of (Some q) w = Some q
+
+first_append : (p : Placement) (qs rs : List Page) (o w : Option Page) → o ≡ first_seated p qs → w ≡ first_seated p rs
+    → first_seated p (qs ++ rs) ≡ first_of o w
+first_append p [] rs o w e f = sym f ∙ sym (ap (λ (x : Option Page). first_of x w) e)
+first_append p (q ∷ qs) rs o w e f = go (is_seated p q) e (λ k. first_append p qs rs o w k f)
+  where
+    go : (b : Bool) → o ≡ cond b (Some q) (first_seated p qs) → (o ≡ first_seated p qs → first_seated p (qs ++ rs) ≡ first_of o w)
+        → cond b (Some q) (first_seated p (qs ++ rs)) ≡ first_of o w
+    go true k ih = sym (ap (λ (x : Option Page). first_of x w) k)
+    go false k ih = ih k
+
+pub first_whole : (p : Placement) (core : Frames) (s : Places) (sid a b : ℕ) (o w : Option Page) → ShowsSpace p core s → sid ≡ s.sid → a ≡ length s.data → b ≡ length s.stack
+    → o ≡ first_seated p (pages_from (Data sid 0) 0 a) → w ≡ first_seated p (pages_from (Stack sid 0) 0 b) → first_of o w ≡ first_seated p (pages_of_space p s.sid)
+first_whole p core s sid a b o w h i x y e f = sym (first_append p (data_from s.sid 0 (data_count p s.sid)) (stack_from s.sid 0 (stack_count p s.sid)) o w
+    (e ∙ ap₂ (λ (k n : ℕ). first_seated p (pages_from (Data k 0) 0 n)) i (x ∙ data_pages p core s h))
+    (f ∙ ap₂ (λ (k n : ℕ). first_seated p (pages_from (Stack k 0) 0 n)) i (y ∙ stack_pages p core s h)))
+
+pub count_append : (p : Placement) (qs rs : List Page) → seated_count p (qs ++ rs) ≡ seated_count p qs + seated_count p rs
+count_append p [] rs = omega arith
+count_append p (q ∷ qs) rs = let x = count_append p qs rs in omega arith
+
+pub count_whole : (p : Placement) (core : Frames) (s : Places) (sid a b m n : ℕ) → ShowsSpace p core s → sid ≡ s.sid → a ≡ length s.data → b ≡ length s.stack
+    → m ≡ seated_count p (pages_from (Data sid 0) 0 a) → n ≡ seated_count p (pages_from (Stack sid 0) 0 b) → m + n ≡ seated_count p (pages_of_space p s.sid)
+count_whole p core s sid a b m n h i x y e f =
+    ap₂ (λ (a b : ℕ). a + b)
+    (e ∙ ap₂ (λ (k n : ℕ). seated_count p (pages_from (Data k 0) 0 n)) i (x ∙ data_pages p core s h))
+    (f ∙ ap₂ (λ (k n : ℕ). seated_count p (pages_from (Stack k 0) 0 n)) i (y ∙ stack_pages p core s h))
+    ∙ sym (count_append p (data_from s.sid 0 (data_count p s.sid)) (stack_from s.sid 0 (stack_count p s.sid)))

@@ -1,0 +1,36 @@
+use Rattle.std.proofs.Common.{◌≡◌, IfErr, OnOk, Option, List, ℕ, sym, subst}
+use Rattle.vm_facts.specs.declared.entry.Entry.{Entry}
+use Rattle.vm_facts.specs.declared.stop.Stop.{Stop}
+use Rattle.paging_units.specs.Made.{MakesUnit}
+use Rattle.paging_units.specs.Stops.{StopsAt}
+use Rattle.paging_units.proofs.Keeping.{keeps_flat}
+use Rattle.swapper.specs.Putting.{IsStep}
+use Rattle.swapper.specs.declared.putting_out.Step.TheVariants as steps
+use Rattle.swapper.proofs.PutUnits.{first_own, first_is_seated, on_ok}
+use Rattle.swapper.proofs.putting_out.put_once.Goals as goal
+
+pub put_page-requires-clause-own : goal.put_page-requires-clause-own
+put_page-requires-clause-own g c =
+    let s : IsStep c.args.m.now.kernel.place c.args.sid (steps.Put c.in-Put.page) = subst (IsStep c.args.m.now.kernel.place c.args.sid) c.in-Put.is c.requires.step in
+    first_own c.args.m.now.kernel.place c.args.sid c.in-Put.page s.1
+
+pub put_page-requires-clause-seated : goal.put_page-requires-clause-seated
+put_page-requires-clause-seated g c =
+    let s : IsStep c.args.m.now.kernel.place c.args.sid (steps.Put c.in-Put.page) = subst (IsStep c.args.m.now.kernel.place c.args.sid) c.in-Put.is c.requires.step in
+    first_is_seated c.args.m.now.kernel.place c.args.sid c.in-Put.page s.1
+
+pub returns-in-Wait-clause-made : goal.returns-in-Wait-clause-made
+returns-in-Wait-clause-made g c =
+    let s : IsStep c.args.m.now.kernel.place c.args.sid steps.Wait = subst (IsStep c.args.m.now.kernel.place c.args.sid) c.in-Wait.is c.requires.step in
+    subst (λ (e : Entry). OnOk c.complete.result (MakesUnit Rattle.std.proofs.Common.[] e c.args.m.now c.complete.new.m (g.D.SwapDev.image c.args.swap.now) (g.D.SwapDev.image c.complete.new.swap)))
+    (sym (s.1 c.args._pid)) c.complete.ensures.made
+
+pub returns-in-Wait-clause-stopped : goal.returns-in-Wait-clause-stopped
+returns-in-Wait-clause-stopped g c =
+    let s : IsStep c.args.m.now.kernel.place c.args.sid steps.Wait = subst (IsStep c.args.m.now.kernel.place c.args.sid) c.in-Wait.is c.requires.step in
+    subst (λ (e : Entry). IfErr c.complete.result (λ (stop : Stop). StopsAt e c.args.m.now.kernel (g.D.SwapDev.image c.args.swap.now) stop c.complete.new.m (g.D.SwapDev.image c.complete.new.swap)))
+    (sym (s.1 c.args._pid)) c.complete.ensures.stopped
+
+pub returns-in-Put-clause-keeps : goal.returns-in-Put-clause-keeps
+returns-in-Put-clause-keeps g c =
+    on_ok c.put_page.result (keeps_flat c.args.m.now c.put_page.new.m (g.F.Files.holds c.args.files.now) (g.D.SwapDev.image c.args.swap.now)) c.put_page.ensures.keeps

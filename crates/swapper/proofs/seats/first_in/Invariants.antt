@@ -1,0 +1,11 @@
+use Rattle.std.proofs.Common.{◌≡◌, ℕ, ◌-◌}
+use Rattle.flat_state.specs.PageNames.{beside, pages_from}
+use Rattle.page_model.specs.Placement.{Placement}
+use Rattle.page_model.specs.Swapper.{first_seated}
+use Rattle.table_view.specs.Views.{IsNamedBy, ShowsSpace}
+use Rattle.swapper.proofs.seats.first_in.Given as goal
+
+abbrev pub invariant-loop-v : goal.invariant-loop-v
+invariant-loop-v l =
+    (p : Placement) → ShowsSpace p l.core l.space → ((v : ℕ) → IsNamedBy l.space (beside l.segment v))
+    → first_seated p (pages_from l.segment l.v (l.pages - l.v)) ≡ first_seated p (pages_from l.segment 0 l.pages)

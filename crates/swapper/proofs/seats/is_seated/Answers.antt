@@ -1,0 +1,10 @@
+use Rattle.std.proofs.Common.{sym, ap, ◌∙◌}
+use Rattle.page_model.specs.Placement.{is_dirty}
+use Rattle.page_model.specs.Runs.{is_seated_by}
+use Rattle.swapper.proofs.Seen.{shown_page}
+use Rattle.swapper.proofs.seats.is_seated.Goals as goal
+
+pub returns-in-Some : goal.returns-in-Some
+returns-in-Some c = λ p h n.
+    let x = shown_page p c.args.core.now c.args.space.now c.args.page c.in-Some.place h n (sym c.place.ensures ∙ c.in-Some.is) in
+    c.is_seat.ensures p (is_dirty p c.args.page) h.free x.2 ∙ sym (ap (is_seated_by p) x.1)

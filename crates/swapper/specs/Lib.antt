@@ -1,0 +1,3 @@
+pub mod Putting
+pub mod Runners
+pub mod Turns

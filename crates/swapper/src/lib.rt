@@ -1,0 +1,22 @@
+//! The swapper: whole processes go out where frames are short, and come in again (the 4.3BSD book; whom it chooses is
+//! this project's profile).
+#![tactic(auto)]
+
+mod candidates;
+mod choosing;
+mod largest;
+mod putting_out;
+mod seats;
+
+pub use choosing::turn;
+pub use putting_out::{swap_in, swap_out};
+
+/// What a turn of the swapper did.
+#[derive(Clone, Copy, Debug, PartialEq, Eq, Drop)]
+pub enum Turned {
+    /// This process came in.
+    In(u32),
+    /// This process went out.
+    Out(u32),
+    Nothing,
+}
