@@ -1,0 +1,145 @@
+-- The process that makes a call, and what its entries ask.
+use Rattle.std.proofs.Common.{◌≡◌, ◌≢◌, ℕ, true, false, List, [], ◌∷◌, Option, Some, None, refl, sym, ap, ◌∙◌, subst}
+use Rattle.std.specs.Prelude.{Result, Ok, Err, IsSome, IfOk, OnOk}
+use Rattle.vm_facts.specs.declared.regs.Regs.{Regs}
+use Rattle.vm_facts.specs.declared.entry.Entry.{Entry}
+use Rattle.vm_facts.specs.declared.entry.Entry.TheVariants as entries
+use Rattle.swap_book.specs.Placing.{place_all}
+use Rattle.flat_state.specs.declared.change.Change.{Change}
+use Rattle.flat_state.specs.declared.change.Change.TheVariants.{Keep, Reap, Sleep}
+use Rattle.kernel_model.specs.Kernel.{Life, HoldsSpace, Kernel, Proc}
+use Rattle.kernel_model.specs.Sound.{has_life, lives_in, lives}
+use Rattle.kernel_model.specs.ChangeStep.{life_of_proc, with_proc, change_if, change_step}
+use Rattle.kernel_laws.proofs.Machine.Processes.{with_at}
+use Rattle.page_model.specs.Pages.{numbered}
+use Rattle.machine_state.proofs.ProcessLists.{found_number}
+use Rattle.machine_state.proofs.Lives.{pid_of}
+use Rattle.proc_table.specs.declared.process.Proc.{Proc as Record}
+use Rattle.proc_table.specs.Records.{find}
+use Rattle.machine_state.specs.Alike.{AreRecords}
+use Rattle.machine_state.specs.Machine.{Standing, proc_of, processes_of}
+use Rattle.machine_state.proofs.Listed.{process_is}
+use Rattle.machine_state.specs.Calls.{life_in}
+use Rattle.machine_state.specs.Applying.{CanApply, IsEntryOf, MayAct, ChangesWhole, facts_named}
+use Rattle.machine_state.specs.UserMemory.{CanLend}
+use Rattle.proc_calls.specs.Answered.{Entered, GoneOut}
+use Rattle.proc_calls.specs.Callers.{proc_in, regs_of, IsCaller}
+
+-- its record shows it
+pub record_shown : (k : Kernel) (ps : List Record) (pid : ℕ) → k.processes ≡ processes_of ps k.next_pid → AreRecords ps k.next_pid → proc_in k pid ≡ proc_of (find pid ps)
+record_shown k ps pid e h = ap (λ (qs : List Proc). numbered pid_of pid qs) e ∙ process_is ps k.next_pid pid h
+
+pub not_there : (o : Option Proc) → IsSome o → o ≡ None → ⊥
+not_there o s e = let t : IsSome o = s in cc
+
+there_by : (o : Option Proc) (sid : ℕ) → life_of_proc o ≡ HoldsSpace sid → IsSome o
+there_by None sid e = absurd cc
+there_by (Some p) sid e = refl
+
+lives_by : (o : Option Proc) (sid : ℕ) → life_of_proc o ≡ HoldsSpace sid → lives_in o ≡ true
+lives_by None sid e = absurd cc
+lives_by (Some p) sid e = ap has_life e
+
+-- it is there, and lives
+pub caller_there : (k : Kernel) (pid : ℕ) → CanLend k pid → IsSome (proc_in k pid)
+caller_there k pid c = there_by (proc_in k pid) c.sid c.holds
+
+pub caller_lives : (k : Kernel) (pid : ℕ) → CanLend k pid → lives k.processes pid ≡ true
+caller_lives k pid c = lives_by (proc_in k pid) c.sid c.holds
+
+none_placed : (m : Standing) → m.before ≡ m.kernel.holdings → place_all m.params.swap_blocks m.before [] ≡ Ok m.kernel.holdings
+unfolding place_all
+none_placed m e = ap (λ hs. Ok hs) e
+
+acts : (k : Kernel) (pid : ℕ) (change : Change) → CanLend k pid → MayAct (life_in k pid) change
+acts k pid change c = subst (λ (l : Life). MayAct l change) (sym c.holds) tt
+
+-- An entry with a change that wants no pieces of swap.
+
+pub can_keep : (m : Standing) (pid : ℕ) (e : Entry) → m.before ≡ m.kernel.holdings → m.kernel.place.due ≡ [] → CanLend m.kernel pid → IsEntryOf pid e Keep
+    → CanApply m pid e Keep
+can_keep m pid e whole clear lends entry = record {
+  clear = clear;
+  ready = record { alive = caller_lives m.kernel pid lends; next = tt; reaps = tt; space = tt };
+  acts = acts m.kernel pid Keep lends;
+  resident = lends.resident;
+  returned = λ t. absurd cc;
+  entry = entry;
+  whole = tt;
+  few = λ t. absurd cc;
+  found = none_placed m whole;
+}
+
+pub can_sleep : (m : Standing) (pid : ℕ) (e : Entry) → m.before ≡ m.kernel.holdings → m.kernel.place.due ≡ [] → CanLend m.kernel pid → IsEntryOf pid e Sleep
+    → CanApply m pid e Sleep
+can_sleep m pid e whole clear lends entry = record {
+  clear = clear;
+  ready = record { alive = caller_lives m.kernel pid lends; next = tt; reaps = tt; space = tt };
+  acts = acts m.kernel pid Sleep lends;
+  resident = lends.resident;
+  returned = λ t. absurd cc;
+  entry = entry;
+  whole = tt;
+  few = λ t. absurd cc;
+  found = none_placed m whole;
+}
+
+-- the child has ended
+pub can_reap : (m : Standing) (pid child : ℕ) (e : Entry) → m.before ≡ m.kernel.holdings → m.kernel.place.due ≡ [] → CanLend m.kernel pid
+    → IsEntryOf pid e (Reap child) → lives m.kernel.processes child ≡ false → CanApply m pid e (Reap child)
+can_reap m pid child e whole clear lends entry ended = record {
+  clear = clear;
+  ready = record { alive = caller_lives m.kernel pid lends; next = tt; reaps = ended; space = tt };
+  acts = acts m.kernel pid (Reap child) lends;
+  resident = lends.resident;
+  returned = λ t. absurd cc;
+  entry = entry;
+  whole = tt;
+  few = λ t. absurd cc;
+  found = none_placed m whole;
+}
+
+-- Behind an entry that changes nothing the process may go on.
+
+other_regs : (k : Kernel) (pid : ℕ) (p : Proc) (regs : Regs) → proc_in k pid ≡ Some p → numbered pid_of pid (with_proc k.processes (record p { regs = regs })) ≡ Some (record p { regs = regs })
+other_regs k pid p regs e =
+    let is : p.pid ≡ pid = found_number k.processes pid p e in
+    let there : numbered pid_of p.pid k.processes ≡ Some p = ap (λ (n : ℕ). numbered pid_of n k.processes) is ∙ e in
+    ap (λ (n : ℕ). numbered pid_of n (with_proc k.processes (record p { regs = regs }))) (sym is) ∙ with_at k.processes (record p { regs = regs }) p there
+
+calls_on : (m : Standing) (pid : ℕ) (regs : Regs) (e : Entry) (n : Standing) (o : Option Proc) → proc_in m.kernel pid ≡ o
+    → n.kernel ≡ change_if (facts_named m.images) m.kernel regs e Keep o → n.before ≡ n.kernel.holdings → IsCaller m pid → IsCaller n pid
+calls_on m pid regs e n None f step whole c = absurd (let t : IsSome (proc_in m.kernel pid) = caller_there m.kernel pid c.lends in cc)
+calls_on m pid regs e n (Some p) f step whole c = record {
+  running = ap (λ (k : Kernel). k.stopped) step ∙ c.running;
+  whole = whole;
+  clear = ap (λ (k : Kernel). k.place.due) step ∙ c.clear;
+  lends = subst (λ (k : Kernel). CanLend k pid) (sym step) (record {
+    sid = c.lends.sid;
+    holds =
+        ap life_of_proc (other_regs m.kernel pid p regs f)
+        ∙ (let h : p.life ≡ HoldsSpace c.lends.sid = ap life_of_proc (sym f) ∙ c.lends.holds in h);
+    there = c.lends.there;
+    resident = c.lends.resident;
+  });
+}
+
+pub still_calls : (m : Standing) (pid : ℕ) (regs : Regs) (e : Entry) (n : Standing) → Entered m n pid regs e Keep → IsCaller m pid → IsCaller n pid
+still_calls m pid regs e n h c = calls_on m pid regs e n (proc_in m.kernel pid) refl h.step (ap (λ (s : Standing). s.before) h.rest) c
+
+pub gone_out : (m n : Standing) (pid : ℕ) (bytes : List ℕ) → bytes ≢ [] → Entered m n pid (regs_of m.kernel pid) (entries.Out pid bytes) Keep → GoneOut m n pid bytes
+gone_out m n pid [] some h = absurd (some refl)
+gone_out m n pid (b ∷ bs) some h = h
+
+-- so it is where the entry was made
+pub calls_behind : {A E : Type 0} (r : Result A E) (m : Standing) (pid : ℕ) (regs : Regs) (e : Entry) (n : Standing)
+    → OnOk r (n.kernel ≡ change_step (facts_named m.images) m.kernel pid regs e Keep)
+    → OnOk r (n ≡ record m { kernel = n.kernel; before = n.kernel.holdings; room = None }) → OnOk r (ChangesWhole m n pid regs Keep)
+    → IsCaller m pid → OnOk r (IsCaller n pid)
+calls_behind (Ok x) m pid regs e n step rest keeps c = still_calls m pid regs e n (record { step = step; rest = rest; keeps = keeps }) c
+calls_behind (Err x) m pid regs e n step rest keeps c = tt
+
+-- what is so of a value, and what is so where there is one
+pub both_ok : {A E : Type 0} (r : Result A E) (P : A → Type 0) (Q : Type 0) → IfOk r P → OnOk r Q → IfOk r (λ x. P x × Q)
+both_ok (Ok x) P Q p q = (p, q)
+both_ok (Err x) P Q p q = tt

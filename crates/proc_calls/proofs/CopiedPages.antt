@@ -1,0 +1,178 @@
+-- A copy of a page as a whole, and copies one after another.
+use Rattle.std.proofs.Common.{◌≡◌, inl, inr, ℕ, suc, ◌<◌, ◌≤◌, false, List, [], ◌∷◌, length, Option, Some, None, refl, sym, ap, ◌∙◌, subst, arith}
+use Rattle.std.specs.Prelude.{Result, Ok, Err, OnOk, IfErr, MatchResult}
+use Rattle.std.proofs.lemmas.Option.{same_Some}
+use Rattle.vm_facts.specs.declared.page.Page.{Page}
+use Rattle.vm_facts.specs.declared.entry.Entry.{Entry}
+use Rattle.vm_facts.specs.declared.entry.Entry.TheVariants as entries
+use Rattle.vm_facts.specs.declared.stop.Stop.{Stop}
+use Rattle.io_edge.specs.FileHolding.{NamedFile}
+use Rattle.flat_state.specs.Journal.{append}
+use Rattle.page_model.specs.Placement.{Placement, Due, Start, CopyOf}
+use Rattle.page_model.specs.Place.{due_after, filled}
+use Rattle.page_model.specs.Ownership.{OwnsFrames}
+use Rattle.page_model.specs.Dues.{DueStand}
+use Rattle.kernel_model.specs.Kernel.{Kernel, copy_step}
+use Rattle.vm_facts.specs.declared.params.Params.{Params}
+use Rattle.machine_state.specs.Machine.{Standing}
+use Rattle.machine_state.specs.Sourced.{ImageNamed}
+use Rattle.machine_state.specs.Files.{AreFiles}
+use Rattle.machine_state.specs.Calls.{first_due}
+use Rattle.machine_state.specs.Conditions.{KeepsFlat}
+use Rattle.machine_state.specs.Done.{KeepsThrough}
+use Rattle.paging_units.specs.LastMoves.{last_moves}
+use Rattle.paging_units.specs.Made.{SameBeside}
+use Rattle.paging_units.specs.Stops.{StopsAt}
+use Rattle.paging_units.proofs.Units.{made_same, makes_whole}
+use Rattle.paging_units.proofs.Keeping.{made_shaped, keeps_flat, keeps_both}
+use Rattle.clock_hands.specs.Forced.{Forced}
+use Rattle.fault_fill.specs.Answers.{ServesNow}
+use Rattle.proc_calls.specs.Copying.{in_space, AreCopiesFrom, IsCopyFirst, CopiesPage, StopsPage, StopsBehind, GoesOn, CopiesAll, StopsCopying}
+use Rattle.proc_calls.proofs.Copies.{Stay, stay_both, serves_stay, forces_stay, can_serve, filled_frames, last_copy, first_gone}
+
+-- One page.
+
+-- what is so of a machine that runs and goes on
+pub record IsOn (s : Standing) : Type 0 where
+  pub running : s.kernel.stopped ≡ false
+  pub whole : s.before ≡ s.kernel.holdings
+
+pub served_on : (parent : Page) (old served : Standing) (holds : Option (List NamedFile)) (i h : Option (List ℕ)) → IsOn old
+    → ServesNow (parent ∷ []) parent old served holds i h → IsOn served
+served_on parent old served holds i h o s = record {
+  running = (let a : SameBeside old.kernel served.kernel = made_same (parent ∷ []) s.0.units old.kernel served.kernel i h s.0.makes.made in a.stopped) ∙ o.running;
+  whole = makes_whole (parent ∷ []) s.0.units old served i h s.0.makes o.whole;
+}
+
+pub forced_on : (parent : Page) (served roomy : Standing) (h j : Option (List ℕ)) → IsOn served → Forced (parent ∷ []) served roomy h j → IsOn roomy
+forced_on parent served roomy h j o f = record {
+  running = (let a : SameBeside served.kernel roomy.kernel = made_same (parent ∷ []) f.units served.kernel roomy.kernel h j f.makes.made in a.stopped) ∙ o.running;
+  whole = makes_whole (parent ∷ []) f.units served roomy h j f.makes o.whole;
+}
+
+pub served_stay : (child parent : Page) (old served : Standing) (holds : Option (List NamedFile)) (i h : Option (List ℕ)) → OwnsFrames old.kernel.place
+    → DueStand old.kernel.place → IsCopyFirst old.kernel.place child parent → ServesNow (parent ∷ []) parent old served holds i h
+    → Stay old.kernel.place served.kernel.place
+served_stay child parent old served holds i h o d f s =
+    serves_stay s.0.units old.kernel.place served.kernel.place (parent ∷ []) parent o (can_serve old.kernel.place child parent d f) s.0.leads
+
+pub forced_stay : (parent : Page) (old served roomy : Standing) (h j : Option (List ℕ)) → Stay old.kernel.place served.kernel.place
+    → Forced (parent ∷ []) served roomy h j → Stay old.kernel.place roomy.kernel.place
+forced_stay parent old served roomy h j s f =
+    stay_both old.kernel.place served.kernel.place roomy.kernel.place s
+    (forces_stay f.units served.kernel.place roomy.kernel.place (parent ∷ []) s.owner f.forces)
+
+abbrev pub copied_from : Standing → Page → Standing
+copied_from roomy child = record roomy { kernel = copy_step roomy.kernel child; room = None }
+
+pub copied_as : (roomy new : Standing) (child : Page) → new.kernel ≡ copy_step roomy.kernel child → new ≡ record roomy { kernel = new.kernel; room = None }
+    → new ≡ copied_from roomy child
+copied_as roomy new child step rest = rest ∙ ap (λ (k : Kernel). let s : Standing = record roomy { kernel = k; room = None } in s) step
+
+pub copied_by : {A : Type 0} (r : Result A Stop) (child parent : Page) (old served roomy new : Standing) (holds later : Option (List NamedFile))
+    (i h j : Option (List ℕ)) → later ≡ holds → ServesNow (parent ∷ []) parent old served holds i h → Forced (parent ∷ []) served roomy h j
+    → KeepsThrough served roomy later h j → OnOk r (new.kernel ≡ copy_step roomy.kernel child) → OnOk r (new ≡ record roomy { kernel = new.kernel; room = None })
+    → OnOk r (KeepsFlat roomy.kernel new.kernel) → IfErr r (λ stop. StopsAt (entries.Copy child) roomy.kernel j stop new j)
+    → MatchResult r (λ x. CopiesPage child parent old new holds i j) (StopsPage child parent old new holds i j)
+copied_by (Ok x) child parent old served roomy new holds later i h j e s f keeps step rest flat stops = record {
+  served = served;
+  behind = h;
+  serves = s;
+  roomy = roomy;
+  forces = f;
+  copies = copied_as roomy new child step rest;
+  keeps = keeps_both old served new holds later i h j s.0.makes.beside.images (made_shaped (parent ∷ []) s.0.units old.kernel served.kernel i h s.0.makes.made) e s.0.keeps
+      (keeps_both served roomy new later later h j j f.makes.beside.images (made_shaped (parent ∷ []) f.units served.kernel roomy.kernel h j f.makes.made) refl keeps
+      (keeps_flat roomy new later j flat));
+}
+copied_by (Err stop) child parent old served roomy new holds later i h j e s f keeps step rest flat stops =
+    inr (record { served = served; behind = h; serves = s; stops = inr (roomy, f, stops) })
+
+pub goes_on : {A : Type 0} (r : Result A Stop) (child parent : Page) (old served roomy new : Standing) (holds : Option (List NamedFile)) (i h j : Option (List ℕ))
+    → IsOn roomy → Stay old.kernel.place roomy.kernel.place → ServesNow (parent ∷ []) parent old served holds i h → Forced (parent ∷ []) served roomy h j
+    → OnOk r (new.kernel ≡ copy_step roomy.kernel child) → OnOk r (new ≡ record roomy { kernel = new.kernel; room = None }) → OnOk r (GoesOn child old new)
+goes_on (Err stop) child parent old served roomy new holds i h j o stay s f step rest = tt
+goes_on (Ok x) child parent old served roomy new holds i h j o stay s f step rest =
+    let is : new ≡ copied_from roomy child = copied_as roomy new child step rest in
+    record {
+      params = ap (λ (n : Standing). n.params) is ∙ f.makes.beside.params ∙ s.0.makes.beside.params;
+      images = ap (λ (n : Standing). n.images) is ∙ f.makes.beside.images ∙ s.0.makes.beside.images;
+      running = ap (λ (n : Standing). n.kernel.stopped) is ∙ o.running;
+      whole = ap (λ (n : Standing). n.before) is ∙ o.whole ∙ sym (ap (λ (n : Standing). n.kernel.holdings) is);
+      due = ap (λ (n : Standing). n.kernel.place.due) is ∙ ap (λ (ds : List Due). due_after ds child) stay.due;
+      frames = ap (λ (n : Standing). length n.kernel.place.holds) is ∙ filled_frames roomy.kernel.place child ∙ stay.frames;
+      last = ap (λ (n : Standing). last_moves n.kernel.journal) is ∙ last_copy roomy.kernel.journal child;
+    }
+
+-- All that are due.
+
+pub record FirstOf (sid : ℕ) (ds : List Due) (child : Page) : Type 0 where
+  pub others : List Due
+  pub first : ds ≡ CopyOf child (in_space sid child) ∷ others
+  pub rest : AreCopiesFrom sid others
+
+pub first_of : (sid : ℕ) (ds : List Due) (child : Page) → AreCopiesFrom sid ds → first_due ds ≡ Some child → FirstOf sid ds child
+first_of sid [] child a e = absurd cc
+first_of sid (Start q ∷ ds) child a e = absurd a
+first_of sid (CopyOf q parent ∷ ds) child a e =
+    let is : q ≡ child = same_Some q child e in
+    record {
+      others = ds;
+      first = ap (λ (p : Page). CopyOf q p ∷ ds) a.0 ∙ ap (λ (c : Page). CopyOf c (in_space sid c) ∷ ds) is;
+      rest = a.1;
+    }
+
+pub none_due : (ds : List Due) → first_due ds ≡ None → ds ≡ []
+none_due [] e = refl
+none_due (d ∷ ds) e = absurd cc
+
+pub list_first : (p : Placement) (sid : ℕ) (child parent : Page) → parent ≡ in_space sid child → (f : FirstOf sid p.due child)
+    → p.due ≡ CopyOf child parent ∷ f.others
+list_first p sid child parent e f = f.first ∙ ap (λ (q : Page). CopyOf child q ∷ f.others) (sym e)
+
+pub copy_first : (p : Placement) (sid : ℕ) (child parent : Page) → parent ≡ in_space sid child → FirstOf sid p.due child → IsCopyFirst p child parent
+copy_first p sid child parent e f = record { others = f.others; first = f.first ∙ ap (λ (q : Page). CopyOf child q ∷ f.others) (sym e) }
+
+-- behind the copy the others are due
+pub others_due : (p r : Placement) (sid : ℕ) (child : Page) (f : FirstOf sid p.due child) → r.due ≡ due_after p.due child → r.due ≡ f.others
+others_due p r sid child f e = e ∙ ap (λ (ds : List Due). due_after ds child) f.first ∙ first_gone child (in_space sid child) f.others
+
+pub copies_none : (ds : List Due) (s : Standing) (holds : Option (List NamedFile)) (i : Option (List ℕ)) → ds ≡ [] → CopiesAll ds s s holds i i
+copies_none ds s holds i e = subst (λ (xs : List Due). CopiesAll xs s s holds i i) (sym e) (refl, refl)
+
+pub stops_first : (ds others : List Due) (child parent : Page) (old new : Standing) (holds : Option (List NamedFile)) (i j : Option (List ℕ)) (stop : Stop)
+    → ds ≡ CopyOf child parent ∷ others → StopsPage child parent old new holds i j stop → StopsCopying ds old new holds i j stop
+stops_first ds others child parent old new holds i j stop e s =
+    subst (λ (xs : List Due). StopsCopying xs old new holds i j stop) (sym e) (inl s)
+
+pub copies_more : {A : Type 0} (r : Result A Stop) (ds others dues : List Due) (child parent : Page) (old next new : Standing) (holds later : Option (List NamedFile))
+    (i h j : Option (List ℕ)) → ds ≡ CopyOf child parent ∷ others → dues ≡ others → later ≡ holds → CopiesPage child parent old next holds i h
+    → MatchResult r (λ x. CopiesAll dues next new later h j) (StopsCopying dues next new later h j)
+    → MatchResult r (λ x. CopiesAll ds old new holds i j) (StopsCopying ds old new holds i j)
+copies_more (Ok x) ds others dues child parent old next new holds later i h j e d same page more =
+    subst (λ (xs : List Due). CopiesAll xs old new holds i j) (sym e)
+    (next, h, page, subst (λ (xs : List Due). CopiesAll xs next new holds h j) d (subst (λ (x : Option (List NamedFile)). CopiesAll dues next new x h j) same more))
+copies_more (Err stop) ds others dues child parent old next new holds later i h j e d same page more =
+    subst (λ (xs : List Due). StopsCopying xs old new holds i j stop) (sym e)
+    (inr (
+      next,
+      h,
+      page,
+      subst (λ (xs : List Due). StopsCopying xs next new holds h j stop) d
+          (subst (λ (x : Option (List NamedFile)). StopsCopying dues next new x h j stop) same more),
+    ))
+
+-- fewer are due
+pub fewer_due : (p r : Placement) (sid : ℕ) (child : Page) → FirstOf sid p.due child → r.due ≡ due_after p.due child → length r.due < length p.due
+fewer_due p r sid child f e =
+    let less : length r.due ≡ length f.others = ap (λ (ds : List Due). length ds) (others_due p r sid child f e) in
+    let more : length p.due ≡ suc (length f.others) = ap (λ (ds : List Due). length ds) f.first in
+    omega (arith, less, more)
+
+-- what the files and the swap device must have for the next page
+pub area_next : (old next : Standing) (n m : ℕ) → next.params ≡ old.params → m ≡ n → old.params.swap_blocks ≤ n → next.params.swap_blocks ≤ m
+area_next old next n m r e l = let a = ap (λ (x : Params). x.swap_blocks) r in omega arith
+
+pub files_next : (old next : Standing) (a b : Option (List NamedFile)) → next.images ≡ old.images → b ≡ a → AreFiles old.images a → AreFiles next.images b
+files_next old next a b r e f =
+    subst (λ (ns : List ImageNamed). AreFiles ns b) (sym r) (subst (λ (h : Option (List NamedFile)). AreFiles old.images h) (sym e) f)

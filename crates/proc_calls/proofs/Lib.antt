@@ -1,0 +1,11 @@
+pub mod Callers
+pub mod Leaving
+pub mod Exits
+pub mod Sizes
+pub mod Names
+pub mod Crowded
+pub mod Copies
+pub mod CopiedPages
+pub mod Makes
+pub mod Waits
+pub mod Writes

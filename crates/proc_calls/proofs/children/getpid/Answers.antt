@@ -1,0 +1,9 @@
+use Rattle.std.proofs.Common.{refl}
+use Rattle.flat_model.specs.declared.calls.SystemCall.TheVariants.{Getpid}
+use Rattle.flat_model.specs.Step.{call_entry}
+use Rattle.proc_calls.proofs.Callers.{can_keep}
+use Rattle.proc_calls.proofs.children.getpid.Goals as goal
+
+pub reply-requires-clause-can : goal.reply-requires-clause-can
+reply-requires-clause-can g c =
+    can_keep c.args.m.now c.args.pid (call_entry c.args.pid Getpid c.replied_both-after.result) c.requires.whole c.requires.clear c.requires.lends (refl, tt)

@@ -1,0 +1,25 @@
+use Rattle.std.proofs.Common.{◌≡◌, ℕ, Option, Some, None, Result, Ok, Err, refl, sym, subst}
+use Rattle.user_vax.specs.declared.refused.Refused.{Refused}
+use Rattle.flat_model.specs.declared.calls.Reply.TheVariants.{Fails}
+use Rattle.proc_calls.proofs.Names.{ExecveBy, execve_is, started}
+use Rattle.proc_calls.proofs.reading.execve_at.Goals as goal
+
+pub returns-in-Err : goal.returns-in-Err
+returns-in-Err g c = λ known shown.
+    let e : c.in_ok-refused.field-0 ≡ Err c.in-Err.refused = cc in
+    execve_is (g.M.Memory.answers c.args.memory.now) known c.args.images.now c.args.path c.args.argv c.in_ok-refused.field-0 (Err c.in-Err.refused)
+    (c.in_ok-refused.ensures.image known shown)
+    (subst (λ (p : Result (Option ℕ) Refused). ExecveBy (g.M.Memory.answers c.args.memory.now) known c.args.images.now c.args.argv p (Err c.in-Err.refused)) (sym e) refl)
+
+pub returns-in-Ok-None : goal.returns-in-Ok-None
+returns-in-Ok-None g c = λ known shown.
+    let e : c.in_ok-refused.field-0 ≡ Ok None = cc in
+    execve_is (g.M.Memory.answers c.args.memory.now) known c.args.images.now c.args.path c.args.argv c.in_ok-refused.field-0 (Ok (Fails 2))
+    (c.in_ok-refused.ensures.image known shown)
+    (subst (λ (p : Result (Option ℕ) Refused). ExecveBy (g.M.Memory.answers c.args.memory.now) known c.args.images.now c.args.argv p (Ok (Fails 2))) (sym e) refl)
+
+pub returns-in-Ok-Some : goal.returns-in-Ok-Some
+returns-in-Ok-Some g c = λ known shown.
+    let e : c.in_ok-refused.field-0 ≡ Ok (Some c.in-Ok-Some.image) = cc in
+    started (g.M.Memory.answers c.args.memory.now) known c.args.images.now c.args.path c.args.argv c.in-Ok-Some.image c.in_ok-refused.field-0 c.start_image.result e
+    (c.in_ok-refused.ensures.image known shown) c.start_image.ensures

@@ -1,0 +1,21 @@
+use Rattle.std.proofs.Common.{◌≡◌, subst}
+use Rattle.std.specs.Prelude.{Result, IfOk}
+use Rattle.vm_facts.specs.declared.stop.NoMemory.{NoMemory}
+use Rattle.user_vax.specs.Program.{run}
+use Rattle.user_vax.specs.declared.refused.Refused.{Refused}
+use Rattle.flat_model.specs.declared.calls.Reply.{Reply}
+use Rattle.flat_model.specs.Calls.{write_reply}
+use Rattle.machine_state.specs.UserMemory.{kernel_answers}
+use Rattle.proc_calls.specs.Callers.{space_held}
+use Rattle.proc_calls.specs.Writing.{MayWrite}
+use Rattle.proc_calls.proofs.Writes.{may_write}
+use Rattle.proc_calls.proofs.writing.write.Goals as goal
+
+pub answer-requires-clause-writes : goal.answer-requires-clause-writes
+answer-requires-clause-writes g c =
+    let asked : c.in_ok-refused.field-0 ≡ run (kernel_answers c.args.m.now.kernel (space_held c.args.m.now.kernel c.args.pid)) (write_reply c.args.regs.now) =
+    subst
+    (λ (r : Result (Result Reply Refused) NoMemory). IfOk r (λ a. a ≡ run (kernel_answers c.args.m.now.kernel (space_held c.args.m.now.kernel c.args.pid)) (write_reply c.args.regs.now)))
+    c.in_ok-refused.ensures.made c.read_bytes-asked.ensures.value in
+    subst (λ (r : Result Reply Refused). MayWrite r) c.in-Ok.is
+    (may_write (kernel_answers c.args.m.now.kernel (space_held c.args.m.now.kernel c.args.pid)) c.args.regs.now c.in_ok-refused.field-0 asked)

@@ -1,0 +1,41 @@
+-- The process that makes a call.
+use Rattle.std.specs.Prelude.{◌≡◌, ℕ, false, [], Option, Some, None}
+use Rattle.vm_facts.specs.declared.regs.Regs.{Regs}
+use Rattle.flat_state.specs.Flat.{cleared}
+use Rattle.page_model.specs.Pages.{numbered}
+use Rattle.kernel_model.specs.Kernel.{Kernel, Proc}
+use Rattle.kernel_model.specs.ChangeStep.{space_of_life}
+use Rattle.machine_state.specs.Machine.{Standing}
+use Rattle.machine_state.specs.Calls.{life_in}
+use Rattle.machine_state.specs.UserMemory.{CanLend}
+
+abbrev pub proc_in : Kernel → ℕ → Option Proc
+proc_in k pid = numbered (λ (p : Proc). p.pid) pid k.processes
+
+-- the space that a process holds
+abbrev pub space_held : Kernel → ℕ → ℕ
+space_held k pid = space_of_life (life_in k pid)
+
+abbrev pub regs_by : Option Proc → Regs
+regs_by None = cleared
+regs_by (Some p) = p.regs
+
+-- the registers that its record has
+abbrev pub regs_of : Kernel → ℕ → Regs
+regs_of k pid = regs_by (proc_in k pid)
+
+abbrev pub parent_by : Option Proc → ℕ
+parent_by None = 0
+parent_by (Some p) = p.parent
+
+-- the number of its parent
+abbrev pub parent_of : Kernel → ℕ → ℕ
+parent_of k pid = parent_by (proc_in k pid)
+
+-- The machine runs, no page is due, and no pieces wait for an entry; the process is there, holds a space that is there, and
+-- is in.
+pub record IsCaller (m : Standing) (pid : ℕ) : Type 0 where
+  pub running : m.kernel.stopped ≡ false
+  pub whole : m.before ≡ m.kernel.holdings
+  pub clear : m.kernel.place.due ≡ []
+  pub lends : CanLend m.kernel pid

@@ -1,0 +1,84 @@
+-- The pages of a child are copied, each from its parent's page.
+use Rattle.std.specs.Prelude.{◌≡◌, ◌⊎◌, ℕ, true, false, List, [], ◌∷◌, length, Option, None}
+use Rattle.vm_facts.specs.declared.page.Page.{Page}
+use Rattle.vm_facts.specs.declared.page.Page.TheVariants.{Data, Stack, Text}
+use Rattle.vm_facts.specs.declared.entry.Entry.TheVariants.{Copy}
+use Rattle.vm_facts.specs.declared.stop.Stop.{Stop}
+use Rattle.io_edge.specs.FileHolding.{NamedFile}
+use Rattle.page_model.specs.Placement.{Placement, Due, Start, CopyOf}
+use Rattle.page_model.specs.Place.{due_after}
+use Rattle.kernel_model.specs.Kernel.{copy_step}
+use Rattle.machine_state.specs.Machine.{Standing}
+use Rattle.machine_state.specs.Done.{KeepsThrough}
+use Rattle.paging_units.specs.LastMoves.{last_moves}
+use Rattle.paging_units.specs.Stops.{StopsAt}
+use Rattle.clock_hands.specs.Forced.{Forced, StopsForcing}
+use Rattle.fault_fill.specs.Serving.{StopsServing}
+use Rattle.fault_fill.specs.Answers.{ServesNow}
+
+-- the page of this name in another space
+abbrev pub in_space : ℕ → Page → Page
+in_space sid (Data s v) = Data sid v
+in_space sid (Stack s v) = Stack sid v
+in_space sid (Text image v) = Text image v
+
+-- each page that is due is copied from the page of its name in this space
+abbrev pub AreCopiesFrom : ℕ → List Due → Type 0
+AreCopiesFrom sid [] = Unit {0}
+AreCopiesFrom sid (Start q ∷ ds) = ⊥
+AreCopiesFrom sid (CopyOf q parent ∷ ds) = (parent ≡ in_space sid q) × AreCopiesFrom sid ds
+
+-- a page is due first, for a copy of its parent's
+pub record IsCopyFirst (p : Placement) (child parent : Page) : Type 0 where
+  pub others : List Due
+  pub first : p.due ≡ CopyOf child parent ∷ others
+
+-- The parent's page is served until it is valid, a frame is forced by hands that pass over it, and the child's page is copied.
+-- The flat states for which the machine stood stay so.
+pub record CopiesPage (child parent : Page) (old new : Standing) (holds : Option (List NamedFile)) (before after : Option (List ℕ)) : Type 0 where
+  pub served : Standing
+  pub behind : Option (List ℕ)
+  pub serves : ServesNow (parent ∷ []) parent old served holds before behind
+  pub roomy : Standing
+  pub forces : Forced (parent ∷ []) served roomy behind after
+  pub copies : new ≡ record roomy { kernel = copy_step roomy.kernel child; room = None }
+  pub keeps : KeepsThrough old new holds before after
+
+-- the machine stops once the parent's page was served, as a frame is forced, or at the copy
+pub record StopsBehind (child parent : Page) (old new : Standing) (holds : Option (List NamedFile)) (before after : Option (List ℕ)) (stop : Stop) : Type 0 where
+  pub served : Standing
+  pub behind : Option (List ℕ)
+  pub serves : ServesNow (parent ∷ []) parent old served holds before behind
+  pub stops : StopsForcing (parent ∷ []) served stop new behind after
+      ⊎ ((roomy : Standing) × Forced (parent ∷ []) served roomy behind after × StopsAt (Copy child) roomy.kernel after stop new after)
+
+-- or before
+abbrev pub StopsPage : Page → Page → Standing → Standing → Option (List NamedFile) → Option (List ℕ) → Option (List ℕ) → Stop → Type 0
+StopsPage child parent old new holds before after stop =
+    StopsServing true (parent ∷ []) parent old new before after stop ⊎ StopsBehind child parent old new holds before after stop
+
+-- a machine from which a page was copied goes on: it runs, the page isn't due, and there are as many frames as before
+pub record GoesOn (child : Page) (old new : Standing) : Type 0 where
+  pub params : new.params ≡ old.params
+  pub images : new.images ≡ old.images
+  pub running : new.kernel.stopped ≡ false
+  pub whole : new.before ≡ new.kernel.holdings
+  pub due : new.kernel.place.due ≡ due_after old.kernel.place.due child
+  pub frames : length new.kernel.place.holds ≡ length old.kernel.place.holds
+  pub last : last_moves new.kernel.journal ≡ 0
+
+-- all pages that are due are copied in turn
+abbrev pub CopiesAll : List Due → Standing → Standing → Option (List NamedFile) → Option (List ℕ) → Option (List ℕ) → Type 0
+CopiesAll [] old new holds before after = (new ≡ old) × (after ≡ before)
+CopiesAll (Start q ∷ ds) old new holds before after = ⊥
+CopiesAll (CopyOf child parent ∷ ds) old new holds before after =
+    (next : Standing) × (between : Option (List ℕ)) × CopiesPage child parent old next holds before between × CopiesAll ds next new holds between after
+
+-- the machine stops at one of them
+abbrev pub StopsCopying : List Due → Standing → Standing → Option (List NamedFile) → Option (List ℕ) → Option (List ℕ) → Stop → Type 0
+StopsCopying [] old new holds before after stop = ⊥
+StopsCopying (Start q ∷ ds) old new holds before after stop = ⊥
+StopsCopying (CopyOf child parent ∷ ds) old new holds before after stop =
+    StopsPage child parent old new holds before after stop
+    ⊎ ((next : Standing) × (between : Option (List ℕ)) × CopiesPage child parent old next holds before between
+    × StopsCopying ds next new holds between after stop)

@@ -1,0 +1,55 @@
+-- What becomes of the machine where a process leaves its space, and where it ends.
+use Rattle.std.specs.Prelude.{◌≡◌, ℕ, Bool, true, false, List, Option, Result, Ok, Err}
+use Rattle.io_edge.specs.FileHolding.{NamedFile}
+use Rattle.vm_facts.specs.declared.entry.Entry.TheVariants as entries
+use Rattle.vm_facts.specs.declared.regs.Regs.{Regs}
+use Rattle.user_vax.specs.declared.refused.Refused.{Refused}
+use Rattle.flat_model.specs.declared.calls.Reply.{Reply}
+use Rattle.flat_model.specs.declared.calls.Reply.TheVariants.{Exits}
+use Rattle.flat_model.specs.declared.calls.SystemCall.TheVariants.{Exit}
+use Rattle.flat_state.specs.declared.change.Change.TheVariants.{End}
+use Rattle.kernel_model.specs.ChangeStep.{pass_step}
+use Rattle.kernel_model.specs.Unit.{lender_among, has_lender}
+use Rattle.machine_state.specs.Machine.{Standing}
+use Rattle.machine_state.specs.Settled.{SettledBy, IsSameBeside}
+use Rattle.machine_state.specs.Done.{KeepsThrough}
+use Rattle.proc_calls.specs.Callers.{space_held, regs_of}
+use Rattle.proc_calls.specs.Answered.{Entered, Comes}
+use Rattle.proc_calls.specs.declared.replying.Called.{Called}
+use Rattle.proc_calls.specs.declared.replying.Called.TheVariants as calls
+
+-- transfers end until a space is settled, and the flat states are kept through the devices
+pub record HasSettled (old new : Standing) (sid : ℕ) (holds : Option (List NamedFile)) (before after : Option (List ℕ)) : Type 0 where
+  pub settled : SettledBy sid old.kernel new.kernel
+  pub rest : IsSameBeside old new
+  pub keeps : KeepsThrough old new holds before after
+
+-- a space that was lent goes back to the one that lent it, with no call of a device
+pub record HasReturned (old new : Standing) (pid : ℕ) (before after : Option (List ℕ)) : Type 0 where
+  pub step : new ≡ record old { kernel = pass_step old.kernel pid (lender_among old.kernel.processes pid) }
+  pub image : after ≡ before
+
+-- by whether some process lends its space to this one
+abbrev pub HasLeftBy : Bool → Standing → Standing → ℕ → Option (List NamedFile) → Option (List ℕ) → Option (List ℕ) → Type 0
+HasLeftBy true old new pid holds before after = HasReturned old new pid before after
+HasLeftBy false old new pid holds before after = HasSettled old new (space_held old.kernel pid) holds before after
+
+abbrev pub HasLeft : Standing → Standing → ℕ → Option (List NamedFile) → Option (List ℕ) → Option (List ℕ) → Type 0
+HasLeft old new pid holds before after = HasLeftBy (has_lender old.kernel.processes pid) old new pid holds before after
+
+-- the process left its space, and ended with this status and with the registers of its record
+pub record HasEnded (old new : Standing) (pid status : ℕ) (holds : Option (List NamedFile)) (before after : Option (List ℕ)) : Type 0 where
+  pub between : Standing
+  pub left : HasLeft old between pid holds before after
+  pub ended : Entered between new pid (regs_of old.kernel pid) (entries.Ended pid status) (End status)
+
+-- a reply that ends the process
+abbrev pub IsExit : Reply → Type 0
+IsExit (Exits status) = Unit {0}
+IsExit _ = ⊥
+
+-- What an exit comes to, by what its argument reads as.
+abbrev pub ExitComes : Standing → Standing → ℕ → Regs → Result Reply Refused → Option (List NamedFile) → Option (List ℕ) → Option (List ℕ) → Called → Type 0
+ExitComes old new pid regs (Ok (Exits status)) holds before after called = (called ≡ calls.Gone) × HasEnded old new pid status holds before after
+ExitComes old new pid regs (Ok reply) holds before after called = ⊥
+ExitComes old new pid regs (Err refused) holds before after called = Comes old new pid Exit regs (Err refused) called × (after ≡ before)

@@ -1,0 +1,9 @@
+pub mod Answered
+pub mod Callers
+pub mod Leaving
+pub mod Copying
+pub mod Making
+pub mod Sizing
+pub mod Waiting
+pub mod Reading
+pub mod Writing

@@ -1,0 +1,75 @@
+-- What becomes of the machine by a call that makes a process, and where it stops.
+use Rattle.std.specs.Prelude.{◌≡◌, ◌⊎◌, ℕ, ◌≤◌, nat_lt, Bool, true, false, length, None, Result, Ok, Err, is_ok}
+use Rattle.vm_facts.specs.declared.regs.Regs.{Regs}
+use Rattle.vm_facts.specs.declared.entry.Entry.TheVariants.{Refused}
+use Rattle.vm_facts.specs.declared.stop.Stop.{Stop}
+use Rattle.vm_facts.specs.declared.stop.Stop.TheVariants as stops
+use Rattle.swap_book.specs.Holdings.{Holdings}
+use Rattle.swap_book.specs.Placing.{place_all}
+use Rattle.flat_state.specs.declared.change.Change.{Change}
+use Rattle.flat_state.specs.declared.change.Change.TheVariants.{Keep, Lend}
+use Rattle.flat_model.specs.declared.calls.SystemCall.{SystemCall}
+use Rattle.flat_model.specs.declared.calls.SystemCall.TheVariants.{Vfork}
+use Rattle.flat_model.specs.Calls.{try_again, no_memory, process_limit, replied, replied_both}
+use Rattle.kernel_model.specs.Kernel.{Kernel, note_step}
+use Rattle.kernel_model.specs.ChangeStep.{pass_step}
+use Rattle.kernel_model.specs.Asks.{asked}
+use Rattle.machine_state.specs.Machine.{Standing}
+use Rattle.machine_state.specs.Applying.{facts_named}
+use Rattle.machine_state.specs.Conditions.{HasStopped, KeepsFlat}
+use Rattle.vfork_pass.specs.Passed.{HasLent}
+use Rattle.proc_calls.specs.declared.replying.Called.{Called}
+use Rattle.proc_calls.specs.Answered.{Answered}
+
+-- there are fewer processes than may be, as `child_reply` of flat_model asks of a flat state
+abbrev pub is_below_limit : Kernel → Bool
+is_below_limit k = nat_lt (length k.processes) process_limit
+
+-- the pieces that a change asks for find their places
+abbrev pub finds_pieces : Standing → ℕ → Change → Bool
+finds_pieces m pid change = is_ok (place_all m.params.swap_blocks m.kernel.holdings (asked (facts_named m.images) m.kernel pid change))
+
+-- once they were found
+abbrev pub with_pieces : Standing → Holdings → Standing
+with_pieces m found = record m { kernel = record m.kernel { holdings = found } }
+
+-- behind the entry that says that they find none
+abbrev pub without_pieces : Standing → ℕ → Standing
+without_pieces m pid = record m { kernel = note_step m.kernel (Refused pid); room = None }
+
+-- the call fails behind that entry, which leaves the flat states as they are
+pub record IsRefused (old new : Standing) (pid : ℕ) (call : SystemCall) (regs : Regs) : Type 0 where
+  pub keeps : KeepsFlat old.kernel (note_step old.kernel (Refused pid))
+  pub answer : Answered (without_pieces old pid) new pid call (replied regs true no_memory) Keep
+
+-- The pieces of the child's u page were found, the call replies with the child's number, and the space passes to the child
+-- at once: `Answered` says what the machine stands for behind both.
+pub record HasLentSpace (old new : Standing) (pid : ℕ) (regs : Regs) (child : ℕ) : Type 0 where
+  pub found : Holdings
+  pub pieces : place_all old.params.swap_blocks old.kernel.holdings (asked (facts_named old.images) old.kernel pid (Lend child)) ≡ Ok found
+  pub between : Standing
+  pub answer : Answered (with_pieces old found) between pid Vfork (replied_both regs child 0) (Lend child)
+  pub passed : new ≡ record between { kernel = pass_step between.kernel pid child }
+  pub lent : HasLent between.kernel new.kernel pid child
+
+-- by whether there are fewer processes than may be, and whether the pieces find their places
+abbrev pub VforkedBy : Bool → Bool → Standing → Standing → ℕ → Regs → Type 0
+VforkedBy false finds old new pid regs = Answered old new pid Vfork (replied regs true try_again) Keep
+VforkedBy true false old new pid regs = IsRefused old new pid Vfork regs
+VforkedBy true true old new pid regs = HasLentSpace old new pid regs old.kernel.next_pid
+
+abbrev pub Vforked : Standing → Standing → ℕ → Regs → Type 0
+Vforked old new pid regs = VforkedBy (is_below_limit old.kernel) (finds_pieces old pid (Lend old.kernel.next_pid)) old new pid regs
+
+-- The machine stops as it was, or behind the entry that says that pieces find no place. The journal was full only where it
+-- was at its bound there.
+pub record StopsMaking (old new : Standing) (pid : ℕ) (stop : Stop) : Type 0 where
+  pub between : Standing
+  pub reached : (between ≡ old) ⊎ (between ≡ without_pieces old pid)
+  pub stopped : HasStopped between new
+  pub cause : (stop ≡ stops.JournalFull) ⊎ (stop ≡ stops.NoMemory)
+  pub full : stop ≡ stops.JournalFull → between.params.journal ≤ length between.kernel.journal
+
+abbrev pub StopsMakingBy : Standing → Standing → ℕ → Result Called Stop → Type 0
+StopsMakingBy old new pid (Ok called) = Unit {0}
+StopsMakingBy old new pid (Err stop) = StopsMaking old new pid stop

@@ -1,0 +1,81 @@
+//! The pages of a child are copied from its parent's.
+ghost use Rattle.std.specs.Prelude.{◌≡◌, ◌≤◌, ◌∷◌, [], false, OnOk, MatchResult};
+ghost use Rattle.page_model.specs.Rank.{HasRoom};
+ghost use Rattle.machine_state.specs.Files.{AreFiles};
+ghost use Rattle.paging_units.specs.LastMoves.{last_moves};
+ghost use Rattle.proc_calls.specs.Copying.{in_space, AreCopiesFrom, IsCopyFirst, CopiesPage, StopsPage, GoesOn, CopiesAll, StopsCopying};
+
+use clock_hands::make_room;
+use fault_fill::serve_page_now;
+use io_edge::{Files, SwapDev};
+use machine_state::Machine;
+use vm_facts::{Page, Stop};
+
+// The page of this name in another space.
+fn page_in(sid: u32, page: Page) -> Page
+    ensures { result ≡ in_space sid page }
+{
+    match page {
+        Page::Data { v, .. } => Page::Data { sid, v },
+        Page::Stack { v, .. } => Page::Stack { sid, v },
+        Page::Text { .. } => page,
+    }
+}
+
+// The page that is due first is copied from its parent's page, which comes in first.
+fn copy_page<F: Files, D: SwapDev>(
+    m: &mut Machine,
+    files: &mut F,
+    swap: &mut D,
+    child: Page,
+    parent: Page,
+) -> Result<(), Stop>
+    requires running { m.old.kernel.stopped ≡ false }
+    requires whole { m.old.before ≡ m.old.kernel.holdings }
+    requires area { m.old.params.swap_blocks ≤ D.blocks swap.old }
+    requires files { AreFiles m.old.images (F.holds files.old) }
+    requires first { IsCopyFirst m.old.kernel.place child parent }
+    requires room { HasRoom m.old.kernel.place (parent ∷ []) }
+    requires low { last_moves m.old.kernel.journal ≤ 1000000 }
+    ensures copied { MatchResult result (λ u. CopiesPage child parent m.old m.new (F.holds files.old) (D.image swap.old) (D.image swap.new))
+        (StopsPage child parent m.old m.new (F.holds files.old) (D.image swap.old) (D.image swap.new)) }
+    ensures on { OnOk result (GoesOn child m.old m.new) }
+    ensures files_lead { F.leads files.old files.new }
+    ensures swap_leads { D.leads swap.old swap.new }
+    ensures holds { F.holds files.new ≡ F.holds files.old }
+    ensures blocks { D.blocks swap.new ≡ D.blocks swap.old }
+{
+    m.sound();
+    serve_page_now(m, files, swap, parent, &[parent])?;
+    make_room(m, files, swap, &[parent])?;
+    m.sound();
+    m.copy(child, parent)
+}
+
+/// The pages of a child that are due are copied in turn, each from the page of its name in the parent's space.
+pub fn copy_due<F: Files, D: SwapDev>(
+    m: &mut Machine,
+    files: &mut F,
+    swap: &mut D,
+    parent: u32,
+) -> Result<(), Stop>
+    requires running { m.old.kernel.stopped ≡ false }
+    requires whole { m.old.before ≡ m.old.kernel.holdings }
+    requires area { m.old.params.swap_blocks ≤ D.blocks swap.old }
+    requires files { AreFiles m.old.images (F.holds files.old) }
+    requires due { AreCopiesFrom parent m.old.kernel.place.due }
+    requires room { (page : Page) → HasRoom m.old.kernel.place (page ∷ []) }
+    requires low { last_moves m.old.kernel.journal ≤ 1000000 }
+    ensures copied { MatchResult result (λ u. CopiesAll m.old.kernel.place.due m.old m.new (F.holds files.old) (D.image swap.old) (D.image swap.new))
+        (StopsCopying m.old.kernel.place.due m.old m.new (F.holds files.old) (D.image swap.old) (D.image swap.new)) }
+    ensures files_lead { F.leads files.old files.new }
+    ensures swap_leads { D.leads swap.old swap.new }
+    ensures holds { F.holds files.new ≡ F.holds files.old }
+    ensures blocks { D.blocks swap.new ≡ D.blocks swap.old }
+{
+    let Some(child) = m.due() else {
+        return Ok(());
+    };
+    copy_page(m, files, swap, child, page_in(parent, child))?;
+    copy_due(m, files, swap, parent)
+}

@@ -1,0 +1,24 @@
+//! System calls over the paged machine (the 4.3BSD book has their meaning; numbers, limits and the order of errors are
+//! this project's profile).
+//!
+//! Each call is made by a process whose instruction was carried out, but for its registers: the record still has those
+//! from before it, and `regs` are those that it left.
+#![tactic(auto)]
+
+mod children;
+mod copying;
+mod ending;
+mod making;
+mod reading;
+mod replying;
+mod sizing;
+mod writing;
+
+pub use children::{getpid, wait};
+pub use copying::copy_due;
+pub use ending::{exit, kill, leave_space};
+pub use making::vfork;
+pub use reading::read_by_call;
+pub use replying::Called;
+pub use sizing::brk;
+pub use writing::write;

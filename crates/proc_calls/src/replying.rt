@@ -1,0 +1,141 @@
+// Replies of calls.
+ghost use Rattle.std.specs.Prelude.{◌≡◌, ◌⊎◌, ◌≤◌, ◌↔◌, [], true, false, length, Some, IsSome, IfOk, OnOk, OnErr, Ok, Err};
+ghost use Rattle.flat_state.specs.declared.change.Change.TheVariants.{Keep};
+ghost use Rattle.flat_model.specs.Calls.{replied, replied_both};
+ghost use Rattle.flat_model.specs.declared.calls.Reply.TheVariants.{Fails};
+ghost use Rattle.flat_model.specs.Step.{call_entry};
+ghost use Rattle.machine_state.specs.Machine.{proc_shown};
+ghost use Rattle.machine_state.specs.Applying.{CanApply};
+ghost use Rattle.machine_state.specs.Conditions.{HasStopped};
+ghost use Rattle.machine_state.specs.UserMemory.{CanLend};
+ghost use Rattle.proc_calls.specs.Answered.{Answered, Replied, Comes};
+ghost use Rattle.proc_calls.specs.Callers.{proc_in};
+
+use flat_model::{EFAULT, SystemCall};
+use flat_state::Change;
+use machine_state::Machine;
+use proc_table::Proc;
+use user_vax::Refused;
+use vm_facts::{Entry, Regs, Stop};
+
+/// What a call comes to.
+#[derive(Clone, Copy, Debug, PartialEq, Eq, Drop)]
+pub enum Called {
+    /// The reply is in the registers.
+    Ready,
+    /// Nothing was done, since a page that the call reads isn't valid. This byte is the first on such a page.
+    Miss { address: u32 },
+    /// The process sleeps until a child of it is a zombie.
+    Asleep,
+    /// The process has ended.
+    Gone,
+}
+
+/// The record of a process that there is.
+pub fn process(m: &Machine, pid: u32) -> Proc
+    requires running { m.now.kernel.stopped ≡ false }
+    requires there { IsSome (proc_in m.now.kernel pid) }
+    ensures { proc_in m.now.kernel pid ≡ Some (proc_shown result) }
+{
+    match m.processes().get(pid) {
+        Some(process) => *process,
+        None => unreachable!(),
+    }
+}
+
+// R0 and the carry.
+#[tactic(auto, unfolding(user_vax::specs::Operands::with_register))]
+fn replied(regs: &Regs, carry: bool, r0: u32) -> Regs
+    ensures { result ≡ replied regs.now carry r0 }
+{
+    let mut after = *regs;
+    after.r[0] = r0;
+    after.c = carry;
+    after
+}
+
+/// R0, with the carry clear.
+pub fn replied_one(regs: &Regs, r0: u32) -> Regs
+    ensures { result ≡ replied regs.now false r0 }
+{
+    replied(regs, false, r0)
+}
+
+/// R0 and R1, with the carry clear.
+pub fn replied_both(regs: &Regs, r0: u32, r1: u32) -> Regs
+    ensures { result ≡ replied_both regs.now r0 r1 }
+{
+    let mut after = replied(regs, false, r0);
+    after.r[1] = r1;
+    after
+}
+
+/// The call replies with these registers, and makes a change.
+pub fn reply(
+    m: &mut Machine,
+    pid: u32,
+    call: SystemCall,
+    regs: &Regs,
+    change: Change,
+) -> Result<Called, Stop>
+    requires running { m.old.kernel.stopped ≡ false }
+    requires can { CanApply m.old pid (call_entry pid call regs.now) change }
+    ensures ready { IfOk result (λ called. called ≡ Called.Ready) }
+    ensures answered { OnOk result (Answered m.old m.new pid call regs.now change) }
+    ensures stop { OnErr result (HasStopped m.old m.new) }
+    ensures cause { OnErr result ((result ≡ Err Stop.JournalFull) ⊎ (result ≡ Err Stop.NoMemory)) }
+    ensures full { (result ≡ Err Stop.JournalFull) ↔ (m.old.params.journal ≤ length m.old.kernel.journal) }
+{
+    let entry = Entry::Call {
+        pid,
+        number: call.number(),
+        carry: regs.c,
+        r0: regs.r[0],
+        r1: regs.r[1],
+    };
+    m.flat(pid, regs, entry, change)?;
+    Ok(Called::Ready)
+}
+
+/// The call answers an error.
+pub fn fail(
+    m: &mut Machine,
+    pid: u32,
+    call: SystemCall,
+    regs: &Regs,
+    error: u32,
+) -> Result<Called, Stop>
+    requires running { m.old.kernel.stopped ≡ false }
+    requires whole { m.old.before ≡ m.old.kernel.holdings }
+    requires clear { m.old.kernel.place.due ≡ [] }
+    requires lends { CanLend m.old.kernel pid }
+    ensures replied { IfOk result (Replied m.old m.new pid call regs.now (Fails error)) }
+    ensures stop { OnErr result (HasStopped m.old m.new) }
+    ensures cause { OnErr result ((result ≡ Err Stop.JournalFull) ⊎ (result ≡ Err Stop.NoMemory)) }
+    ensures full { (result ≡ Err Stop.JournalFull) ↔ (m.old.params.journal ≤ length m.old.kernel.journal) }
+{
+    reply(m, pid, call, &replied(regs, true, error), Change::Keep)
+}
+
+/// A byte that the call reads was refused: its page comes in first, or the address is a bad one.
+pub fn refuse(
+    m: &mut Machine,
+    pid: u32,
+    call: SystemCall,
+    regs: &Regs,
+    refused: Refused,
+) -> Result<Called, Stop>
+    requires running { m.old.kernel.stopped ≡ false }
+    requires whole { m.old.before ≡ m.old.kernel.holdings }
+    requires clear { m.old.kernel.place.due ≡ [] }
+    requires lends { CanLend m.old.kernel pid }
+    ensures comes { IfOk result (Comes m.old m.new pid call regs.now (Err refused)) }
+    ensures stop { OnErr result (HasStopped m.old m.new) }
+    ensures cause { OnErr result ((result ≡ Err Stop.JournalFull) ⊎ (result ≡ Err Stop.NoMemory)) }
+    ensures full { result ≡ Err Stop.JournalFull → m.old.params.journal ≤ length m.old.kernel.journal }
+{
+    match refused {
+        Refused::Miss { address, .. } => Ok(Called::Miss { address }),
+        Refused::Below { .. } | Refused::Signal(_) => fail(m, pid, call, regs, EFAULT),
+    }
+}

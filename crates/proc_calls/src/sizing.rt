@@ -1,0 +1,209 @@
+//! The call that moves the end of the data.
+ghost use Rattle.std.specs.Prelude.{◌≡◌, ◌<◌, ◌≤◌, true, false, IfOk, OnErr};
+ghost use Rattle.core_map.specs.Frames.{Frames};
+ghost use Rattle.user_vax.specs.Program.{run};
+ghost use Rattle.flat_state.specs.declared.change.Change.TheVariants.{Resize};
+ghost use Rattle.flat_model.specs.Calls.{argument, data_limit, replied};
+ghost use Rattle.flat_model.specs.declared.calls.Reply.TheVariants.{Does};
+ghost use Rattle.flat_model.specs.declared.calls.SystemCall.TheVariants.{Break};
+ghost use Rattle.flat_model.specs.Step.{call_entry};
+ghost use Rattle.page_model.specs.Placement.{image_of};
+ghost use Rattle.table_view.specs.Views.{ShowsSpace};
+ghost use Rattle.machine_state.specs.Showing.{ShowsCore};
+ghost use Rattle.machine_state.specs.Applying.{CanApply};
+ghost use Rattle.machine_state.specs.Files.{AreFiles};
+ghost use Rattle.machine_state.specs.UserMemory.{CanLend, kernel_answers};
+ghost use Rattle.proc_calls.specs.Answered.{Replied};
+ghost use Rattle.proc_calls.specs.Callers.{space_held, IsCaller};
+ghost use Rattle.proc_calls.specs.Sizing.{data_pages_of, stack_pages_of, pages_to, Grows, CutData, MovesEnd, BreakComes};
+
+use crate::replying::{Called, fail, process, refuse, replied_one, reply};
+use flat_model::{Asked, DATA_LIMIT, ENOMEM, SystemCall, argument};
+use flat_state::{Change, PAGE};
+use io_edge::{Files, SwapDev};
+use machine_state::{Machine, Want};
+use proc_table::Life;
+use space_map::SpaceMap;
+use swap_book::Owner;
+use vm_facts::{Regs, Stop};
+
+// The space of a process, with its sizes, and the pages that its data is to have.
+#[derive(Clone, Copy, Drop)]
+struct Sizes {
+    sid: u32,
+    data_pages: u32,
+    stack_pages: u32,
+    wanted: u32,
+}
+
+// The map of the space that a process holds.
+fn space_of(m: &Machine, pid: u32) -> &SpaceMap
+    requires running { m.now.kernel.stopped ≡ false }
+    requires lends { CanLend m.now.kernel pid }
+    ensures named { result.now.sid ≡ space_held m.now.kernel pid }
+    ensures of_image { result.now.image ≡ image_of m.now.kernel.place (space_held m.now.kernel pid) }
+    ensures shows { (core : Frames) → ShowsCore m.now.kernel.place core → ShowsSpace m.now.kernel.place core result.now }
+{
+    let Life::Holds(sid) = process(m, pid).state else {
+        unreachable!()
+    };
+    match m.space(sid) {
+        Some(space) => space,
+        None => unreachable!(),
+    }
+}
+
+// The sizes of a process, whose data is to end at an address.
+fn sizes_to(m: &Machine, pid: u32, address: u32) -> Sizes
+    requires running { m.now.kernel.stopped ≡ false }
+    requires lends { CanLend m.now.kernel pid }
+    ensures named { result.sid ≡ space_held m.now.kernel pid }
+    ensures holds { result.data_pages ≡ data_pages_of m.now.kernel pid }
+    ensures stack { result.stack_pages ≡ stack_pages_of m.now.kernel pid }
+    ensures wanted { result.wanted ≡ pages_to m.now.kernel pid address }
+    ensures few { result.stack_pages ≤ 512 }
+{
+    let _core = m.core();
+    let space = space_of(m, pid);
+    let start = PAGE * space.text_pages();
+    Sizes {
+        sid: space.sid(),
+        data_pages: space.data_pages(),
+        stack_pages: space.stack_pages(),
+        wanted: address.saturating_sub(start).div_ceil(PAGE),
+    }
+}
+
+// The data gets the pages that are wanted.
+fn resize(m: &mut Machine, pid: u32, regs: &Regs, sizes: Sizes) -> Result<Called, Stop>
+    requires running { m.old.kernel.stopped ≡ false }
+    requires can { CanApply m.old pid (call_entry pid Break (replied regs.now false 0)) (Resize sizes.wanted sizes.stack_pages) }
+    ensures replied { IfOk result (Replied m.old m.new pid Break regs.now (Does (replied regs.now false 0) (Resize sizes.wanted sizes.stack_pages))) }
+    ensures stop { OnErr result (m.new.kernel.stopped ≡ true) }
+{
+    let change = Change::Resize {
+        data_pages: sizes.wanted,
+        stack_pages: sizes.stack_pages,
+    };
+    reply(m, pid, SystemCall::Break, &replied_one(regs, 0), change)
+}
+
+// More pages of data, where their pieces find their places.
+fn grow(m: &mut Machine, pid: u32, regs: &Regs, sizes: Sizes) -> Result<Called, Stop>
+    requires calls { IsCaller m.old pid }
+    requires named { sizes.sid ≡ space_held m.old.kernel pid }
+    requires stack { sizes.stack_pages ≡ stack_pages_of m.old.kernel pid }
+    requires few { sizes.stack_pages ≤ 512 }
+    requires most { sizes.wanted ≤ data_limit }
+    requires more { data_pages_of m.old.kernel pid < sizes.wanted }
+    ensures grows { IfOk result (Grows m.old m.new pid regs.now sizes.wanted) }
+    ensures stop { OnErr result (m.new.kernel.stopped ≡ true) }
+{
+    m.sound();
+    let want = Want {
+        owner: Owner::Data(sizes.sid),
+        blocks: 2 * sizes.wanted,
+    };
+    if m.ask(pid, &[want])? {
+        resize(m, pid, regs, sizes)
+    } else {
+        fail(m, pid, SystemCall::Break, regs, ENOMEM)
+    }
+}
+
+// Fewer pages of data, once the space is settled.
+fn cut<F: Files, D: SwapDev>(
+    m: &mut Machine,
+    files: &mut F,
+    swap: &mut D,
+    pid: u32,
+    regs: &Regs,
+    sizes: Sizes,
+) -> Result<Called, Stop>
+    requires calls { IsCaller m.old pid }
+    requires area { m.old.params.swap_blocks ≤ D.blocks swap.old }
+    requires files { AreFiles m.old.images (F.holds files.old) }
+    requires named { sizes.sid ≡ space_held m.old.kernel pid }
+    requires stack { sizes.stack_pages ≡ stack_pages_of m.old.kernel pid }
+    requires few { sizes.stack_pages ≤ 512 }
+    requires most { sizes.wanted ≤ data_limit }
+    requires fewer { sizes.wanted < data_pages_of m.old.kernel pid }
+    ensures cut { IfOk result (CutData m.old m.new pid regs.now sizes.wanted (F.holds files.old) (D.image swap.old) (D.image swap.new)) }
+    ensures stop { OnErr result (m.new.kernel.stopped ≡ true) }
+    ensures files_lead { F.leads files.old files.new }
+    ensures swap_leads { D.leads swap.old swap.new }
+    ensures holds { F.holds files.new ≡ F.holds files.old }
+    ensures blocks { D.blocks swap.new ≡ D.blocks swap.old }
+{
+    m.sound();
+    m.settle(files, swap, sizes.sid)?;
+    m.sound();
+    resize(m, pid, regs, sizes)
+}
+
+// What the argument of a break reads as, by the memory of the process.
+fn read_address(m: &mut Machine, pid: u32, regs: &Regs) -> Asked<u32>
+    requires running { m.old.kernel.stopped ≡ false }
+    requires lends { CanLend m.old.kernel pid }
+    ensures value { result ≡ run (kernel_answers m.old.kernel (space_held m.old.kernel pid)) (argument regs.now 1) }
+    ensures same { m.new ≡ m.old }
+{
+    argument(&m.memory(pid), *regs, 1)
+}
+
+// The data ends at an address.
+fn move_end<F: Files, D: SwapDev>(
+    m: &mut Machine,
+    files: &mut F,
+    swap: &mut D,
+    pid: u32,
+    regs: &Regs,
+    address: u32,
+) -> Result<Called, Stop>
+    requires calls { IsCaller m.old pid }
+    requires area { m.old.params.swap_blocks ≤ D.blocks swap.old }
+    requires files { AreFiles m.old.images (F.holds files.old) }
+    ensures moves { IfOk result (MovesEnd m.old m.new pid regs.now (pages_to m.old.kernel pid address) (F.holds files.old) (D.image swap.old) (D.image swap.new)) }
+    ensures stop { OnErr result (m.new.kernel.stopped ≡ true) }
+    ensures files_lead { F.leads files.old files.new }
+    ensures swap_leads { D.leads swap.old swap.new }
+    ensures holds { F.holds files.new ≡ F.holds files.old }
+    ensures blocks { D.blocks swap.new ≡ D.blocks swap.old }
+{
+    let sizes = sizes_to(m, pid, address);
+    if sizes.wanted > DATA_LIMIT {
+        fail(m, pid, SystemCall::Break, regs, ENOMEM)
+    } else if sizes.wanted > sizes.data_pages {
+        grow(m, pid, regs, sizes)
+    } else if sizes.wanted < sizes.data_pages {
+        cut(m, files, swap, pid, regs, sizes)
+    } else {
+        m.sound();
+        resize(m, pid, regs, sizes)
+    }
+}
+
+/// The data of the process ends at its argument. Where the pieces of more pages find no place, it is told so behind an
+/// entry of that; fewer pages wait for the transfers of the space.
+pub fn brk<F: Files, D: SwapDev>(
+    m: &mut Machine,
+    files: &mut F,
+    swap: &mut D,
+    pid: u32,
+    regs: &Regs,
+) -> Result<Called, Stop>
+    requires calls { IsCaller m.old pid }
+    requires area { m.old.params.swap_blocks ≤ D.blocks swap.old }
+    requires files { AreFiles m.old.images (F.holds files.old) }
+    ensures comes { IfOk result (BreakComes m.old m.new pid regs.now (run (kernel_answers m.old.kernel (space_held m.old.kernel pid)) (argument regs.now 1)) (F.holds files.old) (D.image swap.old) (D.image swap.new)) }
+    ensures stop { OnErr result (m.new.kernel.stopped ≡ true) }
+    ensures files_lead { F.leads files.old files.new }
+    ensures swap_leads { D.leads swap.old swap.new }
+    ensures holds { F.holds files.new ≡ F.holds files.old }
+    ensures blocks { D.blocks swap.new ≡ D.blocks swap.old }
+{
+    match read_address(m, pid, regs) {
+        Err(refused) => refuse(m, pid, SystemCall::Break, regs, refused),
+        Ok(address) => move_end(m, files, swap, pid, regs, address),
+    }
+}
