@@ -33,7 +33,6 @@ pub mod FirstStarts
 pub mod AddedRing
 pub mod FirstBegins
 pub mod FirstBegun
-pub mod TestLemmas
 pub mod Reclaims
 pub mod Device
 pub mod Revives

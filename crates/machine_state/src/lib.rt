@@ -36,6 +36,3 @@ pub use machine::Machine;
 pub use named::Named;
 pub use pieces::{Want, image_wants};
 pub use user_memory::SpaceMemory;
-
-#[cfg(test)]
-mod tests;

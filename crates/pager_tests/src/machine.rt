@@ -9,9 +9,9 @@ ghost use Rattle.machine_state.specs.New.{AreSound};
 ghost use Rattle.machine_state.specs.Sourced.{ImageNamed, AreNames};
 ghost use Rattle.machine_state.specs.Machine.{image_shown};
 
-use super::*;
 use aout_image::{Image, Kind};
 use io_edge::{Files, MemFiles, MemSwap, SwapDev};
+use machine_state::{Machine, Named, Want};
 use std::alloc::{AllocError, Global};
 use std::process::Abort;
 use std::test::Fail;

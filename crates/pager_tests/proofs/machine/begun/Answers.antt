@@ -6,8 +6,8 @@ use Rattle.page_model.specs.Place.{filled}
 use Rattle.machine_state.specs.declared.named.Named.{Named}
 use Rattle.machine_state.specs.Calls.{CanPush}
 use Rattle.machine_state.specs.Conditions.{CanZero, CanBringIn}
-use Rattle.machine_state.proofs.TestLemmas.{HasBegun, small, fresh, has_begun, can_zero, can_push, can_get}
-use Rattle.machine_state.proofs.tests.begun.Goals as goal
+use Rattle.pager_tests.proofs.SmallMachine.{HasBegun, small, fresh, has_begun, can_zero, can_push, can_get}
+use Rattle.pager_tests.proofs.machine.begun.Goals as goal
 
 pub returns-clause-files : goal.returns-clause-files
 returns-clause-files g c =

@@ -4,7 +4,7 @@ use Rattle.machine_state.specs.declared.named.Named.{Named}
 use Rattle.machine_state.specs.New.{fresh_kernel}
 use Rattle.machine_state.specs.Machine.{image_shown}
 use Rattle.machine_state.proofs.FirstBegins.{may_first}
-use Rattle.machine_state.proofs.tests.a_first_process_begins_with_its_pieces_and_a_page_that_is_due.Goals as goal
+use Rattle.pager_tests.proofs.machine.a_first_process_begins_with_its_pieces_and_a_page_that_is_due.Goals as goal
 
 pub begin-requires-clause-may : goal.begin-requires-clause-may
 begin-requires-clause-may g c =
