@@ -29,7 +29,7 @@ use Rattle.machine_state.specs.Sourced.{ImageNamed, IsFlightSourced, AreSourced}
 use Rattle.machine_state.specs.Files.{AreFiles, AreImages}
 use Rattle.machine_state.specs.Machine.{Runs, lists_of, kernel_by, image_at}
 use Rattle.machine_state.specs.Moves.{LandedAll, ending}
-use Rattle.machine_state.specs.Done.{IsWholeFlight, ImageAfter, SpoilsBy, SpoilsAfter, StandsTold}
+use Rattle.machine_state.specs.Done.{ReadsTold, IsWholeFlight, ImageAfter, SpoilsBy, SpoilsAfter, StandsTold}
 use Rattle.machine_state.proofs.Kernels.{kernel_ext}
 use Rattle.machine_state.proofs.Ends.{IsBack, alike, ending_place, ending_known, ending_frames, brought, AreBytes, written_bytes}
 use Rattle.machine_state.proofs.ReadBytes.{pages_read, pages_written, none_written, pages_spoiled, none_spoiled}
@@ -150,6 +150,14 @@ done_read t ns k (flights.Write parts) n rest size holds image after images flat
 done_read t ns k (flights.Read demanded parts) (flights.Write news) rest size holds image after images flat b e f l w = absurd e.0.0
 done_read t ns k (flights.Read demanded parts) (flights.Read page news) rest size holds image after images flat b e f l w =
     pages_read ns k size holds images image flat (source_shown parts.items) parts.items news.items f l b.sourced e.0.0.1 w e.0.1
+
+pub done_told : (t : Tables) (ns : List ImageNamed) (k : Kernel) (o n : Flight) (rest : List Flight) (size : ℕ) (holds : Option (List NamedFile)) (before after : Option (List ℕ))
+    → Before t ns k o rest size → Ends o holds before after (answers.Done n)
+    → AreFiles ns holds → IsWholeFlight n → ReadsTold (record { images = ns; files = holds }) before k (brought n)
+done_told t ns k o n rest size holds None after b e f w = tt
+done_told t ns k o n rest size holds (Some image) after b e f w = λ images flat l.
+    subst (λ (ts : List Transfer). AreRead (beside_kernel k images image flat) ts (brought n)) (sym (oldest_first t ns k o rest size b))
+    (done_read t ns k o n rest size holds image after images flat b e f l w)
 
 pub done_keeps : (t : Tables) (ns : List ImageNamed) (k : Kernel) (o n : Flight) (rest : List Flight) (size : ℕ) (holds : Option (List NamedFile)) (before after : Option (List ℕ)) (images : List NamedImage) (flat : FlatState)
     → Before t ns k o rest size → Ends o holds before after (answers.Done n)

@@ -63,8 +63,13 @@ pub new_first : (m : Inside) (pid image : ℕ) → Before m pid image → IsNew 
 new_first m pid image b =
     subst (IsNew (placement_of (lists_of m.tables))) (same_number m pid image b) (new_number (kernel_by m.tables m.journal.items m.stopped) b.runs.numbered)
 
-images_length : (t : Tables) → length (images_of t) ≡ length t.images.items
+pub images_length : (t : Tables) → length (images_of t) ≡ length t.images.items
 images_length t = length-map t.images.items image_shown
+
+-- what is shown of each image has its header
+pub shown_facts : (images : List Named) → map (λ (n : ImageNamed). n.facts) (map image_shown images) ≡ map (λ (n : Named). n.facts) images
+shown_facts [] = refl
+shown_facts (x ∷ xs) = ap (λ (ys : List Image). x.facts ∷ ys) (shown_facts xs)
 
 -- Its pieces may be looked for.
 

@@ -1,23 +1,42 @@
 -- What a machine keeps through the end of a transfer, for those that follow.
-use Rattle.std.proofs.Common.{◌≡◌, ℕ, suc, ◌*◌, ◌<◌, List, [], ◌∷◌, length, Option, None, Result, Ok, Err, OnOk, sym, ap, ◌∙◌, subst, arith}
+use Rattle.std.proofs.Common.{◌≡◌, ◌↔◌, refl, ℕ, suc, ◌*◌, ◌<◌, ◌≤◌, Bool, false, List, [], ◌∷◌, length, Option, None, Result, Ok, Err, IfErr, OnOk, sym, ap, ◌∙◌, subst, arith}
 use Rattle.vm_facts.specs.declared.page.Page.TheVariants.{Text}
 use Rattle.io_edge.specs.FileHolding.{NamedFile}
 use Rattle.flat_state.specs.Flat.{NamedImage}
 use Rattle.page_model.specs.Placement.{Transfer}
 use Rattle.page_model.specs.Moves.{done_of, done}
+use Rattle.page_model.specs.Swapper.{is_settled}
+use Rattle.vm_facts.specs.declared.stop.Stop.{Stop}
+use Rattle.vm_facts.specs.declared.stop.Stop.TheVariants as stops
 use Rattle.kernel_model.specs.Kernel.{Kernel, done_step}
 use Rattle.kernel_model.specs.Sound.{TextFits}
 use Rattle.kernel_laws.proofs.Machine.Shapes.{done_shaped, sizes_kept}
 use Rattle.page_laws.proofs.Moves.Transfers.{land_all_rest}
 use Rattle.machine_state.specs.Sourced.{ImageNamed}
 use Rattle.machine_state.specs.Machine.{Standing}
+use Rattle.machine_state.specs.Conditions.{HasStopped}
 use Rattle.machine_state.specs.Files.{AreImages}
-use Rattle.machine_state.specs.Done.{IsDone, KeepsThrough}
-use Rattle.machine_state.specs.Settled.{SettledBy}
+use Rattle.machine_state.specs.Done.{Sources, sources, IsDone, ImageAfter, KeepsThrough, StopsFor, SwapAfter}
+use Rattle.machine_state.specs.Settled.{SettledBy, EndsWhile, IsSameBeside, StopsSettling}
 
 pub on_ok : {A E P Q : Type 0} (r : Result A E) → (P → Q) → OnOk r P → OnOk r Q
 on_ok (Ok x) f h = f h
 on_ok (Err e) f h = h
+
+pub if_err : {A : Type 0} {P Q : Stop → Type 0} (r : Result A Stop) → ((stop : Stop) → P stop → Q stop) → IfErr r P → IfErr r Q
+if_err (Ok x) f h = h
+if_err (Err stop) f h = f stop h
+
+pub beside_done : (old new : Standing) → new ≡ record old { kernel = new.kernel; room = None } → IsSameBeside old new
+beside_done old new r = record {
+  params = ap (λ (s : Standing). s.params) r;
+  images = ap (λ (s : Standing). s.images) r;
+  before = ap (λ (s : Standing). s.before) r;
+}
+
+pub same_sources : (old next : Standing) (holds later : Option (List NamedFile)) → later ≡ holds → IsSameBeside old next → sources next later ≡ sources old holds
+same_sources old next holds later e b =
+    ap (λ (x : Option (List NamedFile)). sources next x) e ∙ ap (λ (ns : List ImageNamed). let f : Sources = record { images = ns; files = holds } in f) b.images
 
 pub record GoesOn (old new : Standing) : Type 0 where
   pub stopped : new.kernel.stopped ≡ old.kernel.stopped
@@ -34,8 +53,8 @@ fewer_left k l = go k.place.transfers l
     go [] m = absurd (omega arith)
     go (t ∷ ts) m = let e = ap (λ (us : List Transfer). length us) (land_all_rest t.parts k.place t.errand ts) in omega arith
 
-pub goes_on : (old new : Standing) → old.before ≡ old.kernel.holdings → IsDone old.kernel new.kernel → new ≡ record old { kernel = new.kernel; room = None } → GoesOn old new
-goes_on old new w d r =
+pub goes_on : (old new : Standing) (from : Sources) (i : Option (List ℕ)) → old.before ≡ old.kernel.holdings → IsDone from i old.kernel new.kernel → new ≡ record old { kernel = new.kernel; room = None } → GoesOn old new
+goes_on old new from i w d r =
     let k : Kernel = done_step old.kernel d.read in
     record {
       stopped = ap (λ (x : Kernel). x.stopped) d.step;
@@ -47,8 +66,53 @@ goes_on old new w d r =
           (λ i. f i ∙ ap (λ (n : ℕ). 1024 * n) (sym (sizes_kept old.kernel.place (done old.kernel.place) (done_shaped old.kernel.place) (Text i 0))));
     }
 
-pub one_more : (sid : ℕ) (old next new : Kernel) → IsDone old next → SettledBy sid next new → SettledBy sid old new
-one_more sid old next new d s = record { count = suc s.count; dones = (next, d, s.dones); settled = s.settled }
+pub one_more : (from later : Sources) (sid : ℕ) (old next new : Kernel) (i j h : Option (List ℕ)) → later ≡ from → is_settled old.place sid ≡ false → IsDone from i old next → ImageAfter old i j
+    → SettledBy later sid next new j h → SettledBy from sid old new i h
+one_more from later sid old next new i j h e u d a s = record {
+  count = suc s.count;
+  ends = (u, (next, j, d, a, subst (λ (x : Sources). EndsWhile x sid s.count next j new h) e s.ends));
+  settled = s.settled;
+}
+
+pub one_stopped : (sid : ℕ) (old next new : Standing) (holds later : Option (List NamedFile)) (i j h : Option (List ℕ)) (stop : Stop) → later ≡ holds → IsSameBeside old next
+    → is_settled old.kernel.place sid ≡ false → IsDone (sources old holds) i old.kernel next.kernel → ImageAfter old.kernel i j
+    → StopsSettling sid next new later j h stop → StopsSettling sid old new holds i h stop
+one_stopped sid old next new holds later i j h stop e b u d a s =
+    let same : sources next later ≡ sources old holds = same_sources old next holds later e b in
+    record {
+      count = suc s.count;
+      between = s.between;
+      image = s.image;
+      ends = (u, (next.kernel, j, d, a, subst (λ (x : Sources). EndsWhile x sid s.count next.kernel j s.between.kernel s.image) same s.ends));
+      beside = record { params = s.beside.params ∙ b.params; images = s.beside.images ∙ b.images; before = s.beside.before ∙ b.before };
+      unsettled = s.unsettled;
+      stops = s.stops;
+    }
+
+err_same : (s t : Stop) → (let r : Result Bool Stop = Err s in r) ≡ Err t → s ≡ t
+err_same s t e = cc
+
+pub stopped_first : (sid : ℕ) (old new : Standing) (holds : Option (List NamedFile)) (i j : Option (List ℕ)) (stop : Stop) → is_settled old.kernel.place sid ≡ false
+    → HasStopped old new → StopsFor (Err stop) old.kernel.place.transfers
+    → (((let r : Result Bool Stop = Err stop in r) ≡ Err stops.JournalFull) ↔ ((0 < length old.kernel.place.transfers) × (old.params.journal ≤ length old.kernel.journal)))
+    → SwapAfter (Err stop) old.kernel i j → StopsSettling sid old new holds i j stop
+stopped_first sid old new holds i j stop u s c full a = record {
+  count = 0;
+  between = old;
+  image = i;
+  ends = (refl, refl);
+  beside = record { params = refl; images = refl; before = refl };
+  unsettled = u;
+  stops = record {
+    stopped = s;
+    full = (
+      (λ h. full.0 (ap (λ (t : Stop). let r : Result Bool Stop = Err t in r) h)),
+      (λ h. err_same stop stops.JournalFull (full.1 h)),
+    );
+    cause = c;
+    image = a;
+  };
+}
 
 pub through : (old next new : Standing) (holds later : Option (List NamedFile)) (a b c : Option (List ℕ)) → GoesOn old next → later ≡ holds → KeepsThrough old next holds a b → KeepsThrough next new later b c → KeepsThrough old new holds a c
 through old next new holds later a b c g e f s images flat l t h =

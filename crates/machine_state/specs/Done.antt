@@ -1,5 +1,5 @@
 -- The end of a transfer, through its device.
-use Rattle.std.specs.Prelude.{◌≡◌, ◌⊎◌, ℕ, ◌<◌, Bool, List, [], ◌∷◌, length, Option, Some, None, Result, Ok, Err}
+use Rattle.std.specs.Prelude.{◌≡◌, ◌⊎◌, ◌↔◌, ℕ, ◌<◌, ◌≤◌, Bool, List, [], ◌∷◌, length, Option, Some, None, Result, Ok, Err}
 use Rattle.flat_state.specs.Flat.{FlatState, NamedImage}
 use Rattle.vm_facts.specs.declared.stop.Stop.{Stop}
 use Rattle.vm_facts.specs.declared.stop.Stop.TheVariants as stops
@@ -9,9 +9,11 @@ use Rattle.page_model.specs.Placement.{Transfer, Part, Errand, Writes, Reads}
 use Rattle.page_model.specs.Ownership.{block_of}
 use Rattle.kernel_model.specs.Kernel.{Kernel, done_step, image_after, frame_bytes}
 use Rattle.kernel_model.specs.Sound.{TextFits}
-use Rattle.kernel_model.specs.Coupled.{Coupled}
+use Rattle.kernel_model.specs.Coupled.{Coupled, AreRead, beside_kernel}
 use Rattle.page_model.specs.Stored.{store_at}
+use Rattle.machine_state.specs.Sourced.{ImageNamed}
 use Rattle.machine_state.specs.Machine.{Standing}
+use Rattle.machine_state.specs.Conditions.{HasStopped}
 use Rattle.machine_state.specs.Files.{AreImages}
 use Rattle.transfer_ring.specs.declared.transfer.Inbound.{Inbound}
 use Rattle.transfer_ring.specs.declared.transfer.Transfer.{Transfer as Flight}
@@ -26,11 +28,27 @@ abbrev pub IsWholeFlight : Flight → Type 0
 IsWholeFlight (flights.Read demanded parts) = AreWholePages parts.items
 IsWholeFlight (flights.Write parts) = Unit {0}
 
--- the oldest transfer is complete; of a read, with some bytes that were read
-pub record IsDone (old new : Kernel) : Type 0 where
+-- what the machine reads from beside the swap area: its images by name, and the files, where they are told
+pub record Sources : Type 0 where
+  pub images : List ImageNamed
+  pub files : Option (List NamedFile)
+
+-- where the files and the swap image are told, these are the bytes that stand where the oldest transfer reads
+abbrev pub ReadsTold : Sources → Option (List ℕ) → Kernel → List (List ℕ) → Type 0
+ReadsTold from None k read = Unit {0}
+ReadsTold from (Some image) k read =
+    (images : List NamedImage) (flat : FlatState) → AreImages from.images from.files images → AreRead (beside_kernel k images image flat) k.place.transfers read
+
+-- the oldest transfer is complete; of a read, with the bytes that were read, which are those of the files and the swap image
+pub record IsDone (from : Sources) (before : Option (List ℕ)) (old new : Kernel) : Type 0 where
   pub some : 0 < length old.place.transfers
   pub read : List (List ℕ)
   pub step : new ≡ done_step old read
+  pub told : ReadsTold from before old read
+
+-- those of a machine, with these files
+abbrev pub sources : Standing → Option (List NamedFile) → Sources
+sources m holds = record { images = m.images; files = holds }
 
 -- the machine stands for the flat state, with a swap image that is told
 abbrev pub StandsTold : Kernel → List NamedImage → Option (List ℕ) → FlatState → Type 0
@@ -101,3 +119,11 @@ StopsFor (Err stops.SwapWriteFault) ts = OldestWrites ts
 abbrev pub SwapAfter : Result Bool Stop → Kernel → Option (List ℕ) → Option (List ℕ) → Type 0
 SwapAfter (Err stops.SwapWriteFault) k before after = SpoilsAfter k before after
 SwapAfter _ k before after = after ≡ before
+
+-- The end of the oldest transfer stops the machine: the journal was full exactly where it was at its bound, a fault comes of a
+-- transfer of its own kind, and only a write that failed changes the swap image.
+pub record StopsEnding (old new : Standing) (before after : Option (List ℕ)) (stop : Stop) : Type 0 where
+  pub stopped : HasStopped old new
+  pub full : (stop ≡ stops.JournalFull) ↔ ((0 < length old.kernel.place.transfers) × (old.params.journal ≤ length old.kernel.journal))
+  pub cause : let r : Result Bool Stop = Err stop in StopsFor r old.kernel.place.transfers
+  pub image : let r : Result Bool Stop = Err stop in SwapAfter r old.kernel before after

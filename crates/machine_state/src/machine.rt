@@ -1,5 +1,5 @@
 //! The machine and its steps.
-ghost use Rattle.std.specs.Prelude.{◌≡◌, ◌⊎◌, ◌<◌, ◌≤◌, ◌↔◌, true, false, [], length, map, None, IfOk, OnOk, OnErr, Ok, Err};
+ghost use Rattle.std.specs.Prelude.{◌≡◌, ◌⊎◌, ◌<◌, ◌≤◌, ◌↔◌, true, false, [], length, map, None, IfOk, OnOk, OnErr, IfErr, Ok, Err};
 ghost use Rattle.machine_state.specs.New.{fresh_kernel, AreSound};
 ghost use Rattle.kernel_model.specs.Kernel.{zero_step, get_step, reclaim_step};
 ghost use Rattle.page_model.specs.Dues.{DueStand};
@@ -9,9 +9,9 @@ ghost use Rattle.kernel_model.specs.Sound.{Sound};
 ghost use Rattle.machine_state.specs.Machine.{image_shown};
 ghost use Rattle.machine_state.specs.Sourced.{AreNames};
 ghost use Rattle.page_model.specs.Swapper.{is_settled};
-ghost use Rattle.machine_state.specs.Settled.{SettledBy, IsSameBeside};
+ghost use Rattle.machine_state.specs.Settled.{SettledBy, IsSameBeside, StopsSettling};
 ghost use Rattle.machine_state.specs.Files.{AreFiles};
-ghost use Rattle.machine_state.specs.Done.{IsDone, KeepsThrough, ImageAfter, SwapAfter, StopsFor, CountsPages, CountsReads, CountsWrites};
+ghost use Rattle.machine_state.specs.Done.{sources, IsDone, KeepsThrough, ImageAfter, SwapAfter, StopsFor, CountsPages, CountsReads, CountsWrites};
 ghost use Rattle.machine_state.specs.Conditions.{CanZero, CanBringIn, CanReclaim, HasStopped, KeepsFlat, SameElsewhere, SameEverywhere, SameOutside};
 
 use crate::named::Named;
@@ -100,13 +100,16 @@ impl Machine {
         })
     }
 
-    /// What is so of each machine that runs, with the holdings before the pieces that were found last.
+    /// What is so of each machine that runs, with the holdings before the pieces that were found last. Its images are those that
+    /// it was made with: at most 16, and each as a header may be.
     pub fn sound(&self)
         requires { self.now.kernel.stopped ≡ false }
         ensures sound { Sound self.now.params.swap_blocks (record self.now.kernel { holdings = self.now.before }) }
         ensures numbered { Numbered self.now.kernel }
         ensures due { DueStand self.now.kernel.place }
         ensures frames { length self.now.kernel.place.holds ≤ 4096 }
+        ensures few_images { length self.now.images ≤ 16 }
+        ensures images { AreSound (map (λ image. image.facts) self.now.images) }
     {
         let _ = &self.stopped;
     }
@@ -217,7 +220,7 @@ impl Machine {
         requires files { AreFiles self.old.images (F.holds files.old) }
         ensures idle { (result ≡ Ok false) ↔ (self.old.kernel.place.transfers ≡ []) }
         ensures still { result ≡ Ok false → self.new ≡ self.old }
-        ensures step { result ≡ Ok true → IsDone self.old.kernel self.new.kernel }
+        ensures step { result ≡ Ok true → IsDone (sources self.old (F.holds files.old)) (D.image swap.old) self.old.kernel self.new.kernel }
         ensures rest { result ≡ Ok true → self.new ≡ record self.old { kernel = self.new.kernel; room = None } }
         ensures keeps { OnOk result (KeepsThrough self.old self.new (F.holds files.old) (D.image swap.old) (D.image swap.new)) }
         ensures swapped { OnOk result (ImageAfter self.old.kernel (D.image swap.old) (D.image swap.new)) }
@@ -286,14 +289,18 @@ impl Machine {
         requires whole { self.old.before ≡ self.old.kernel.holdings }
         requires area { self.old.params.swap_blocks ≤ D.blocks swap.old }
         requires files { AreFiles self.old.images (F.holds files.old) }
-        ensures settled { OnOk result (SettledBy sid self.old.kernel self.new.kernel) }
+        ensures settled { OnOk result (SettledBy (sources self.old (F.holds files.old)) sid self.old.kernel self.new.kernel (D.image swap.old) (D.image swap.new)) }
         ensures rest { OnOk result (IsSameBeside self.old self.new) }
         ensures keeps { OnOk result (KeepsThrough self.old self.new (F.holds files.old) (D.image swap.old) (D.image swap.new)) }
-        ensures stop { OnErr result (self.new.kernel.stopped ≡ true) }
+        ensures stops { IfErr result (StopsSettling sid self.old self.new (F.holds files.old) (D.image swap.old) (D.image swap.new)) }
         ensures files_lead { F.leads files.old files.new }
         ensures swap_leads { D.leads swap.old swap.new }
         ensures holds { F.holds files.new ≡ F.holds files.old }
         ensures blocks { D.blocks swap.new ≡ D.blocks swap.old }
+        ensures open_faults { F.open_faults files.new ≡ F.open_faults files.old }
+        ensures page_faults { CountsPages result (F.page_faults files.old) (F.page_faults files.new) }
+        ensures read_faults { CountsReads result (D.read_faults swap.old) (D.read_faults swap.new) }
+        ensures write_faults { CountsWrites result (D.write_faults swap.old) (D.write_faults swap.new) }
     {
         if self.settled(sid) {
             return Ok(());

@@ -17,7 +17,7 @@ use Rattle.machine_state.specs.Calls.{CanPush}
 use Rattle.machine_state.specs.Conditions.{CanZero, CanBringIn}
 use Rattle.machine_state.specs.Files.{HaveFiles}
 use Rattle.machine_state.specs.Beginning.{StartedFirst}
-use Rattle.machine_state.proofs.FirstBegins.{same_named}
+use Rattle.machine_state.proofs.FirstBegins.{same_named, shown_facts}
 
 -- two pages of text and a page of data
 abbrev pub small : Image
@@ -84,10 +84,6 @@ have_files (x ∷ []) facts at files some long =
       tt,
     )
 have_files (x ∷ y ∷ more) facts at files some long = absurd (let k = ap length facts in omega (arith, k))
-
-shown_facts : (images : List Named) → map (λ (n : ImageNamed). n.facts) (map image_shown images) ≡ map (λ (n : Named). n.facts) images
-shown_facts [] = refl
-shown_facts (x ∷ xs) = ap (λ (ys : List Image). x.facts ∷ ys) (shown_facts xs)
 
 shown_files : (images : List Named) → map (λ (n : ImageNamed). n.file) (map image_shown images) ≡ map (λ (n : Named). n.file) images
 shown_files [] = refl

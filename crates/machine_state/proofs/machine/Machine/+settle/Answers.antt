@@ -1,18 +1,29 @@
-use Rattle.std.proofs.Common.{Bool, List, Option, Result, Ok, sym, ap, ◌∙◌, subst, arith}
+use Rattle.std.proofs.Common.{◌≡◌, Bool, List, Option, Result, Ok, Err, refl, sym, ap, ◌∙◌, subst, arith}
+use Rattle.std.proofs.lemmas.Result.{err_from_is_err_and}
 use Rattle.io_edge.specs.FileHolding.{NamedFile}
 use Rattle.vm_facts.specs.declared.params.Params.{Params}
 use Rattle.vm_facts.specs.declared.stop.Stop.{Stop}
 use Rattle.machine_state.specs.Sourced.{ImageNamed}
 use Rattle.machine_state.specs.Files.{AreFiles}
-use Rattle.machine_state.specs.Done.{IsDone}
-use Rattle.machine_state.proofs.Settling.{on_ok, GoesOn, goes_on, one_more, through}
+use Rattle.machine_state.specs.Done.{Sources, sources, IsDone, ImageAfter}
+use Rattle.machine_state.specs.Settled.{IsSameBeside}
+use Rattle.machine_state.proofs.Settling.{on_ok, if_err, GoesOn, goes_on, beside_done, same_sources, one_more, one_stopped, stopped_first, through}
 use Rattle.machine_state.proofs.machine.Machine.+settle.Goals as goal
+
+pub returns-in_err-done-clause-stops : goal.returns-in_err-done-clause-stops
+returns-in_err-done-clause-stops g t c =
+    let p = err_from_is_err_and c.from_residual.result c.from_residual.ensures.1 in
+    rw (p.1, p.2)
+    (stopped_first c.args.sid c.args.self.now c.done.new.self (g.F.Files.holds c.args.files.now) (g.D.SwapDev.image c.args.swap.now) (g.D.SwapDev.image c.done.new.swap) c.in_err-done.field-0.0
+    (sym c.settled.ensures ∙ c.if-settled.false) c.in_err-done.ensures.stop c.in_err-done.ensures.cause c.in_err-done.ensures.full c.in_err-done.ensures.spoiled)
 
 pub settle-requires : goal.settle-requires
 settle-requires g t c κs out =
     let yes = ap (λ (b : Bool). let r : Result Bool Stop = Ok b in r) c.if-branch.true in
-    let d : IsDone c.args.self.now.kernel c.done.new.self.kernel = c.in_ok-done.ensures.step yes in
-    let o : GoesOn c.args.self.now c.done.new.self = goes_on c.args.self.now c.done.new.self c.requires.whole d (c.in_ok-done.ensures.rest yes) in
+    let i = g.D.SwapDev.image c.args.swap.now in
+    let from : Sources = sources c.args.self.now (g.F.Files.holds c.args.files.now) in
+    let d : IsDone from i c.args.self.now.kernel c.done.new.self.kernel = c.in_ok-done.ensures.step yes in
+    let o : GoesOn c.args.self.now c.done.new.self = goes_on c.args.self.now c.done.new.self from i c.requires.whole d (c.in_ok-done.ensures.rest yes) in
     let area = c.requires.area in
     let size = ap (λ (x : Params). x.swap_blocks) o.params in
     let blocks = c.in_ok-done.ensures.blocks in
@@ -24,14 +35,33 @@ settle-requires g t c κs out =
 pub returns-then-branch-clause-settled : goal.returns-then-branch-clause-settled
 returns-then-branch-clause-settled g t c =
     let yes = ap (λ (b : Bool). let r : Result Bool Stop = Ok b in r) c.if-branch.true in
-    let d : IsDone c.args.self.now.kernel c.done.new.self.kernel = c.in_ok-done.ensures.step yes in
-    let o : GoesOn c.args.self.now c.done.new.self = goes_on c.args.self.now c.done.new.self c.requires.whole d (c.in_ok-done.ensures.rest yes) in
-    on_ok c.settle.result (one_more c.args.sid c.args.self.now.kernel c.done.new.self.kernel c.settle.new.self.kernel d) c.settle.ensures.settled
+    let i = g.D.SwapDev.image c.args.swap.now in
+    let old = c.args.self.now in
+    let from : Sources = sources old (g.F.Files.holds c.args.files.now) in
+    let d : IsDone from i old.kernel c.done.new.self.kernel = c.in_ok-done.ensures.step yes in
+    on_ok c.settle.result
+    (one_more from (sources c.done.new.self (g.F.Files.holds c.done.new.files)) c.args.sid old.kernel c.done.new.self.kernel c.settle.new.self.kernel i (g.D.SwapDev.image c.done.new.swap) (g.D.SwapDev.image c.settle.new.swap)
+    (same_sources old c.done.new.self (g.F.Files.holds c.args.files.now) (g.F.Files.holds c.done.new.files) c.in_ok-done.ensures.holds (beside_done old c.done.new.self (c.in_ok-done.ensures.rest yes)))
+    (sym c.settled.ensures ∙ c.if-settled.false) d c.in_ok-done.ensures.swapped) c.settle.ensures.settled
 
 pub returns-then-branch-clause-keeps : goal.returns-then-branch-clause-keeps
 returns-then-branch-clause-keeps g t c =
     let yes = ap (λ (b : Bool). let r : Result Bool Stop = Ok b in r) c.if-branch.true in
-    let d : IsDone c.args.self.now.kernel c.done.new.self.kernel = c.in_ok-done.ensures.step yes in
-    let o : GoesOn c.args.self.now c.done.new.self = goes_on c.args.self.now c.done.new.self c.requires.whole d (c.in_ok-done.ensures.rest yes) in
+    let i = g.D.SwapDev.image c.args.swap.now in
+    let from : Sources = sources c.args.self.now (g.F.Files.holds c.args.files.now) in
+    let d : IsDone from i c.args.self.now.kernel c.done.new.self.kernel = c.in_ok-done.ensures.step yes in
+    let o : GoesOn c.args.self.now c.done.new.self = goes_on c.args.self.now c.done.new.self from i c.requires.whole d (c.in_ok-done.ensures.rest yes) in
     on_ok c.settle.result (through c.args.self.now c.done.new.self c.settle.new.self (g.F.Files.holds c.args.files.now) (g.F.Files.holds c.done.new.files) (g.D.SwapDev.image c.args.swap.now) (g.D.SwapDev.image c.done.new.swap) (g.D.SwapDev.image c.settle.new.swap) o
     c.in_ok-done.ensures.holds c.in_ok-done.ensures.keeps) c.settle.ensures.keeps
+
+pub returns-then-branch-clause-stops : goal.returns-then-branch-clause-stops
+returns-then-branch-clause-stops g t c =
+    let yes = ap (λ (b : Bool). let r : Result Bool Stop = Ok b in r) c.if-branch.true in
+    let i = g.D.SwapDev.image c.args.swap.now in
+    let old = c.args.self.now in
+    let holds = g.F.Files.holds c.args.files.now in
+    let d : IsDone (sources old holds) i old.kernel c.done.new.self.kernel = c.in_ok-done.ensures.step yes in
+    if_err c.settle.result
+    (λ stop. one_stopped c.args.sid old c.done.new.self c.settle.new.self holds (g.F.Files.holds c.done.new.files) i (g.D.SwapDev.image c.done.new.swap) (g.D.SwapDev.image c.settle.new.swap) stop
+    c.in_ok-done.ensures.holds (beside_done old c.done.new.self (c.in_ok-done.ensures.rest yes))
+    (sym c.settled.ensures ∙ c.if-settled.false) d c.in_ok-done.ensures.swapped) c.settle.ensures.stops

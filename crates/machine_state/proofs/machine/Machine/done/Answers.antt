@@ -6,7 +6,7 @@ use Rattle.kernel_model.specs.Kernel.{Kernel, done_step}
 use Rattle.kernel_model.specs.Sound.{TextFits}
 use Rattle.machine_state.specs.Known.{Known}
 use Rattle.machine_state.specs.View.{transfer_shown}
-use Rattle.machine_state.specs.Done.{StandsTold, ImageAfter, SpoilsAfter}
+use Rattle.machine_state.specs.Done.{sources, ReadsTold, StandsTold, ImageAfter, SpoilsAfter}
 use Rattle.machine_state.proofs.Ends.{brought}
 use Rattle.transfer_ring.specs.declared.transfer.Transfer.{Transfer as Flight}
 use Rattle.machine_state.specs.declared.tables.Tables.{Tables}
@@ -16,7 +16,7 @@ use Rattle.machine_state.specs.Machine.{Standing, lists_of, kernel_by, image_at,
 use Rattle.machine_state.proofs.Knows.{known_of}
 use Rattle.machine_state.proofs.Standings.{no_room, running, stands_now, whole_now, Still, still_along, stands_on, pushed}
 use Rattle.machine_state.proofs.Reaches.{reachable}
-use Rattle.machine_state.proofs.Dones.{Came, came, done_back, was_lists, back_known, Doing, done_kernel, done_runs, Before, head_sourced, rest_sourced, done_image, spoiled_image, done_keeps}
+use Rattle.machine_state.proofs.Dones.{Came, came, done_back, was_lists, back_known, Doing, done_kernel, done_runs, Before, head_sourced, rest_sourced, done_image, done_told, spoiled_image, done_keeps}
 use Rattle.machine_state.proofs.machine.Machine.done.Goals as goal
 
 pub complete_oldest-requires : goal.complete_oldest-requires
@@ -98,10 +98,20 @@ returns-in-Done-clause-step g c _ =
     ∙ done_kernel t w l e.oldest n c.make_room.new.journal.items c.make_room.new.stopped d
     ∙ ap (λ (j : List Entry). done_step (kernel_by t j c.make_room.new.stopped) (brought n)) c.make_room.ensures.same
     ∙ ap (λ (x : Bool). done_step (kernel_by t c.self.inside.journal.items x) (brought n)) c.in_ok-make_room.ensures.ok.0 in
+    let f : Before t (images_of t) b e.oldest e.rest t.book.size = record {
+      place = refl;
+      frames = refl;
+      ring = e.ring_is;
+      known = k;
+      sourced = head_sourced (images_of t) (image_at t) t.book.holdings t.book.size t.ring e.rest e.oldest e.ring_is (subst (λ (hs : Holdings). AreSourced (images_of t) (image_at t) hs t.book.size t.ring) whole now.stands.ring);
+    } in
     record {
       some = subst (λ (s : Standing). 0 < length s.kernel.place.transfers) c.self.view_is (subst (λ (ts : List Flight). 0 < length (map transfer_shown ts)) (sym e.ring_is) (omega arith));
       read = brought n;
       step = is ∙ ap (λ (s : Standing). done_step s.kernel (brought n)) c.self.view_is;
+      told = subst (λ (s : Standing). ReadsTold (sources s (g.F.Files.holds c.args.files.now)) (g.D.SwapDev.image c.args.swap.now) s.kernel (brought n)) c.self.view_is
+          (done_told t (images_of t) b e.oldest n e.rest t.book.size (g.F.Files.holds c.args.files.now) (g.D.SwapDev.image c.args.swap.now) (g.D.SwapDev.image c.complete_oldest.new.swap) f e.ends
+          (subst (λ (s : Standing). AreFiles s.images (g.F.Files.holds c.args.files.now)) (sym c.self.view_is) c.requires.files) c.look.ensures);
     }
 
 pub returns-in-Done-clause-keeps : goal.returns-in-Done-clause-keeps

@@ -1,7 +1,12 @@
-use Rattle.std.proofs.Common.{ℕ, ◌≤◌, length, subst, arith}
+use Rattle.std.proofs.Common.{ℕ, ◌≤◌, length, map, sym, subst, arith}
+use Rattle.std.proofs.lemmas.List.{length-map}
 use Rattle.kernel_model.specs.Sound.{Sound}
+use Rattle.machine_state.specs.declared.named.Named.{Named}
+use Rattle.machine_state.specs.New.{AreSound}
+use Rattle.machine_state.specs.Sourced.{ImageNamed}
 use Rattle.machine_state.specs.Machine.{Standing, lists_of, kernel_by, before_of}
 use Rattle.machine_state.proofs.Held.{holds_length}
+use Rattle.machine_state.proofs.FirstBegins.{images_length, shown_facts}
 use Rattle.machine_state.proofs.Standings.{stands_now}
 use Rattle.machine_state.proofs.machine.Machine.sound.Goals as goal
 
@@ -19,3 +24,19 @@ returns-clause-frames c =
     let few = now.stands.runs.tied.few_frames in
     let size = holds_length (lists_of m.tables) in
     subst (λ (s : Standing). length s.kernel.place.holds ≤ 4096) c.self.view_is (omega (arith, few, size))
+
+pub returns-clause-few_images : goal.returns-clause-few_images
+returns-clause-few_images c =
+    let m = c.self.inside in
+    let now = stands_now m c.args.self.now c.self.invariant c.self.view_is c.requires in
+    let few : length (map (λ (n : Named). n.facts) m.tables.images.items) ≤ 16 = now.stands.runs.tied.few_images in
+    let facts = length-map m.tables.images.items (λ (n : Named). n.facts) in
+    let size = images_length m.tables in
+    subst (λ (s : Standing). length s.images ≤ 16) c.self.view_is (omega (arith, few, facts, size))
+
+pub returns-clause-images : goal.returns-clause-images
+returns-clause-images c =
+    let m = c.self.inside in
+    let now = stands_now m c.args.self.now c.self.invariant c.self.view_is c.requires in
+    subst (λ (s : Standing). AreSound (map (λ (n : ImageNamed). n.facts) s.images)) c.self.view_is
+    (subst AreSound (sym (shown_facts m.tables.images.items)) now.stands.runs.tied.sound)
