@@ -1,6 +1,5 @@
 -- What a machine stands for, through units of paging.
 use Rattle.std.proofs.Common.{◌≡◌, ℕ, ◌*◌, List, [], ◌∷◌, length, Option, Some, None, sym, ap, ◌∙◌, subst}
-use Rattle.vm_facts.specs.declared.page.Page.{Page}
 use Rattle.vm_facts.specs.declared.page.Page.TheVariants.{Text}
 use Rattle.vm_facts.specs.declared.entry.Entry.{Entry}
 use Rattle.io_edge.specs.FileHolding.{NamedFile}
@@ -19,28 +18,28 @@ use Rattle.machine_state.specs.Machine.{Standing}
 use Rattle.machine_state.specs.Files.{AreImages}
 use Rattle.machine_state.specs.Conditions.{KeepsFlat}
 use Rattle.machine_state.specs.Done.{StandsTold, KeepsThrough}
-use Rattle.paging_units.specs.Made.{MadeBy, Made}
+use Rattle.paging_units.specs.Made.{Ground, MadeBy, Made}
 use Rattle.paging_units.proofs.Units.{unit_place}
 
 -- Sizes and images of spaces stay.
 
-place_shaped : (locked : List Page) (e : Entry) (k l : Kernel) (at : ℕ) → MadeBy locked e k l → Shaped k.place (place_entry locked at k.place e)
-place_shaped locked (entries.Zero q) k l at h = filled_shaped k.place q
-place_shaped locked (entries.Copy q) k l at h = filled_shaped k.place q
-place_shaped locked (entries.Get q lo n) k l at h = get_run_shaped k.place (read_errand k.place q) (pages_from q lo n)
-place_shaped locked (entries.Reclaim q) k l at h = reclaim_shaped k.place q
-place_shaped locked (entries.Hands n) k l at h = moves_shaped n k.place locked
-place_shaped locked (entries.Put q n) k l at h = put_step_shaped k.place q (pages_from q (number_of q) n)
-place_shaped locked entries.Done k l at h = done_shaped k.place
-place_shaped locked _ k l at h = absurd h
+place_shaped : (g : Ground) (e : Entry) (k l : Kernel) (at : ℕ) (i : Option (List ℕ)) → MadeBy g e k i l → Shaped k.place (place_entry g.locked at k.place e)
+place_shaped g (entries.Zero q) k l at i h = filled_shaped k.place q
+place_shaped g (entries.Copy q) k l at i h = filled_shaped k.place q
+place_shaped g (entries.Get q lo n) k l at i h = get_run_shaped k.place (read_errand k.place q) (pages_from q lo n)
+place_shaped g (entries.Reclaim q) k l at i h = reclaim_shaped k.place q
+place_shaped g (entries.Hands n) k l at i h = moves_shaped n k.place g.locked
+place_shaped g (entries.Put q n) k l at i h = put_step_shaped k.place q (pages_from q (number_of q) n)
+place_shaped g entries.Done k l at i h = done_shaped k.place
+place_shaped g _ k l at i h = absurd h
 
-pub unit_shaped : (locked : List Page) (e : Entry) (k l : Kernel) → MadeBy locked e k l → Shaped k.place l.place
-unit_shaped locked e k l h =
-    subst (λ (p : Placement). Shaped k.place p) (sym (unit_place locked e k l h)) (place_shaped locked e k l (length (append k.journal e)) h)
+pub unit_shaped : (g : Ground) (e : Entry) (k l : Kernel) (i : Option (List ℕ)) → MadeBy g e k i l → Shaped k.place l.place
+unit_shaped g e k l i h =
+    subst (λ (p : Placement). Shaped k.place p) (sym (unit_place g e k l i h)) (place_shaped g e k l (length (append k.journal e)) i h)
 
-pub made_shaped : (locked : List Page) (us : List Entry) (k l : Kernel) (i j : Option (List ℕ)) → Made locked us k i l j → Shaped k.place l.place
-made_shaped locked [] k l i j a = subst (λ (x : Kernel). Shaped k.place x.place) a.0 (shaped_self k.place)
-made_shaped locked (e ∷ us) k l i j a = shaped_both k.place a.next.place l.place (unit_shaped locked e k a.next a.made) (made_shaped locked us a.next l a.image j a.rest)
+pub made_shaped : (g : Ground) (us : List Entry) (k l : Kernel) (i j : Option (List ℕ)) → Made g us k i l j → Shaped k.place l.place
+made_shaped g [] k l i j a = subst (λ (x : Kernel). Shaped k.place x.place) a.0 (shaped_self k.place)
+made_shaped g (e ∷ us) k l i j a = shaped_both k.place a.next.place l.place (unit_shaped g e k a.next i a.made) (made_shaped g us a.next l a.image j a.rest)
 
 pub fits_shaped : (p q : Placement) → Shaped p q → (images : List NamedImage) → TextFits images p → TextFits images q
 fits_shaped p q s images f = λ i. f i ∙ ap (λ (n : ℕ). 1024 * n) (sym (sizes_kept p q s (Text i 0)))

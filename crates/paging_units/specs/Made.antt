@@ -3,21 +3,31 @@ use Rattle.std.specs.Prelude.{◌≡◌, ℕ, List, [], ◌∷◌, Option}
 use Rattle.vm_facts.specs.declared.page.Page.{Page}
 use Rattle.vm_facts.specs.declared.entry.Entry.{Entry}
 use Rattle.vm_facts.specs.declared.entry.Entry.TheVariants as entries
+use Rattle.io_edge.specs.FileHolding.{NamedFile}
 use Rattle.kernel_model.specs.Kernel.{Kernel, StartBytes, starts_after, zero_step, copy_step, get_step, reclaim_step, hand_step, push_step}
 use Rattle.machine_state.specs.Machine.{Standing}
 use Rattle.machine_state.specs.Settled.{IsSameBeside}
-use Rattle.machine_state.specs.Done.{IsDone, ImageAfter}
+use Rattle.machine_state.specs.Done.{Sources, sources, IsDone, ImageAfter}
 
--- one unit; of the others none is a unit of paging
-abbrev pub MadeBy : List Page → Entry → Kernel → Kernel → Type 0
-MadeBy locked (entries.Zero q) k l = l ≡ zero_step k q
-MadeBy locked (entries.Copy q) k l = l ≡ copy_step k q
-MadeBy locked (entries.Get q lo n) k l = l ≡ get_step k q lo n
-MadeBy locked (entries.Reclaim q) k l = l ≡ reclaim_step k q
-MadeBy locked (entries.Hands n) k l = (n ≡ 1) × (l ≡ hand_step k locked)
-MadeBy locked (entries.Put q n) k l = l ≡ push_step k q n
-MadeBy locked entries.Done k l = IsDone k l
-MadeBy locked _ k l = ⊥
+-- what units are made by, that isn't the machine's: the pages over which the hands pass, and the images and files
+pub record Ground : Type 0 where
+  pub locked : List Page
+  pub from : Sources
+
+-- that of a machine, with these pages and files
+abbrev pub ground : Standing → Option (List NamedFile) → List Page → Ground
+ground m holds locked = record { locked = locked; from = sources m holds }
+
+-- one unit, with the swap image before it, where that is told; of the others none is a unit of paging
+abbrev pub MadeBy : Ground → Entry → Kernel → Option (List ℕ) → Kernel → Type 0
+MadeBy g (entries.Zero q) k i l = l ≡ zero_step k q
+MadeBy g (entries.Copy q) k i l = l ≡ copy_step k q
+MadeBy g (entries.Get q lo n) k i l = l ≡ get_step k q lo n
+MadeBy g (entries.Reclaim q) k i l = l ≡ reclaim_step k q
+MadeBy g (entries.Hands n) k i l = (n ≡ 1) × (l ≡ hand_step k g.locked)
+MadeBy g (entries.Put q n) k i l = l ≡ push_step k q n
+MadeBy g entries.Done k i l = IsDone g.from i k l
+MadeBy g _ k i l = ⊥
 
 -- the swap image, where it is told, before a unit and behind it: the end of a transfer alone may change it
 abbrev pub ImageBy : Entry → Kernel → Option (List ℕ) → Option (List ℕ) → Type 0
@@ -25,26 +35,26 @@ ImageBy entries.Done k i j = ImageAfter k i j
 ImageBy _ k i j = j ≡ i
 
 -- a unit, and then something is so of the kernel and the image behind it
-pub record MadeFirst (locked : List Page) (e : Entry) (k : Kernel) (i : Option (List ℕ)) (Rest : Kernel → Option (List ℕ) → Type 0) : Type 0 where
+pub record MadeFirst (g : Ground) (e : Entry) (k : Kernel) (i : Option (List ℕ)) (Rest : Kernel → Option (List ℕ) → Type 0) : Type 0 where
   pub next : Kernel
   pub image : Option (List ℕ)
-  pub made : MadeBy locked e k next
+  pub made : MadeBy g e k i next
   pub told : ImageBy e k i image
   pub rest : Rest next image
 
 -- these units, in order, lead from a kernel with a swap image to another
-abbrev pub Made : List Page → List Entry → Kernel → Option (List ℕ) → Kernel → Option (List ℕ) → Type 0
-Made locked [] k i l j = (k ≡ l) × (i ≡ j)
-Made locked (e ∷ us) k i l j = MadeFirst locked e k i (λ m h. Made locked us m h l j)
+abbrev pub Made : Ground → List Entry → Kernel → Option (List ℕ) → Kernel → Option (List ℕ) → Type 0
+Made g [] k i l j = (k ≡ l) × (i ≡ j)
+Made g (e ∷ us) k i l j = MadeFirst g e k i (λ m h. Made g us m h l j)
 
 -- Of a machine: a call that makes one unit, and one that makes these in order, and leaves its sizes and images.
-pub record MakesUnit (locked : List Page) (e : Entry) (old new : Standing) (i j : Option (List ℕ)) : Type 0 where
-  pub made : MadeBy locked e old.kernel new.kernel
+pub record MakesUnit (g : Ground) (e : Entry) (old new : Standing) (i j : Option (List ℕ)) : Type 0 where
+  pub made : MadeBy g e old.kernel i new.kernel
   pub told : ImageBy e old.kernel i j
   pub beside : IsSameBeside old new
 
-pub record Makes (locked : List Page) (us : List Entry) (old new : Standing) (i j : Option (List ℕ)) : Type 0 where
-  pub made : Made locked us old.kernel i new.kernel j
+pub record Makes (g : Ground) (us : List Entry) (old new : Standing) (i j : Option (List ℕ)) : Type 0 where
+  pub made : Made g us old.kernel i new.kernel j
   pub beside : IsSameBeside old new
 
 -- All but the pages, the journal and the bytes of frames is as before.

@@ -1,5 +1,4 @@
 ghost use Rattle.std.specs.Prelude.{◌≡◌, ℕ, List, ◌++◌, Option};
-ghost use Rattle.vm_facts.specs.declared.page.Page.{Page};
 ghost use Rattle.vm_facts.specs.declared.entry.Entry.{Entry};
 ghost use Rattle.flat_state.specs.Flat.{NamedImage};
 ghost use Rattle.flat_state.specs.Journal.{appended};
@@ -7,25 +6,25 @@ ghost use Rattle.page_model.specs.Placement.{Placement};
 ghost use Rattle.page_model.specs.Serve.{Forces};
 ghost use Rattle.kernel_model.specs.Kernel.{Kernel};
 ghost use Rattle.kernel_model.specs.Sound.{TextFits};
-ghost use Rattle.paging_units.specs.Made.{Made, SameBeside, starts_behind};
+ghost use Rattle.paging_units.specs.Made.{Ground, Made, SameBeside, starts_behind};
 
 /// Units follow one another: those of two parts are made where both are, the journal behind them is the one with these units
 /// appended, and units that force a frame lead to the placement that forcing leads to.
 pub fn units_follow()
-    ensures parts { (locked : List Page) (us vs : List Entry) (k l m : Kernel) (i j h : Option (List ℕ))
-        → Made locked us k i l j → Made locked vs l j m h → Made locked (us ++ vs) k i m h }
-    ensures journal { (locked : List Page) (us : List Entry) (k l : Kernel) (i j : Option (List ℕ))
-        → Made locked us k i l j → l.journal ≡ appended k.journal us }
-    ensures forces { (locked : List Page) (us : List Entry) (k l : Kernel) (i j : Option (List ℕ)) (r : Placement)
-        → Made locked us k i l j → Forces us k.place locked r → l.place ≡ r }
+    ensures parts { (g : Ground) (us vs : List Entry) (k l m : Kernel) (i j h : Option (List ℕ))
+        → Made g us k i l j → Made g vs l j m h → Made g (us ++ vs) k i m h }
+    ensures journal { (g : Ground) (us : List Entry) (k l : Kernel) (i j : Option (List ℕ))
+        → Made g us k i l j → l.journal ≡ appended k.journal us }
+    ensures forces { (g : Ground) (us : List Entry) (k l : Kernel) (i j : Option (List ℕ)) (r : Placement)
+        → Made g us k i l j → Forces us k.place g.locked r → l.place ≡ r }
 {}
 
 /// Units keep who holds which blocks, the processes and the next numbers, and how long each text is. The bytes that are kept
 /// for stack pages that are due go with a fill of such a page alone.
 pub fn units_keep()
-    ensures same { (locked : List Page) (us : List Entry) (k l : Kernel) (i j : Option (List ℕ)) → Made locked us k i l j → SameBeside k l }
-    ensures starts { (locked : List Page) (us : List Entry) (k l : Kernel) (i j : Option (List ℕ))
-        → Made locked us k i l j → l.starts ≡ starts_behind us k.starts }
-    ensures fits { (locked : List Page) (us : List Entry) (k l : Kernel) (i j : Option (List ℕ)) (images : List NamedImage)
-        → Made locked us k i l j → TextFits images k.place → TextFits images l.place }
+    ensures same { (g : Ground) (us : List Entry) (k l : Kernel) (i j : Option (List ℕ)) → Made g us k i l j → SameBeside k l }
+    ensures starts { (g : Ground) (us : List Entry) (k l : Kernel) (i j : Option (List ℕ))
+        → Made g us k i l j → l.starts ≡ starts_behind us k.starts }
+    ensures fits { (g : Ground) (us : List Entry) (k l : Kernel) (i j : Option (List ℕ)) (images : List NamedImage)
+        → Made g us k i l j → TextFits images k.place → TextFits images l.place }
 {}
