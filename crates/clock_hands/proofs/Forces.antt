@@ -4,6 +4,7 @@ use Rattle.vm_facts.specs.declared.page.Page.{Page}
 use Rattle.vm_facts.specs.declared.entry.Entry.{Entry}
 use Rattle.vm_facts.specs.declared.stop.Stop.{Stop}
 use Rattle.flat_state.specs.Journal.{append, appended}
+use Rattle.io_edge.specs.FileHolding.{NamedFile}
 use Rattle.page_model.specs.Placement.{Placement, Transfer, Part, Errand, Writes, Reads}
 use Rattle.page_model.specs.Serve.{force, force_entry, Forces}
 use Rattle.page_model.specs.Rank.{HandsStand, HasRoom, far, far_by, far_parts, far_transfers}
@@ -18,12 +19,13 @@ use Rattle.span_laws.specs.Spans.{moves, moves_of}
 use Rattle.span_laws.proofs.Spanning.{units_added_false}
 use Rattle.span_laws.proofs.Forcing.{Short, forced_short, forced_moves}
 use Rattle.machine_state.specs.Machine.{Standing}
-use Rattle.paging_units.specs.Made.{MakesUnit}
+use Rattle.paging_units.specs.Made.{ground, MakesUnit}
 use Rattle.paging_units.specs.LastMoves.{last_moves}
 use Rattle.paging_units.specs.Stops.{StopsAt}
-use Rattle.paging_units.proofs.Units.{unit_journal, forced_place, made_journal, makes_none, makes_first}
+use Rattle.paging_units.proofs.Units.{unit_journal, forced_place, made_journal, makes_none, makes_first, makes_on}
 use Rattle.paging_units.proofs.LastMoves.{last_done, last_more}
 use Rattle.clock_hands.specs.Forced.{Forced, StopsForcing}
+use Rattle.clock_hands.proofs.Units.{made_on}
 
 pub none_free : (free : List ℕ) → length free ≤ 0 → free ≡ []
 none_free [] l = refl
@@ -73,55 +75,57 @@ units_last locked (e ∷ us) p r journal f =
 
 -- One unit, and then the others.
 
-pub falls_on : (locked : List Page) (old next : Standing) (i h : Option (List ℕ)) → OwnsFrames old.kernel.place → HandsStand old.kernel.place → HasRoom old.kernel.place locked → old.kernel.place.free ≡ []
-    → MakesUnit locked (force_entry old.kernel.place.transfers) old next i h → far next.kernel.place locked < far old.kernel.place locked
-falls_on locked old next i h o s r n m =
-    subst (λ (p : Placement). far p locked < far old.kernel.place locked) (sym (forced_place locked old.kernel next.kernel m.made)) (force_falls old.kernel.place locked o s r n)
+pub falls_on : (locked : List Page) (old next : Standing) (holds : Option (List NamedFile)) (i h : Option (List ℕ)) → OwnsFrames old.kernel.place → HandsStand old.kernel.place → HasRoom old.kernel.place locked → old.kernel.place.free ≡ []
+    → MakesUnit (ground old holds locked) (force_entry old.kernel.place.transfers) old next i h → far next.kernel.place locked < far old.kernel.place locked
+falls_on locked old next holds i h o s r n m =
+    subst (λ (p : Placement). far p locked < far old.kernel.place locked) (sym (forced_place (ground old holds locked) old.kernel next.kernel i m.made)) (force_falls old.kernel.place locked o s r n)
 
-pub room_on : (locked : List Page) (old next : Standing) (i h : Option (List ℕ)) → OwnsFrames old.kernel.place → HasRoom old.kernel.place locked
-    → MakesUnit locked (force_entry old.kernel.place.transfers) old next i h → HasRoom next.kernel.place locked
-room_on locked old next i h o r m =
-    subst (λ (p : Placement). HasRoom p locked) (sym (forced_place locked old.kernel next.kernel m.made)) (force_room old.kernel.place locked o r)
+pub room_on : (locked : List Page) (old next : Standing) (holds : Option (List NamedFile)) (i h : Option (List ℕ)) → OwnsFrames old.kernel.place → HasRoom old.kernel.place locked
+    → MakesUnit (ground old holds locked) (force_entry old.kernel.place.transfers) old next i h → HasRoom next.kernel.place locked
+room_on locked old next holds i h o r m =
+    subst (λ (p : Placement). HasRoom p locked) (sym (forced_place (ground old holds locked) old.kernel next.kernel i m.made)) (force_room old.kernel.place locked o r)
 
-pub fits_on : (locked : List Page) (old next : Standing) (i h : Option (List ℕ)) → far next.kernel.place locked < far old.kernel.place locked
-    → MakesUnit locked (force_entry old.kernel.place.transfers) old next i h
+pub fits_on : (locked : List Page) (old next : Standing) (holds : Option (List NamedFile)) (i h : Option (List ℕ)) → far next.kernel.place locked < far old.kernel.place locked
+    → MakesUnit (ground old holds locked) (force_entry old.kernel.place.transfers) old next i h
     → last_moves old.kernel.journal + far old.kernel.place locked < 2 ^ 32 → last_moves next.kernel.journal + far next.kernel.place locked < 2 ^ 32
-fits_on locked old next i h f m l =
+fits_on locked old next holds i h f m l =
     let more : last_moves next.kernel.journal ≤ last_moves old.kernel.journal + moves (force_entry old.kernel.place.transfers) =
     subst (λ (j : List Entry). last_moves j ≤ last_moves old.kernel.journal + moves (force_entry old.kernel.place.transfers))
-    (sym (unit_journal locked (force_entry old.kernel.place.transfers) old.kernel next.kernel m.made)) (append_last old.kernel.journal old.kernel.place.transfers) in
+    (sym (unit_journal (ground old holds locked) (force_entry old.kernel.place.transfers) old.kernel next.kernel i m.made)) (append_last old.kernel.journal old.kernel.place.transfers) in
     let one = one_move old.kernel.place.transfers in
     omega arith
 
-pub forced_none : (locked : List Page) (s : Standing) (i : Option (List ℕ)) → 0 < length s.kernel.place.free → Forced locked s s i i
-forced_none locked s i l = record { units = []; forces = refl; makes = makes_none locked s s i i refl refl; free = l; moves = omega arith }
+pub forced_none : (locked : List Page) (s : Standing) (holds : Option (List NamedFile)) (i : Option (List ℕ)) → 0 < length s.kernel.place.free → Forced locked s s holds i i
+forced_none locked s holds i l = record { units = []; forces = refl; makes = makes_none (ground s holds locked) s s i i refl refl; free = l; moves = omega arith }
 
-pub forced_first : (locked : List Page) (old next new : Standing) (i h j : Option (List ℕ)) → OwnsFrames old.kernel.place → HandsStand old.kernel.place → HasRoom old.kernel.place locked → old.kernel.place.free ≡ []
-    → MakesUnit locked (force_entry old.kernel.place.transfers) old next i h → Forced locked next new h j → Forced locked old new i j
-forced_first locked old next new i h j o s r n m f =
+pub forced_first : (locked : List Page) (old next new : Standing) (holds later : Option (List NamedFile)) (i h j : Option (List ℕ)) → later ≡ holds
+    → OwnsFrames old.kernel.place → HandsStand old.kernel.place → HasRoom old.kernel.place locked → old.kernel.place.free ≡ []
+    → MakesUnit (ground old holds locked) (force_entry old.kernel.place.transfers) old next i h → Forced locked next new later h j → Forced locked old new holds i j
+forced_first locked old next new holds later i h j e o s r n m f =
     let forces : Forces (force_entry old.kernel.place.transfers ∷ f.units) old.kernel.place locked new.kernel.place =
-    (n, refl, subst (λ (p : Placement). Forces f.units p locked new.kernel.place) (forced_place locked old.kernel next.kernel m.made) f.forces) in
+    (n, refl, subst (λ (p : Placement). Forces f.units p locked new.kernel.place) (forced_place (ground old holds locked) old.kernel next.kernel i m.made) f.forces) in
     record {
       units = force_entry old.kernel.place.transfers ∷ f.units;
       forces = forces;
-      makes = makes_first locked (force_entry old.kernel.place.transfers) f.units old next new i h j m f.makes;
+      makes = makes_first (ground old holds locked) (force_entry old.kernel.place.transfers) f.units old next new i h j m
+          (makes_on f.units old next new holds later locked h j e m.beside f.makes);
       free = f.free;
       moves = forced_moves (force_entry old.kernel.place.transfers ∷ f.units) old.kernel.place new.kernel.place locked o s r forces;
     }
 
-pub stops_here : (locked : List Page) (old : Standing) (stop : Stop) (new : Standing) (i j : Option (List ℕ)) → old.kernel.place.free ≡ [] → new.params ≡ old.params → new.images ≡ old.images
-    → StopsAt (force_entry old.kernel.place.transfers) old.kernel i stop new j → StopsForcing locked old stop new i j
-stops_here locked old stop new i j n a b s =
+pub stops_here : (locked : List Page) (old : Standing) (stop : Stop) (new : Standing) (holds : Option (List NamedFile)) (i j : Option (List ℕ)) → old.kernel.place.free ≡ [] → new.params ≡ old.params → new.images ≡ old.images
+    → StopsAt (force_entry old.kernel.place.transfers) old.kernel i stop new j → StopsForcing locked old stop new holds i j
+stops_here locked old stop new holds i j n a b s =
     record { units = []; at = old.kernel; image = i; forces = refl; made = (refl, refl); none = n; stops = s; params = a; images = b }
 
-pub stops_first : (locked : List Page) (old next : Standing) (stop : Stop) (new : Standing) (i h j : Option (List ℕ)) → old.kernel.place.free ≡ []
-    → MakesUnit locked (force_entry old.kernel.place.transfers) old next i h → StopsForcing locked next stop new h j → StopsForcing locked old stop new i j
-stops_first locked old next stop new i h j n m f = record {
+pub stops_first : (locked : List Page) (old next : Standing) (stop : Stop) (new : Standing) (holds later : Option (List NamedFile)) (i h j : Option (List ℕ)) → later ≡ holds → old.kernel.place.free ≡ []
+    → MakesUnit (ground old holds locked) (force_entry old.kernel.place.transfers) old next i h → StopsForcing locked next stop new later h j → StopsForcing locked old stop new holds i j
+stops_first locked old next stop new holds later i h j e n m f = record {
   units = force_entry old.kernel.place.transfers ∷ f.units;
   at = f.at;
   image = f.image;
-  forces = (n, refl, subst (λ (p : Placement). Forces f.units p locked f.at.place) (forced_place locked old.kernel next.kernel m.made) f.forces);
-  made = record { next = next.kernel; image = h; made = m.made; told = m.told; rest = f.made };
+  forces = (n, refl, subst (λ (p : Placement). Forces f.units p locked f.at.place) (forced_place (ground old holds locked) old.kernel next.kernel i m.made) f.forces);
+  made = record { next = next.kernel; image = h; made = m.made; told = m.told; rest = made_on f.units old next holds later locked next.kernel f.at h f.image e m.beside f.made };
   none = f.none;
   stops = f.stops;
   params = f.params ∙ m.beside.params;
@@ -137,30 +141,32 @@ few_units p r locked journal us o f =
     let b = units_added_false journal us in
     omega arith
 
-pub forced_few : (locked : List Page) (old new : Standing) (i j : Option (List ℕ)) → OwnsFrames old.kernel.place → Forced locked old new i j
+pub forced_few : (locked : List Page) (old new : Standing) (holds : Option (List NamedFile)) (i j : Option (List ℕ)) → OwnsFrames old.kernel.place → Forced locked old new holds i j
     → length new.kernel.journal + length new.kernel.place.transfers ≤ length old.kernel.journal + length old.kernel.place.transfers + 2
-forced_few locked old new i j o f =
+forced_few locked old new holds i j o f =
     let few = few_units old.kernel.place new.kernel.place locked old.kernel.journal f.units o f.forces in
-    let same = ap (λ (js : List Entry). length js) (made_journal locked f.units old.kernel new.kernel i j f.makes.made) in
+    let same = ap (λ (js : List Entry). length js) (made_journal (ground old holds locked) f.units old.kernel new.kernel i j f.makes.made) in
     omega arith
 
-pub stopped_few : (locked : List Page) (old : Standing) (stop : Stop) (new : Standing) (i j : Option (List ℕ)) → OwnsFrames old.kernel.place → StopsForcing locked old stop new i j
+pub stopped_few : (locked : List Page) (old : Standing) (stop : Stop) (new : Standing) (holds : Option (List NamedFile)) (i j : Option (List ℕ)) → OwnsFrames old.kernel.place → StopsForcing locked old stop new holds i j
     → length new.kernel.journal ≤ length old.kernel.journal + length old.kernel.place.transfers + 2
-stopped_few locked old stop new i j o f =
+stopped_few locked old stop new holds i j o f =
     let few = few_units old.kernel.place f.at.place locked old.kernel.journal f.units o f.forces in
-    let same = ap (λ (js : List Entry). length js) (f.stops.journal ∙ made_journal locked f.units old.kernel f.at i f.image f.made) in
+    let same = ap (λ (js : List Entry). length js) (f.stops.journal ∙ made_journal (ground old holds locked) f.units old.kernel f.at i f.image f.made) in
     omega arith
 
-pub forced_flights : (locked : List Page) (old new : Standing) (i j : Option (List ℕ)) → OwnsFrames old.kernel.place → Forced locked old new i j → length new.kernel.place.transfers ≤ length old.kernel.place.transfers
-forced_flights locked old new i j o f =
+pub forced_flights : (locked : List Page) (old new : Standing) (holds : Option (List NamedFile)) (i j : Option (List ℕ)) → OwnsFrames old.kernel.place → Forced locked old new holds i j
+    → length new.kernel.place.transfers ≤ length old.kernel.place.transfers
+forced_flights locked old new holds i j o f =
     let p = old.kernel.place in
     let k : Short false f.units new.kernel.place (length p.transfers + 2) (length p.transfers) (length f.units) = forced_short false f.units p new.kernel.place locked o f.forces in
     k.rest f.free
 
-pub forced_last : (locked : List Page) (old new : Standing) (i j : Option (List ℕ)) → Forced locked old new i j → last_moves new.kernel.journal ≤ last_moves old.kernel.journal + length old.kernel.place.holds
-forced_last locked old new i j f =
+pub forced_last : (locked : List Page) (old new : Standing) (holds : Option (List NamedFile)) (i j : Option (List ℕ)) → Forced locked old new holds i j
+    → last_moves new.kernel.journal ≤ last_moves old.kernel.journal + length old.kernel.place.holds
+forced_last locked old new holds i j f =
     let more = units_last locked f.units old.kernel.place new.kernel.place old.kernel.journal f.forces in
-    let same = ap last_moves (made_journal locked f.units old.kernel new.kernel i j f.makes.made) in
+    let same = ap last_moves (made_journal (ground old holds locked) f.units old.kernel new.kernel i j f.makes.made) in
     let most = f.moves in
     omega arith
 
@@ -168,5 +174,5 @@ units_spare : (us : List Entry) (p r : Placement) (locked : List Page) → OwnsF
 units_spare [] p r locked o f = subst (λ (x : Placement). Spares p x locked) f (λ w a v. v)
 units_spare (e ∷ us) p r locked o f = spares_both p (force p locked) r locked (force_spares p locked o) (units_spare us (force p locked) r locked (force_owner p locked o) f.2)
 
-pub forced_spares : (locked : List Page) (old new : Standing) (i j : Option (List ℕ)) → OwnsFrames old.kernel.place → Forced locked old new i j → Spares old.kernel.place new.kernel.place locked
-forced_spares locked old new i j o f = units_spare f.units old.kernel.place new.kernel.place locked o f.forces
+pub forced_spares : (locked : List Page) (old new : Standing) (holds : Option (List NamedFile)) (i j : Option (List ℕ)) → OwnsFrames old.kernel.place → Forced locked old new holds i j → Spares old.kernel.place new.kernel.place locked
+forced_spares locked old new holds i j o f = units_spare f.units old.kernel.place new.kernel.place locked o f.forces

@@ -10,6 +10,7 @@ use Rattle.vm_facts.specs.declared.stop.Stop.{Stop}
 use Rattle.vm_facts.specs.Lists.{times}
 use Rattle.flat_state.specs.Journal.{append}
 use Rattle.flat_state.specs.PageNames.{is_among}
+use Rattle.io_edge.specs.FileHolding.{NamedFile}
 use Rattle.page_model.specs.Placement.{Placement, Transfer, state_of, page_of, is_dirty}
 use Rattle.page_model.specs.Runs.{Run, run_out}
 use Rattle.page_model.specs.Moves.{done}
@@ -23,13 +24,14 @@ use Rattle.kernel_model.specs.Kernel.{hand_step}
 use Rattle.machine_state.specs.Calls.{IsRunOf}
 use Rattle.machine_state.specs.Machine.{Standing}
 use Rattle.run_model.specs.Next.{move_by, move_unit}
-use Rattle.machine_state.specs.Done.{IsDone}
-use Rattle.paging_units.specs.Made.{MadeBy, MakesUnit}
+use Rattle.machine_state.specs.Done.{sources, IsDone}
+use Rattle.paging_units.specs.Made.{ground, MadeBy, MakesUnit}
 use Rattle.paging_units.specs.LastMoves.{last_moves}
 use Rattle.paging_units.specs.Stops.{StopsAt}
-use Rattle.paging_units.proofs.Units.{unit_place, unit_journal, makes_first}
+use Rattle.paging_units.proofs.Units.{unit_place, unit_journal, makes_first, makes_on}
 use Rattle.paging_units.proofs.LastMoves.{last_done, last_more}
 use Rattle.clock_hands.specs.Moved.{Moves, IsMoveOf, Moved, StopsMoving}
+use Rattle.clock_hands.proofs.Units.{made_on}
 
 -- a write that a move begins has a page
 
@@ -75,9 +77,9 @@ moves_now p lo n r o = go (hand_run p []) refl r
     ]
 
 -- the call that makes a move
-pub hand_makes : (locked : List Page) (e : Entry) (old new : Standing) (i : Option (List ℕ)) → e ≡ entries.Hands 1 → new.kernel ≡ hand_step old.kernel locked → new ≡ record old { kernel = new.kernel; room = None }
-    → MakesUnit locked e old new i i
-hand_makes locked e old new i h k r = subst (λ (u : Entry). MakesUnit locked u old new i i) (sym h) (record {
+pub hand_makes : (locked : List Page) (e : Entry) (old new : Standing) (holds : Option (List NamedFile)) (i : Option (List ℕ)) → e ≡ entries.Hands 1 → new.kernel ≡ hand_step old.kernel locked
+    → new ≡ record old { kernel = new.kernel; room = None } → MakesUnit (ground old holds locked) e old new i i
+hand_makes locked e old new holds i h k r = subst (λ (u : Entry). MakesUnit (ground old holds locked) u old new i i) (sym h) (record {
   made = (refl, k);
   told = refl;
   beside = record { params = ap (λ (s : Standing). s.params) r; images = ap (λ (s : Standing). s.images) r; before = ap (λ (s : Standing). s.before) r };
@@ -89,16 +91,19 @@ at_any : (p : Placement) (e : Entry) (at : ℕ) (moved : Bool) → IsMoveOf e mo
 at_any p e at true h = ap (place_entry [] at p) h ∙ sym (ap (place_entry [] 0 p) h)
 at_any p e at false h = ap (place_entry [] at p) h ∙ sym (ap (place_entry [] 0 p) h)
 
-moved_place : (e : Entry) (moved : Bool) (old next : Standing) (i h : Option (List ℕ)) → IsMoveOf e moved → MakesUnit [] e old next i h → next.kernel.place ≡ place_entry [] 0 old.kernel.place e
-moved_place e moved old next i h k m =
-    unit_place [] e old.kernel next.kernel m.made ∙ at_any old.kernel.place e (length (append old.kernel.journal e)) moved k
+moved_place : (e : Entry) (moved : Bool) (old next : Standing) (holds : Option (List NamedFile)) (i h : Option (List ℕ)) → IsMoveOf e moved → MakesUnit (ground old holds []) e old next i h
+    → next.kernel.place ≡ place_entry [] 0 old.kernel.place e
+moved_place e moved old next holds i h k m =
+    unit_place (ground old holds []) e old.kernel next.kernel i m.made ∙ at_any old.kernel.place e (length (append old.kernel.journal e)) moved k
 
-moves_first : (e : Entry) (moved : Bool) (n left : ℕ) (us : List Entry) (old next : Standing) (r : Placement) (i h : Option (List ℕ)) → IsMoveOf e moved → e ≡ move_unit old.kernel.place [] → n - moves e ≡ left
-    → 0 < n → wants_moves old.kernel.place ≡ true → MakesUnit [] e old next i h → Moves us left next.kernel.place r → Moves (e ∷ us) n old.kernel.place r
-moves_first e moved n left us old next r i h k u l s w m f =
-    (s, w, u, subst (λ (a : ℕ). Moves us a (place_entry [] 0 old.kernel.place e) r) (sym l) (subst (λ (p : Placement). Moves us left p r) (moved_place e moved old next i h k m) f))
+moves_first : (e : Entry) (moved : Bool) (n left : ℕ) (us : List Entry) (old next : Standing) (r : Placement) (holds : Option (List NamedFile)) (i h : Option (List ℕ)) → IsMoveOf e moved
+    → e ≡ move_unit old.kernel.place [] → n - moves e ≡ left
+    → 0 < n → wants_moves old.kernel.place ≡ true → MakesUnit (ground old holds []) e old next i h → Moves us left next.kernel.place r → Moves (e ∷ us) n old.kernel.place r
+moves_first e moved n left us old next r holds i h k u l s w m f =
+    (s, w, u, subst (λ (a : ℕ). Moves us a (place_entry [] 0 old.kernel.place e) r) (sym l) (subst (λ (p : Placement). Moves us left p r) (moved_place e moved old next holds i h k m) f))
 
-module _ (n : ℕ) (old next new : Standing) (i h j : Option (List ℕ)) (some : 0 < n) (wants : wants_moves old.kernel.place ≡ true) (m : MakesUnit [] (move_unit old.kernel.place []) old next i h) where
+module _ (n : ℕ) (old next new : Standing) (holds later : Option (List NamedFile)) (i h j : Option (List ℕ)) (same_files : later ≡ holds) (some : 0 < n) (wants : wants_moves old.kernel.place ≡ true)
+    (m : MakesUnit (ground old holds []) (move_unit old.kernel.place []) old next i h) where
   abbrev e : Entry
   e = move_unit old.kernel.place []
 
@@ -114,33 +119,33 @@ module _ (n : ℕ) (old next new : Standing) (i h j : Option (List ℕ)) (some :
   same : e ≡ entries.Done → n - moves e ≡ n
   same k = let z = none k in omega arith
 
-  pub moved_by_move : (made : ℕ) → IsMoveOf (move_unit old.kernel.place []) true → Moved (n - 1) next new made h j → Moved n old new (1 + made) i j
+  pub moved_by_move : (made : ℕ) → IsMoveOf (move_unit old.kernel.place []) true → Moved (n - 1) next new made later h j → Moved n old new (1 + made) holds i j
   moved_by_move made k f = record {
     units = move_unit old.kernel.place [] ∷ f.units;
-    moves = moves_first e true n (n - 1) f.units old next new.kernel.place i h k refl (less k) some wants m f.moves;
-    makes = makes_first [] e f.units old next new i h j m f.makes;
+    moves = moves_first e true n (n - 1) f.units old next new.kernel.place holds i h k refl (less k) some wants m f.moves;
+    makes = makes_first (ground old holds []) e f.units old next new i h j m (makes_on f.units old next new holds later [] h j same_files m.beside f.makes);
     counted = (let a = one k in let b = f.counted in omega arith);
     most = (let a = f.most in omega arith);
     fewer = λ l. f.fewer (omega arith);
   }
 
-  pub moved_by_done : (made : ℕ) → IsMoveOf (move_unit old.kernel.place []) false → Moved n next new made h j → Moved n old new made i j
+  pub moved_by_done : (made : ℕ) → IsMoveOf (move_unit old.kernel.place []) false → Moved n next new made later h j → Moved n old new made holds i j
   moved_by_done made k f = record {
     units = move_unit old.kernel.place [] ∷ f.units;
-    moves = moves_first e false n n f.units old next new.kernel.place i h k refl (same k) some wants m f.moves;
-    makes = makes_first [] e f.units old next new i h j m f.makes;
+    moves = moves_first e false n n f.units old next new.kernel.place holds i h k refl (same k) some wants m f.moves;
+    makes = makes_first (ground old holds []) e f.units old next new i h j m (makes_on f.units old next new holds later [] h j same_files m.beside f.makes);
     counted = (let a = none k in let b = f.counted in omega arith);
     most = f.most;
     fewer = f.fewer;
   }
 
-  pub stops_by_move : (stop : Stop) → IsMoveOf (move_unit old.kernel.place []) true → StopsMoving (n - 1) next stop new h j → StopsMoving n old stop new i j
+  pub stops_by_move : (stop : Stop) → IsMoveOf (move_unit old.kernel.place []) true → StopsMoving (n - 1) next stop new later h j → StopsMoving n old stop new holds i j
   stops_by_move stop k f = record {
     units = move_unit old.kernel.place [] ∷ f.units;
     at = f.at;
     image = f.image;
-    moves = moves_first e true n (n - 1) f.units old next f.at.place i h k refl (less k) some wants m f.moves;
-    made = record { next = next.kernel; image = h; made = m.made; told = m.told; rest = f.made };
+    moves = moves_first e true n (n - 1) f.units old next f.at.place holds i h k refl (less k) some wants m f.moves;
+    made = record { next = next.kernel; image = h; made = m.made; told = m.told; rest = made_on f.units old next holds later [] next.kernel f.at h f.image same_files m.beside f.made };
     left = (let a = one k in let b = f.left in omega arith);
     wants = f.wants;
     stops = f.stops;
@@ -148,13 +153,13 @@ module _ (n : ℕ) (old next new : Standing) (i h j : Option (List ℕ)) (some :
     images = f.images ∙ m.beside.images;
   }
 
-  pub stops_by_done : (stop : Stop) → IsMoveOf (move_unit old.kernel.place []) false → StopsMoving n next stop new h j → StopsMoving n old stop new i j
+  pub stops_by_done : (stop : Stop) → IsMoveOf (move_unit old.kernel.place []) false → StopsMoving n next stop new later h j → StopsMoving n old stop new holds i j
   stops_by_done stop k f = record {
     units = move_unit old.kernel.place [] ∷ f.units;
     at = f.at;
     image = f.image;
-    moves = moves_first e false n n f.units old next f.at.place i h k refl (same k) some wants m f.moves;
-    made = record { next = next.kernel; image = h; made = m.made; told = m.told; rest = f.made };
+    moves = moves_first e false n n f.units old next f.at.place holds i h k refl (same k) some wants m f.moves;
+    made = record { next = next.kernel; image = h; made = m.made; told = m.told; rest = made_on f.units old next holds later [] next.kernel f.at h f.image same_files m.beside f.made };
     left = (let a = none k in let b = f.left in omega arith);
     wants = f.wants;
     stops = f.stops;
@@ -162,41 +167,42 @@ module _ (n : ℕ) (old next new : Standing) (i h j : Option (List ℕ)) (some :
     images = f.images ∙ m.beside.images;
   }
 
-pub stops_moving : (n : ℕ) (old : Standing) (stop : Stop) (new : Standing) (i j : Option (List ℕ)) → 0 < n → wants_moves old.kernel.place ≡ true → new.params ≡ old.params → new.images ≡ old.images
-    → StopsAt (move_unit old.kernel.place []) old.kernel i stop new j → StopsMoving n old stop new i j
-stops_moving n old stop new i j l w a b s =
+pub stops_moving : (n : ℕ) (old : Standing) (stop : Stop) (new : Standing) (holds : Option (List NamedFile)) (i j : Option (List ℕ)) → 0 < n
+    → wants_moves old.kernel.place ≡ true → new.params ≡ old.params → new.images ≡ old.images
+    → StopsAt (move_unit old.kernel.place []) old.kernel i stop new j → StopsMoving n old stop new holds i j
+stops_moving n old stop new holds i j l w a b s =
     record { units = []; at = old.kernel; image = i; moves = refl; made = (refl, refl); left = l; wants = w; stops = s; params = a; images = b }
 
 -- What a unit leaves for the next.
 
-pub move_flies : (old next : Standing) (i h : Option (List ℕ)) → IsMoveOf (move_unit old.kernel.place []) true → MakesUnit [] (move_unit old.kernel.place []) old next i h
+pub move_flies : (old next : Standing) (holds : Option (List NamedFile)) (i h : Option (List ℕ)) → IsMoveOf (move_unit old.kernel.place []) true → MakesUnit (ground old holds []) (move_unit old.kernel.place []) old next i h
     → length next.kernel.place.transfers ≤ length old.kernel.place.transfers + 1
-move_flies old next i h k m =
-    let place : next.kernel.place ≡ place_entry [] 0 old.kernel.place (entries.Hands 1) = moved_place (move_unit old.kernel.place []) true old next i h k m ∙ ap (place_entry [] 0 old.kernel.place) k in
+move_flies old next holds i h k m =
+    let place : next.kernel.place ≡ place_entry [] 0 old.kernel.place (entries.Hands 1) = moved_place (move_unit old.kernel.place []) true old next holds i h k m ∙ ap (place_entry [] 0 old.kernel.place) k in
     let e = ap (λ (p : Placement). length p.transfers) place in
     let l = entry_count [] 0 old.kernel.place (entries.Hands 1) in
     omega arith
 
-pub done_flies : (old next : Standing) (i h : Option (List ℕ)) → IsMoveOf (move_unit old.kernel.place []) false → MakesUnit [] (move_unit old.kernel.place []) old next i h
+pub done_flies : (old next : Standing) (holds : Option (List NamedFile)) (i h : Option (List ℕ)) → IsMoveOf (move_unit old.kernel.place []) false → MakesUnit (ground old holds []) (move_unit old.kernel.place []) old next i h
     → length next.kernel.place.transfers < length old.kernel.place.transfers
-done_flies old next i h k m =
-    let place : next.kernel.place ≡ done old.kernel.place = moved_place (move_unit old.kernel.place []) false old next i h k m ∙ ap (place_entry [] 0 old.kernel.place) k in
+done_flies old next holds i h k m =
+    let place : next.kernel.place ≡ done old.kernel.place = moved_place (move_unit old.kernel.place []) false old next holds i h k m ∙ ap (place_entry [] 0 old.kernel.place) k in
     let e = ap (λ (p : Placement). length p.transfers) place in
-    let d : IsDone old.kernel next.kernel = subst (λ (u : Entry). MadeBy [] u old.kernel next.kernel) k m.made in
+    let d : IsDone (sources old holds) i old.kernel next.kernel = subst (λ (u : Entry). MadeBy (ground old holds []) u old.kernel i next.kernel) k m.made in
     let some = d.some in
     let l = done_less old.kernel.place (λ z. absurd (let n = ap (λ (ts : List Transfer). length ts) z in omega arith)) in
     omega arith
 
-pub move_last : (n : ℕ) (old next : Standing) (i h : Option (List ℕ)) → 0 < n → IsMoveOf (move_unit old.kernel.place []) true → MakesUnit [] (move_unit old.kernel.place []) old next i h
+pub move_last : (n : ℕ) (old next : Standing) (holds : Option (List NamedFile)) (i h : Option (List ℕ)) → 0 < n → IsMoveOf (move_unit old.kernel.place []) true → MakesUnit (ground old holds []) (move_unit old.kernel.place []) old next i h
     → last_moves old.kernel.journal + n < 2 ^ 32 → last_moves next.kernel.journal + (n - 1) < 2 ^ 32
-move_last n old next i h s k m l =
-    let e = ap last_moves (unit_journal [] (move_unit old.kernel.place []) old.kernel next.kernel m.made ∙ ap (append old.kernel.journal) k) in
+move_last n old next holds i h s k m l =
+    let e = ap last_moves (unit_journal (ground old holds []) (move_unit old.kernel.place []) old.kernel next.kernel i m.made ∙ ap (append old.kernel.journal) k) in
     let more = last_more old.kernel.journal in
     omega arith
 
-pub done_last : (n : ℕ) (old next : Standing) (i h : Option (List ℕ)) → IsMoveOf (move_unit old.kernel.place []) false → MakesUnit [] (move_unit old.kernel.place []) old next i h
+pub done_last : (n : ℕ) (old next : Standing) (holds : Option (List NamedFile)) (i h : Option (List ℕ)) → IsMoveOf (move_unit old.kernel.place []) false → MakesUnit (ground old holds []) (move_unit old.kernel.place []) old next i h
     → last_moves old.kernel.journal + n < 2 ^ 32 → last_moves next.kernel.journal + n < 2 ^ 32
-done_last n old next i h k m l =
-    let e = ap last_moves (unit_journal [] (move_unit old.kernel.place []) old.kernel next.kernel m.made ∙ ap (append old.kernel.journal) k) in
+done_last n old next holds i h k m l =
+    let e = ap last_moves (unit_journal (ground old holds []) (move_unit old.kernel.place []) old.kernel next.kernel i m.made ∙ ap (append old.kernel.journal) k) in
     let none = last_done old.kernel.journal in
     omega arith

@@ -3,6 +3,7 @@ use Rattle.std.specs.Prelude.{◌≡◌, ℕ, ◌-◌, ◌<◌, ◌≤◌, Bool,
 use Rattle.vm_facts.specs.declared.entry.Entry.{Entry}
 use Rattle.vm_facts.specs.declared.entry.Entry.TheVariants as entries
 use Rattle.vm_facts.specs.declared.stop.Stop.{Stop}
+use Rattle.io_edge.specs.FileHolding.{NamedFile}
 use Rattle.page_model.specs.Placement.{Placement}
 use Rattle.page_model.specs.Hands.{wants_moves}
 use Rattle.page_model.specs.Place.{place_entry}
@@ -10,7 +11,7 @@ use Rattle.kernel_model.specs.Kernel.{Kernel}
 use Rattle.machine_state.specs.Machine.{Standing}
 use Rattle.span_laws.specs.Spans.{moves, moves_of}
 use Rattle.run_model.specs.Next.{move_unit}
-use Rattle.paging_units.specs.Made.{Made, Makes}
+use Rattle.paging_units.specs.Made.{ground, Made, Makes}
 use Rattle.paging_units.specs.Stops.{StopsAt}
 
 -- Of so many moves that are asked for, these units are made: while some are left and fewer than a quarter of the frames
@@ -26,22 +27,22 @@ IsMoveOf e false = e ≡ entries.Done
 
 -- The call makes such units and answers how many moves they are: as many as are asked for, or fewer where a quarter of the
 -- frames are free then.
-pub record Moved (n : ℕ) (old new : Standing) (made : ℕ) (i j : Option (List ℕ)) : Type 0 where
+pub record Moved (n : ℕ) (old new : Standing) (made : ℕ) (holds : Option (List NamedFile)) (i j : Option (List ℕ)) : Type 0 where
   pub units : List Entry
   pub moves : Moves units n old.kernel.place new.kernel.place
-  pub makes : Makes [] units old new i j
+  pub makes : Makes (ground old holds []) units old new i j
   pub counted : made ≡ moves_of units
   pub most : made ≤ n
   pub fewer : made < n → wants_moves new.kernel.place ≡ false
 
 -- The call stops: these units are made, and some move is left and wanted in the kernel to which they lead; there it stops at
 -- the unit that comes next.
-pub record StopsMoving (n : ℕ) (old : Standing) (stop : Stop) (new : Standing) (i j : Option (List ℕ)) : Type 0 where
+pub record StopsMoving (n : ℕ) (old : Standing) (stop : Stop) (new : Standing) (holds : Option (List NamedFile)) (i j : Option (List ℕ)) : Type 0 where
   pub units : List Entry
   pub at : Kernel
   pub image : Option (List ℕ)
   pub moves : Moves units n old.kernel.place at.place
-  pub made : Made [] units old.kernel i at image
+  pub made : Made (ground old holds []) units old.kernel i at image
   pub left : moves_of units < n
   pub wants : wants_moves at.place ≡ true
   pub stops : StopsAt (move_unit at.place []) at image stop new j

@@ -5,7 +5,7 @@ ghost use Rattle.page_model.specs.Rank.{HasRoom, far};
 ghost use Rattle.page_model.specs.Conditions.{Spares};
 ghost use Rattle.machine_state.specs.Files.{AreFiles};
 ghost use Rattle.machine_state.specs.Done.{KeepsThrough, CountsPages, CountsReads, CountsWrites};
-ghost use Rattle.paging_units.specs.Made.{MakesUnit};
+ghost use Rattle.paging_units.specs.Made.{ground, MakesUnit};
 ghost use Rattle.paging_units.specs.LastMoves.{last_moves};
 ghost use Rattle.paging_units.specs.Stops.{StopsAt};
 ghost use Rattle.clock_hands.specs.Forced.{Forced, StopsForcing};
@@ -30,7 +30,7 @@ fn force_once<F: Files, D: SwapDev>(
     requires none { m.old.kernel.place.free ≡ [] }
     requires room { HasRoom m.old.kernel.place locked.now }
     requires fits { last_moves m.old.kernel.journal + 1 < 2 ^ 32 }
-    ensures made { OnOk result (MakesUnit locked.now (force_entry m.old.kernel.place.transfers) m.old m.new (D.image swap.old) (D.image swap.new)) }
+    ensures made { OnOk result (MakesUnit (ground m.old (F.holds files.old) locked.now) (force_entry m.old.kernel.place.transfers) m.old m.new (D.image swap.old) (D.image swap.new)) }
     ensures keeps { OnOk result (KeepsThrough m.old m.new (F.holds files.old) (D.image swap.old) (D.image swap.new)) }
     ensures stopped { IfErr result (λ stop. StopsAt (force_entry m.old.kernel.place.transfers) m.old.kernel (D.image swap.old) stop m.new (D.image swap.new)) }
     ensures params { m.new.params ≡ m.old.params }
@@ -64,9 +64,9 @@ fn force_frame<F: Files, D: SwapDev>(
     requires files { AreFiles m.old.images (F.holds files.old) }
     requires room { HasRoom m.old.kernel.place locked.now }
     requires fits { last_moves m.old.kernel.journal + far m.old.kernel.place locked.now < 2 ^ 32 }
-    ensures forced { OnOk result (Forced locked.now m.old m.new (D.image swap.old) (D.image swap.new)) }
+    ensures forced { OnOk result (Forced locked.now m.old m.new (F.holds files.old) (D.image swap.old) (D.image swap.new)) }
     ensures keeps { OnOk result (KeepsThrough m.old m.new (F.holds files.old) (D.image swap.old) (D.image swap.new)) }
-    ensures stopped { IfErr result (λ stop. StopsForcing locked.now m.old stop m.new (D.image swap.old) (D.image swap.new)) }
+    ensures stopped { IfErr result (λ stop. StopsForcing locked.now m.old stop m.new (F.holds files.old) (D.image swap.old) (D.image swap.new)) }
     ensures files_lead { F.leads files.old files.new }
     ensures swap_leads { D.leads swap.old swap.new }
     ensures holds { F.holds files.new ≡ F.holds files.old }
@@ -98,9 +98,9 @@ pub fn make_room<F: Files, D: SwapDev>(
     requires files { AreFiles m.old.images (F.holds files.old) }
     requires room { HasRoom m.old.kernel.place locked.now }
     requires low { last_moves m.old.kernel.journal ≤ 1000000 }
-    ensures forced { OnOk result (Forced locked.now m.old m.new (D.image swap.old) (D.image swap.new)) }
+    ensures forced { OnOk result (Forced locked.now m.old m.new (F.holds files.old) (D.image swap.old) (D.image swap.new)) }
     ensures keeps { OnOk result (KeepsThrough m.old m.new (F.holds files.old) (D.image swap.old) (D.image swap.new)) }
-    ensures stopped { IfErr result (λ stop. StopsForcing locked.now m.old stop m.new (D.image swap.old) (D.image swap.new)) }
+    ensures stopped { IfErr result (λ stop. StopsForcing locked.now m.old stop m.new (F.holds files.old) (D.image swap.old) (D.image swap.new)) }
     ensures few { OnOk result (length m.new.kernel.journal + length m.new.kernel.place.transfers ≤ length m.old.kernel.journal + length m.old.kernel.place.transfers + 2) }
     ensures few_at_stop { OnErr result (length m.new.kernel.journal ≤ length m.old.kernel.journal + length m.old.kernel.place.transfers + 2) }
     ensures flights { OnOk result (length m.new.kernel.place.transfers ≤ length m.old.kernel.place.transfers) }

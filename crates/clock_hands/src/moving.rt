@@ -5,7 +5,7 @@ ghost use Rattle.page_model.specs.Rank.{HasRoom};
 ghost use Rattle.machine_state.specs.Files.{AreFiles};
 ghost use Rattle.machine_state.specs.Done.{KeepsThrough, CountsPages, CountsReads, CountsWrites};
 ghost use Rattle.run_model.specs.Next.{move_unit};
-ghost use Rattle.paging_units.specs.Made.{MakesUnit};
+ghost use Rattle.paging_units.specs.Made.{ground, MakesUnit};
 ghost use Rattle.paging_units.specs.LastMoves.{last_moves};
 ghost use Rattle.paging_units.specs.Stops.{StopsAt};
 ghost use Rattle.clock_hands.specs.Moved.{Moved, StopsMoving, IsMoveOf};
@@ -39,7 +39,7 @@ fn move_once<F: Files, D: SwapDev>(
     requires files { AreFiles m.old.images (F.holds files.old) }
     requires wants { wants_moves m.old.kernel.place ≡ true }
     requires fits { last_moves m.old.kernel.journal + 1 < 2 ^ 32 }
-    ensures made { OnOk result (MakesUnit [] (move_unit m.old.kernel.place []) m.old m.new (D.image swap.old) (D.image swap.new)) }
+    ensures made { OnOk result (MakesUnit (ground m.old (F.holds files.old) []) (move_unit m.old.kernel.place []) m.old m.new (D.image swap.old) (D.image swap.new)) }
     ensures moved { IfOk result (λ moved. IsMoveOf (move_unit m.old.kernel.place []) moved) }
     ensures keeps { OnOk result (KeepsThrough m.old m.new (F.holds files.old) (D.image swap.old) (D.image swap.new)) }
     ensures stopped { IfErr result (λ stop. StopsAt (move_unit m.old.kernel.place []) m.old.kernel (D.image swap.old) stop m.new (D.image swap.new)) }
@@ -77,9 +77,9 @@ pub fn move_hands<F: Files, D: SwapDev>(
     requires area { m.old.params.swap_blocks ≤ D.blocks swap.old }
     requires files { AreFiles m.old.images (F.holds files.old) }
     requires fits { last_moves m.old.kernel.journal + n < 2 ^ 32 }
-    ensures moved { IfOk result (λ made. Moved n m.old m.new made (D.image swap.old) (D.image swap.new)) }
+    ensures moved { IfOk result (λ made. Moved n m.old m.new made (F.holds files.old) (D.image swap.old) (D.image swap.new)) }
     ensures keeps { OnOk result (KeepsThrough m.old m.new (F.holds files.old) (D.image swap.old) (D.image swap.new)) }
-    ensures stopped { IfErr result (λ stop. StopsMoving n m.old stop m.new (D.image swap.old) (D.image swap.new)) }
+    ensures stopped { IfErr result (λ stop. StopsMoving n m.old stop m.new (F.holds files.old) (D.image swap.old) (D.image swap.new)) }
     ensures files_lead { F.leads files.old files.new }
     ensures swap_leads { D.leads swap.old swap.new }
     ensures holds { F.holds files.new ≡ F.holds files.old }

@@ -40,7 +40,7 @@ returns-clause-made g c =
       | else-n-gt0-via-then-n-gt0+else-in_flight-eq-MOST_IN_FLIGHT w ↦ inr (omega arith)
       | else-n-gt0-via-else-n-gt0 w ↦ inl (omega arith)
     ] in
-    hand_makes [] (move_unit old.kernel.place []) old c.hand.new.self (g.D.SwapDev.image c.args.swap.now)
+    hand_makes [] (move_unit old.kernel.place []) old c.hand.new.self (g.F.Files.holds c.args.files.now) (g.D.SwapDev.image c.args.swap.now)
     (moves_now old.kernel.place c.next_write-lo.result.0 c.next_write-lo.result.1 c.next_write-lo.ensures either) c.in_ok-hand.ensures.step c.in_ok-hand.ensures.rest
 
 pub returns-clause-keeps : goal.returns-clause-keeps
