@@ -1,0 +1,4 @@
+pub mod Leads
+pub mod Serving
+pub mod Filling
+pub mod Settling

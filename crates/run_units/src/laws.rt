@@ -1,0 +1,49 @@
+ghost use Rattle.std.specs.Prelude.{◌≡◌, ℕ, List, ◌++◌, Option, Some};
+ghost use Rattle.vm_facts.specs.declared.entry.Entry.{Entry};
+ghost use Rattle.flat_state.specs.Flat.{Inputs};
+ghost use Rattle.kernel_model.specs.Kernel.{Kernel};
+ghost use Rattle.run_model.specs.State.{State};
+ghost use Rattle.paging_units.specs.Made.{Ground, MadeBy, ImageBy};
+ghost use Rattle.run_units.specs.Leads.{HasImages, KeepsLocked, MadeAs, Leads};
+ghost use Rattle.run_units.specs.Filling.{ForcingIsNext, ForcedNext, FillIsNext, BringingIsNext, BroughtNext};
+ghost use Rattle.run_units.specs.Settling.{SettlingIsNext, SettledNext};
+ghost use Rattle.run_units.specs.Serving.{At, ServingIsNext, ServedNext};
+
+/// A unit of paging that a machine made, over the images of a run and with hands that pass over the pages that the run keeps,
+/// is the same unit of the run: with what was read, which is what the files and the swap image hold. Parts follow one another,
+/// and a machine that stood at a state of the run stands at the one to which its units lead.
+pub fn units_are_next()
+    ensures one { (A : Inputs) (g : Ground) (s : State) (k l : Kernel) (image : List ℕ) (j : Option (List ℕ)) (u : Entry)
+        → HasImages g A → KeepsLocked g A s u → MadeBy g u k (Some image) l → ImageBy u k (Some image) j → MadeAs A s k image u l j }
+    ensures parts { (A : Inputs) (s t r : State) (k l m : Kernel) (image : List ℕ) (i j : Option (List ℕ)) (us vs : List Entry)
+        → Leads A s k image us t l i → ((between : List ℕ) → i ≡ Some between → Leads A t l between vs r m j)
+        → Leads A s k image (us ++ vs) r m j }
+    ensures stands { (A : Inputs) (s t : State) (k l : Kernel) (image behind : List ℕ) (us : List Entry)
+        → At A s k image → Leads A s k image us t l (Some behind) → At A t l behind }
+{}
+
+/// While a process runs and waits for a page that its next instruction touches, each unit that serves the page is the next
+/// unit of the run: in a turn, where frames are forced by hands that pass over the pages before it, and in a dispatch, where
+/// serving goes only as far as that needs no waiting.
+pub fn serving_is_next()
+    ensures units { ServingIsNext }
+    ensures next { ServedNext }
+{}
+
+/// While a page is due, each unit that forces a frame for the one that is due first is the next unit of the run, and where a
+/// frame is free the fill itself: with zeros for a new stack page, with its parent's bytes for a child's page. Before that
+/// each unit that serves the parent's page is the next one.
+pub fn filling_is_next()
+    ensures forces { ForcingIsNext }
+    ensures forced { ForcedNext }
+    ensures fills { FillIsNext }
+    ensures brings { BringingIsNext }
+    ensures brought { BroughtNext }
+{}
+
+/// A process whose step gives up its space, or drops pages of it, waits until no transfer names a page of it: each transfer
+/// that ends meanwhile is the next unit of the run.
+pub fn settling_is_next()
+    ensures units { SettlingIsNext }
+    ensures next { SettledNext }
+{}

@@ -1,0 +1,8 @@
+//! Units that a machine makes are next units of a run: what `paging_units` says that a call made, joined with the policy of
+//! `run_model` and with the machine along a run of `run_laws`. There is no code here: each law is the clause of a function
+//! with an empty body.
+#![tactic(auto)]
+
+mod laws;
+
+pub use laws::{filling_is_next, serving_is_next, settling_is_next, units_are_next};
