@@ -2,3 +2,5 @@ pub mod Units
 pub mod Serving
 pub mod Filling
 pub mod Settling
+pub mod Touching
+pub mod Instructing

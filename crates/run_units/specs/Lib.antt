@@ -2,3 +2,4 @@ pub mod Leads
 pub mod Serving
 pub mod Filling
 pub mod Settling
+pub mod Touching

@@ -5,4 +5,6 @@
 
 mod laws;
 
-pub use laws::{filling_is_next, serving_is_next, settling_is_next, units_are_next};
+pub use laws::{
+    accesses_tell_pages, filling_is_next, serving_is_next, settling_is_next, units_are_next,
+};

@@ -1,0 +1,61 @@
+-- What an instruction over the frames of a machine says of the pages that it touches.
+use Rattle.std.specs.Prelude.{◌≡◌, ℕ, Bool, true, false, List, [], ◌∷◌, ◌++◌, Option, Some, None, Result, Ok, Err, ℤ}
+use Rattle.vm_facts.specs.declared.page.Page.{Page}
+use Rattle.user_vax.specs.Program.{run}
+use Rattle.user_vax.specs.Effects.{Effect}
+use Rattle.user_vax.specs.Instruction.{instruction}
+use Rattle.user_vax.specs.declared.refused.Refused.{Refused}
+use Rattle.user_vax.specs.declared.refused.Refused.TheVariants.{Miss, Below, Signal}
+use Rattle.flat_state.specs.Space.{Space}
+use Rattle.flat_state.specs.Flat.{Holds, Process, Inputs, process_of}
+use Rattle.page_model.specs.Pages.{is_valid}
+use Rattle.page_model.specs.Placement.{state_of}
+use Rattle.kernel_model.specs.Kernel.{Kernel}
+use Rattle.machine_state.specs.UserMemory.{kernel_answers, page_in}
+use Rattle.flat_model.specs.Instruction.{instruction_in}
+use Rattle.run_model.specs.State.{State}
+use Rattle.run_model.specs.Wanted.{wanted, touched_next, AllValid}
+use Rattle.run_model.specs.Kinds.{Runs}
+use Rattle.run_units.specs.Serving.{At}
+
+-- a process that runs, and its space
+pub record IsRunning (A : Inputs) (s : State) (pid : ℕ) (now : Bool) (p : Process) (x : Space) : Type 0 where
+  pub runs : Runs A s pid now
+  pub here : process_of s.point.flat pid ≡ Some p
+  pub holds : p.holding ≡ Holds x
+
+-- the first page that the process touches and that isn't valid is the one of this address
+pub record WantsPage (A : Inputs) (s : State) (k : Kernel) (x : Space) (address : ℕ) : Type 0 where
+  pub before : List Page
+  pub page : Page
+  pub rest : List Page
+  pub touched : touched_next A s ≡ before ++ page ∷ rest
+  pub valid : AllValid s.place before
+  pub absent : is_valid (state_of s.place page) ≡ false
+  pub at : page_in k.place x.sid address ≡ Some page
+
+-- where the instruction misses a byte, its process waits for that byte's page
+abbrev pub MissIsWanted : Type 0
+MissIsWanted =
+    (A : Inputs) (s : State) (k : Kernel) (image : List ℕ) (pid : ℕ) (now : Bool) (p : Process) (x : Space) (address : ℕ) (write : Bool)
+    → At A s k image → IsRunning A s pid now p x → run (kernel_answers k x.sid) (instruction p.regs) ≡ Err (Miss address write)
+    → WantsPage A s k x address
+
+-- the instruction comes to an end of its own, and makes no call
+abbrev pub IsWhole : Result Effect Refused → Type 0
+IsWhole (Ok effect) = effect.call ≡ None
+IsWhole (Err (Miss address write)) = ⊥
+IsWhole (Err (Below address)) = Unit {0}
+IsWhole (Err (Signal number)) = Unit {0}
+
+-- the process waits for no page, and its instruction comes to the same over the flat memory
+pub record IsReadyFor (A : Inputs) (s : State) (p : Process) (x : Space) (r : Result Effect Refused) : Type 0 where
+  pub unwanted : wanted A s ≡ None
+  pub same : instruction_in x p.regs ≡ r
+
+-- where it doesn't, and makes no call, the process waits for none
+abbrev pub NoMissIsReady : Type 0
+NoMissIsReady =
+    (A : Inputs) (s : State) (k : Kernel) (image : List ℕ) (pid : ℕ) (now : Bool) (p : Process) (x : Space)
+    → At A s k image → IsRunning A s pid now p x → IsWhole (run (kernel_answers k x.sid) (instruction p.regs))
+    → IsReadyFor A s p x (run (kernel_answers k x.sid) (instruction p.regs))
