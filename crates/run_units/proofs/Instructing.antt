@@ -2,10 +2,10 @@
 use Rattle.std.proofs.Common.{◌≡◌, ◌⊎◌, inl, inr, ℕ, ◌*◌, Bool, true, false, List, [], ◌∷◌, ◌++◌, length, filter_map, Option, Some, None, Result, Ok, Err, ℤ, refl, sym, ap, ◌∙◌, subst}
 use Rattle.std.specs.List.{cons_option}
 use Rattle.std.proofs.lemmas.List.Elements.{filter_map-append}
-use Rattle.vm_facts.specs.Answers.{Answers}
+use Rattle.vm_facts.specs.Answers.{Answers, ByteWrite}
 use Rattle.vm_facts.specs.declared.page.Page.{Page}
 use Rattle.vm_facts.specs.declared.page.Page.TheVariants as pages
-use Rattle.user_vax.specs.Program.{run, Access, ReadOf, TestOf, accesses}
+use Rattle.user_vax.specs.Program.{Program, run, Access, ReadOf, TestOf, accesses}
 use Rattle.user_vax.specs.Laws.{refusal, AllGranted, EndsRefused, Covers, SameOrMisses, read_refusal, test_refusal}
 use Rattle.user_vax.specs.Effects.{Effect}
 use Rattle.user_vax.specs.Instruction.{instruction}
@@ -17,7 +17,7 @@ use Rattle.vm_facts.specs.declared.memory.ByteRead.TheVariants as reads
 use Rattle.vm_facts.specs.declared.memory.MayWrite.{MayWrite}
 use Rattle.vm_facts.specs.declared.memory.MayWrite.TheVariants as tests
 use Rattle.flat_state.specs.declared.spot.Spot.{Spot}
-use Rattle.flat_state.specs.Space.{Space, spot_at, address_in, answers_of}
+use Rattle.flat_state.specs.Space.{Space, spot_at, address_in, answers_of, puts}
 use Rattle.flat_state.specs.Flat.{Holds, Process, FlatState, NamedImage, Inputs, process_of, is_ready, ready_if, spaces_of, image_numbered}
 use Rattle.page_model.specs.Pages.{SpacePages, is_valid, numbered, data_in, stack_in}
 use Rattle.page_model.specs.Placement.{Placement, space_number, image_in, image_of, state_of}
@@ -26,6 +26,10 @@ use Rattle.kernel_model.specs.Kernel.{Kernel}
 use Rattle.kernel_model.specs.Coupled.{Coupled, Fits, IsSized, text_of}
 use Rattle.machine_state.specs.UserMemory.{bytes_of, text_len, data_len, stack_len, spot_in, read_spot, may_write_spot, page_in, kernel_answers}
 use Rattle.machine_state.proofs.FlatMemory.{memory_covers}
+use Rattle.flat_model.specs.declared.calls.Reply.{Reply}
+use Rattle.flat_model.specs.declared.calls.SystemCall.{SystemCall}
+use Rattle.flat_model.specs.Step.{reply_asked}
+use Rattle.flat_laws.specs.Shown.{IsCallOf}
 use Rattle.flat_model.specs.Instruction.{instruction_in}
 use Rattle.flat_model.specs.Touched.{page_of_access, step_accesses, accesses_after, distinct, touched, touched_by, touched_in, touched_if}
 use Rattle.run_model.specs.State.{State}
@@ -38,7 +42,8 @@ use Rattle.run_laws.proofs.Flows.{on_running, on_steps}
 use Rattle.run_laws.proofs.Touching.{found_process}
 use Rattle.economy_laws.proofs.Left.{next_on}
 use Rattle.run_units.specs.Serving.{At}
-use Rattle.run_units.specs.Touching.{IsRunning, WantsPage, IsWhole, IsReadyFor}
+use Rattle.run_units.specs.Touching.{IsRunning, WantsPage, MakesNone, IsWhole, IsReadyFor, IsAnswered, IsCalledFor}
+use Rattle.run_units.proofs.Calling.{calls_write_none}
 use Rattle.run_units.proofs.Touching.{IsHit, AllHit, NotMissed, all_hit, granted_hit, Missing, read_missing, test_missing, SameSpots, pages_valid, each_distinct, Parts, parts}
 
 -- The process's space, and what the machine answers of it.
@@ -148,25 +153,20 @@ append_one (x ∷ xs) ys zs = ap (λ (list : List Access). x ∷ list) (append_o
 found_first : (x : Space) (a : Access) (q : Page) (list : List Access) → page_of_access x a ≡ Some q → filter_map (page_of_access x) (a ∷ list) ≡ q ∷ filter_map (page_of_access x) list
 found_first x a q list e = ap (λ (o : Option Page). cons_option o (filter_map (page_of_access x) list)) e
 
-pub miss_wanted : (A : Inputs) (s : State) (k : Kernel) (image : List ℕ) (pid : ℕ) (now : Bool) (p : Process) (x : Space) (address : ℕ) (write : Bool) → At A s k image
-    → IsRunning A s pid now p x → run (kernel_answers k x.sid) (instruction p.regs) ≡ Err (Miss address write) → WantsPage A s k x address
-unfolding step_accesses
-miss_wanted A s k image pid now p x address write at r m =
+-- the byte of an access that misses, behind others that don't, is of the page that the process waits for
+wanted_at : (A : Inputs) (s : State) (k : Kernel) (image : List ℕ) (pid : ℕ) (now : Bool) (p : Process) (x : Space) (front rest : List Access) (last : Access) (address : ℕ) (write : Bool)
+    → At A s k image → IsRunning A s pid now p x → step_accesses A.images s.point.flat p x ≡ front ++ last ∷ rest → AllHit (kernel_answers k x.sid) front
+    → refusal (kernel_answers k x.sid) last ≡ Some (Miss address write) → WantsPage A s k x address
+wanted_at A s k image pid now p x front rest last address write at r e hits miss =
     let l : Lent A k x = lent A s k image pid p x at r.here r.holds in
-    let memory : Answers = kernel_answers k x.sid in
-    let ends : EndsRefused memory (accesses memory (instruction p.regs)) (Miss address write) = (keeps_order memory (instruction p.regs)).misses address write m in
-    let front : List Access = ends.0 in
-    let last : Access = ends.1 in
-    let z = missing_at k x l.spots last address write ends.4 in
+    let z = missing_at k x l.spots last address write miss in
     let g : Missing k x (page_of_access x last) z.0 = z.2 in
-    let more : (more : List Access) × (accesses (answers_of x) (instruction p.regs) ≡ accesses memory (instruction p.regs) ++ more) = others memory l.covers in
-    let rest : List Access = more.0 ++ accesses_after A.images s.point.flat p x (instruction_in x p.regs) in
     let whole : filter_map (page_of_access x) (step_accesses A.images s.point.flat p x) ≡ filter_map (page_of_access x) front ++ g.page ∷ filter_map (page_of_access x) rest =
-    ap (filter_map (page_of_access x)) (stepped more.0 more.1 ∙ split front last more.0 ends.2) ∙ filter_map-append (page_of_access x) front (last ∷ rest)
+    ap (filter_map (page_of_access x)) e ∙ filter_map-append (page_of_access x) front (last ∷ rest)
     ∙ ap (λ (qs : List Page). filter_map (page_of_access x) front ++ qs) (found_first x last g.page rest g.of_access) in
     let here : k.place ≡ s.place = at.stands.place in
     let valid : AllValid s.place (filter_map (page_of_access x) front) =
-    subst (λ (y : Placement). AllValid y (filter_map (page_of_access x) front)) here (pages_valid k x l.spots front (granted_hit memory front ends.3)) in
+    subst (λ (y : Placement). AllValid y (filter_map (page_of_access x) front)) here (pages_valid k x l.spots front hits) in
     let absent : is_valid (state_of s.place g.page) ≡ false = subst (λ (y : Placement). is_valid (state_of y g.page) ≡ false) here g.absent in
     let w : Parts s.place (distinct (filter_map (page_of_access x) front ++ g.page ∷ filter_map (page_of_access x) rest)) g.page =
     parts s.place (filter_map (page_of_access x) front) (filter_map (page_of_access x) rest) g.page valid absent in
@@ -179,29 +179,78 @@ miss_wanted A s k image pid now p x address write at r m =
       absent = absent;
       at = z.1 ∙ g.of_spot;
     }
-  where
-    others : (memory : Answers) → Covers memory (answers_of x) → (more : List Access) × (accesses (answers_of x) (instruction p.regs) ≡ accesses memory (instruction p.regs) ++ more)
-    others memory c = elim (same_or_misses memory (answers_of x) (instruction p.regs) c) [
-      | inl e ↦ ([], sym e.1 ∙ sym (append_none (accesses memory (instruction p.regs))))
-      | inr h ↦ (h.3, h.4)
-    ]
-      where
-        append_none : (list : List Access) → list ++ [] ≡ list
-        append_none [] = refl
-        append_none (a ∷ list) = ap (λ (bs : List Access). a ∷ bs) (append_none list)
 
-    stepped : (more : List Access) → accesses (answers_of x) (instruction p.regs) ≡ accesses (kernel_answers k x.sid) (instruction p.regs) ++ more
-        → step_accesses A.images s.point.flat p x ≡ (accesses (kernel_answers k x.sid) (instruction p.regs) ++ more) ++ accesses_after A.images s.point.flat p x (instruction_in x p.regs)
-    stepped more e = ap (λ (list : List Access). list ++ accesses_after A.images s.point.flat p x (instruction_in x p.regs)) e
+-- where no access misses the process waits for none
+ready_at : (A : Inputs) (s : State) (k : Kernel) (image : List ℕ) (pid : ℕ) (now : Bool) (p : Process) (x : Space) (list : List Access) → At A s k image → IsRunning A s pid now p x
+    → step_accesses A.images s.point.flat p x ≡ list → AllHit (kernel_answers k x.sid) list → wanted A s ≡ None
+ready_at A s k image pid now p x list at r e hits =
+    let l : Lent A k x = lent A s k image pid p x at r.here r.holds in
+    let valid : AllValid s.place (distinct (filter_map (page_of_access x) list)) =
+    each_distinct (λ q. is_valid (state_of s.place q) ≡ true) (filter_map (page_of_access x) list)
+    (subst (λ (y : Placement). AllValid y (filter_map (page_of_access x) list)) at.stands.place (pages_valid k x l.spots list hits)) in
+    all_unwanted A s r.runs.clear (subst (AllValid s.place) (sym (runs_touch A s pid now p x r ∙ ap (λ (qs : List Access). distinct (filter_map (page_of_access x) qs)) e)) valid)
 
-    split : (front : List Access) (last : Access) (more : List Access) → accesses (kernel_answers k x.sid) (instruction p.regs) ≡ front ++ last ∷ []
-        → (accesses (kernel_answers k x.sid) (instruction p.regs) ++ more) ++ accesses_after A.images s.point.flat p x (instruction_in x p.regs)
-        ≡ front ++ last ∷ (more ++ accesses_after A.images s.point.flat p x (instruction_in x p.regs))
-    split front last more e =
-        let after : List Access = accesses_after A.images s.point.flat p x (instruction_in x p.regs) in
-        append_one (accesses (kernel_answers k x.sid) (instruction p.regs)) more after ∙ ap (λ (list : List Access). list ++ (more ++ after)) e ∙ append_one front (last ∷ []) (more ++ after)
+append_none : (list : List Access) → list ++ [] ≡ list
+append_none [] = refl
+append_none (a ∷ list) = ap (λ (others : List Access). a ∷ others) (append_none list)
 
--- An instruction that misses none.
+-- A computation over the frames, and over the flat memory.
+
+others : {B : Type 0} (memory flat : Answers) (q : Program B) → Covers memory flat → (more : List Access) × (accesses flat q ≡ accesses memory q ++ more)
+others memory flat q c = elim (same_or_misses memory flat q c) [
+  | inl e ↦ ([], sym e.1 ∙ sym (append_none (accesses memory q)))
+  | inr h ↦ (h.3, h.4)
+]
+
+same : {B : Type 0} (memory flat : Answers) (q : Program B) → Covers memory flat → NotMissed (run memory q) → (run memory q ≡ run flat q) × (accesses memory q ≡ accesses flat q)
+same memory flat q c n = elim (same_or_misses memory flat q c) [
+  | inl e ↦ e
+  | inr h ↦ absurd (subst NotMissed h.2 n)
+]
+
+-- its accesses end with one that misses, behind others that don't
+record EndsMissed (memory : Answers) (list : List Access) (address : ℕ) (write : Bool) : Type 0 where
+  front : List Access
+  last : Access
+  rest : List Access
+  whole : list ≡ front ++ last ∷ rest
+  hits : AllHit memory front
+  misses : refusal memory last ≡ Some (Miss address write)
+
+missed : {B : Type 0} (memory flat : Answers) (q : Program B) (address : ℕ) (write : Bool) (after : List Access) → Covers memory flat → run memory q ≡ Err (Miss address write)
+    → EndsMissed memory (accesses flat q ++ after) address write
+missed memory flat q address write after c m =
+    let ends : EndsRefused memory (accesses memory q) (Miss address write) = (keeps_order memory q).misses address write m in
+    let more = others memory flat q c in
+    record {
+      front = ends.0;
+      last = ends.1;
+      rest = more.0 ++ after;
+      whole = ap (λ (list : List Access). list ++ after) (more.1 ∙ ap (λ (list : List Access). list ++ more.0) ends.2)
+          ∙ append_one (ends.0 ++ ends.1 ∷ []) more.0 after ∙ append_one ends.0 (ends.1 ∷ []) (more.0 ++ after);
+      hits = granted_hit memory ends.0 ends.3;
+      misses = ends.4;
+    }
+
+hit_both : (memory : Answers) (xs ys : List Access) → AllHit memory xs → AllHit memory ys → AllHit memory (xs ++ ys)
+hit_both memory [] ys h k = k
+hit_both memory (x ∷ xs) ys h k = (h.0, hit_both memory xs ys h.1 k)
+
+-- An instruction.
+
+stepped : (A : Inputs) (s : State) (p : Process) (x : Space) → step_accesses A.images s.point.flat p x
+    ≡ accesses (answers_of x) (instruction p.regs) ++ accesses_after A.images s.point.flat p x (instruction_in x p.regs)
+unfolding step_accesses
+stepped A s p x = refl
+
+pub miss_wanted : (A : Inputs) (s : State) (k : Kernel) (image : List ℕ) (pid : ℕ) (now : Bool) (p : Process) (x : Space) (address : ℕ) (write : Bool) → At A s k image
+    → IsRunning A s pid now p x → run (kernel_answers k x.sid) (instruction p.regs) ≡ Err (Miss address write) → WantsPage A s k x address
+miss_wanted A s k image pid now p x address write at r m =
+    let after : List Access = accesses_after A.images s.point.flat p x (instruction_in x p.regs) in
+    let l : Lent A k x = lent A s k image pid p x at r.here r.holds in
+    let e : EndsMissed (kernel_answers k x.sid) (accesses (answers_of x) (instruction p.regs) ++ after) address write =
+    missed (kernel_answers k x.sid) (answers_of x) (instruction p.regs) address write after l.covers m in
+    wanted_at A s k image pid now p x e.front e.rest e.last address write at r (stepped A s p x ∙ e.whole) e.hits e.misses
 
 whole_hits : (r : Result Effect Refused) → IsWhole r → NotMissed r
 whole_hits (Ok effect) h = tt
@@ -210,42 +259,83 @@ whole_hits (Err (Below address)) h = tt
 whole_hits (Err (Signal number)) h = tt
 
 none_after : (images : List NamedImage) (F : FlatState) (p : Process) (x : Space) (r : Result Effect Refused) → IsWhole r → accesses_after images F p x r ≡ []
-none_after images F p x (Ok effect) h = ap (Rattle.flat_model.specs.Touched.accesses_behind images F p x effect) h
+none_after images F p x (Ok effect) h = go effect.call h
+  where
+    go : (o : Option ℤ) → MakesNone o → Rattle.flat_model.specs.Touched.accesses_behind images F p x effect o ≡ []
+    go None h = refl
+    go (Some number) h = ap (Rattle.flat_model.specs.Touched.call_accesses images F p x effect) h
 none_after images F p x (Err refused) h = refl
 
 pub hit_ready : (A : Inputs) (s : State) (k : Kernel) (image : List ℕ) (pid : ℕ) (now : Bool) (p : Process) (x : Space) → At A s k image → IsRunning A s pid now p x
     → IsWhole (run (kernel_answers k x.sid) (instruction p.regs)) → IsReadyFor A s p x (run (kernel_answers k x.sid) (instruction p.regs))
-unfolding step_accesses
 hit_ready A s k image pid now p x at r w =
-    let l : Lent A k x = lent A s k image pid p x at r.here r.holds in
     let memory : Answers = kernel_answers k x.sid in
-    let both = same memory l.covers (whole_hits (run memory (instruction p.regs)) w) in
-    let hits : AllHit memory (accesses memory (instruction p.regs)) = all_hit memory (instruction p.regs) (whole_hits (run memory (instruction p.regs)) w) in
+    let l : Lent A k x = lent A s k image pid p x at r.here r.holds in
+    let n : NotMissed (run memory (instruction p.regs)) = whole_hits (run memory (instruction p.regs)) w in
+    let both = same memory (answers_of x) (instruction p.regs) l.covers n in
     let none : accesses_after A.images s.point.flat p x (instruction_in x p.regs) ≡ [] =
     ap (accesses_after A.images s.point.flat p x) (sym both.0) ∙ none_after A.images s.point.flat p x (run memory (instruction p.regs)) w in
-    let here : k.place ≡ s.place = at.stands.place in
-    let valid : AllValid s.place (distinct (filter_map (page_of_access x) (accesses memory (instruction p.regs)))) =
-    each_distinct (λ q. is_valid (state_of s.place q) ≡ true) (filter_map (page_of_access x) (accesses memory (instruction p.regs)))
-    (subst (λ (y : Placement). AllValid y (filter_map (page_of_access x) (accesses memory (instruction p.regs)))) here (pages_valid k x l.spots (accesses memory (instruction p.regs)) hits)) in
-    let touched : touched_next A s ≡ distinct (filter_map (page_of_access x) (accesses memory (instruction p.regs))) =
-    runs_touch A s pid now p x r ∙ ap (λ (list : List Access). distinct (filter_map (page_of_access x) list)) (stepped memory both.1 none) in
     record {
-      unwanted = all_unwanted A s r.runs.clear (subst (AllValid s.place) (sym touched) valid);
+      unwanted = ready_at A s k image pid now p x (accesses memory (instruction p.regs)) at r
+          (stepped A s p x ∙ ap (λ (list : List Access). accesses (answers_of x) (instruction p.regs) ++ list) none ∙ append_none (accesses (answers_of x) (instruction p.regs)) ∙ sym both.1)
+          (all_hit memory (instruction p.regs) n);
       same = sym both.0;
     }
+
+-- A call.
+
+-- the accesses of a call, whose instruction wrote nothing
+call_after : (images : List NamedImage) (F : FlatState) (p : Process) (x : Space) (effect : Effect) (call : SystemCall) → IsCallOf effect call → effect.writes ≡ []
+    → accesses_after images F p x (Ok effect) ≡ accesses (answers_of x) (reply_asked images F p x call effect)
+call_after images F p x effect call c w =
+    ap (Rattle.flat_model.specs.Touched.accesses_behind images F p x effect) c.is_number ∙ ap (Rattle.flat_model.specs.Touched.call_accesses images F p x effect) c.names
+    ∙ ap (λ (ws : List ByteWrite). accesses (answers_of (puts x ws)) (reply_asked images F p x call effect)) w
+
+pub call_wanted : (A : Inputs) (s : State) (k : Kernel) (image : List ℕ) (pid : ℕ) (now : Bool) (p : Process) (x : Space) (effect : Effect) (call : SystemCall) (address : ℕ) (write : Bool)
+    → At A s k image → IsRunning A s pid now p x → run (kernel_answers k x.sid) (instruction p.regs) ≡ Ok effect → IsCallOf effect call
+    → run (kernel_answers k x.sid) (reply_asked A.images s.point.flat p x call effect) ≡ Err (Miss address write) → WantsPage A s k x address
+call_wanted A s k image pid now p x effect call address write at r i c m =
+    let memory : Answers = kernel_answers k x.sid in
+    let l : Lent A k x = lent A s k image pid p x at r.here r.holds in
+    let n : NotMissed (run memory (instruction p.regs)) = subst NotMissed (sym i) tt in
+    let both = same memory (answers_of x) (instruction p.regs) l.covers n in
+    let w : effect.writes ≡ [] = calls_write_none memory p.regs effect c.number i c.is_number in
+    let q : Program Reply = reply_asked A.images s.point.flat p x call effect in
+    let e : EndsMissed memory (accesses (answers_of x) q ++ []) address write = missed memory (answers_of x) q address write [] l.covers m in
+    let after : accesses_after A.images s.point.flat p x (instruction_in x p.regs) ≡ e.front ++ e.last ∷ e.rest =
+    ap (accesses_after A.images s.point.flat p x) (sym both.0 ∙ i) ∙ call_after A.images s.point.flat p x effect call c w ∙ sym (append_none (accesses (answers_of x) q)) ∙ e.whole in
+    wanted_at A s k image pid now p x (accesses memory (instruction p.regs) ++ e.front) e.rest e.last address write at r
+    (stepped A s p x ∙ ap (λ (list : List Access). list ++ accesses_after A.images s.point.flat p x (instruction_in x p.regs)) (sym both.1)
+    ∙ ap (λ (list : List Access). accesses memory (instruction p.regs) ++ list) after ∙ sym (append_one (accesses memory (instruction p.regs)) e.front (e.last ∷ e.rest)))
+    (hit_both memory (accesses memory (instruction p.regs)) e.front (all_hit memory (instruction p.regs) n) e.hits) e.misses
+
+pub call_ready : (A : Inputs) (s : State) (k : Kernel) (image : List ℕ) (pid : ℕ) (now : Bool) (p : Process) (x : Space) (effect : Effect) (call : SystemCall)
+    → At A s k image → IsRunning A s pid now p x → run (kernel_answers k x.sid) (instruction p.regs) ≡ Ok effect → IsCallOf effect call
+    → IsAnswered (run (kernel_answers k x.sid) (reply_asked A.images s.point.flat p x call effect))
+    → IsCalledFor A s p x call effect (run (kernel_answers k x.sid) (reply_asked A.images s.point.flat p x call effect))
+call_ready A s k image pid now p x effect call at r i c answered =
+    let memory : Answers = kernel_answers k x.sid in
+    let l : Lent A k x = lent A s k image pid p x at r.here r.holds in
+    let n : NotMissed (run memory (instruction p.regs)) = subst NotMissed (sym i) tt in
+    let both = same memory (answers_of x) (instruction p.regs) l.covers n in
+    let w : effect.writes ≡ [] = calls_write_none memory p.regs effect c.number i c.is_number in
+    let q : Program Reply = reply_asked A.images s.point.flat p x call effect in
+    let replied : NotMissed (run memory q) = not_missed (run memory q) answered in
+    let read = same memory (answers_of x) q l.covers replied in
+    let after : accesses_after A.images s.point.flat p x (instruction_in x p.regs) ≡ accesses memory q =
+    ap (accesses_after A.images s.point.flat p x) (sym both.0 ∙ i) ∙ call_after A.images s.point.flat p x effect call c w ∙ sym read.1 in
+    record {
+      unwanted = ready_at A s k image pid now p x (accesses memory (instruction p.regs) ++ accesses memory q) at r
+          (stepped A s p x ∙ ap (λ (list : List Access). list ++ accesses_after A.images s.point.flat p x (instruction_in x p.regs)) (sym both.1)
+          ∙ ap (λ (list : List Access). accesses memory (instruction p.regs) ++ list) after)
+          (hit_both memory (accesses memory (instruction p.regs)) (accesses memory q) (all_hit memory (instruction p.regs) n) (all_hit memory q replied));
+      same = sym both.0 ∙ i;
+      writes = w;
+      replies = sym read.0;
+    }
   where
-    same : (memory : Answers) → Covers memory (answers_of x) → NotMissed (run memory (instruction p.regs))
-        → (run memory (instruction p.regs) ≡ run (answers_of x) (instruction p.regs)) × (accesses memory (instruction p.regs) ≡ accesses (answers_of x) (instruction p.regs))
-    same memory c n = elim (same_or_misses memory (answers_of x) (instruction p.regs) c) [
-      | inl e ↦ e
-      | inr h ↦ absurd (subst NotMissed h.2 n)
-    ]
-
-    append_none : (list : List Access) → list ++ [] ≡ list
-    append_none [] = refl
-    append_none (a ∷ list) = ap (λ (bs : List Access). a ∷ bs) (append_none list)
-
-    stepped : (memory : Answers) → accesses memory (instruction p.regs) ≡ accesses (answers_of x) (instruction p.regs) → accesses_after A.images s.point.flat p x (instruction_in x p.regs) ≡ []
-        → step_accesses A.images s.point.flat p x ≡ accesses memory (instruction p.regs)
-    stepped memory e n =
-        ap (λ (list : List Access). accesses (answers_of x) (instruction p.regs) ++ list) n ∙ append_none (accesses (answers_of x) (instruction p.regs)) ∙ sym e
+    not_missed : (z : Result Reply Refused) → IsAnswered z → NotMissed z
+    not_missed (Ok reply) h = tt
+    not_missed (Err (Miss a b)) h = absurd h
+    not_missed (Err (Below a)) h = tt
+    not_missed (Err (Signal a)) h = tt

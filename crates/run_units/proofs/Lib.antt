@@ -4,3 +4,4 @@ pub mod Filling
 pub mod Settling
 pub mod Touching
 pub mod Instructing
+pub mod Calling

@@ -1,18 +1,25 @@
 -- What an instruction over the frames of a machine says of the pages that it touches.
 use Rattle.std.specs.Prelude.{◌≡◌, ℕ, Bool, true, false, List, [], ◌∷◌, ◌++◌, Option, Some, None, Result, Ok, Err, ℤ}
+use Rattle.vm_facts.specs.Answers.{Answers}
 use Rattle.vm_facts.specs.declared.page.Page.{Page}
+use Rattle.vm_facts.specs.declared.regs.Regs.{Regs}
 use Rattle.user_vax.specs.Program.{run}
 use Rattle.user_vax.specs.Effects.{Effect}
 use Rattle.user_vax.specs.Instruction.{instruction}
 use Rattle.user_vax.specs.declared.refused.Refused.{Refused}
 use Rattle.user_vax.specs.declared.refused.Refused.TheVariants.{Miss, Below, Signal}
-use Rattle.flat_state.specs.Space.{Space}
+use Rattle.flat_state.specs.Space.{Space, answers_of}
 use Rattle.flat_state.specs.Flat.{Holds, Process, Inputs, process_of}
 use Rattle.page_model.specs.Pages.{is_valid}
 use Rattle.page_model.specs.Placement.{state_of}
 use Rattle.kernel_model.specs.Kernel.{Kernel}
 use Rattle.machine_state.specs.UserMemory.{kernel_answers, page_in}
+use Rattle.flat_model.specs.declared.calls.Reply.{Reply}
+use Rattle.flat_model.specs.declared.calls.SystemCall.{SystemCall}
+use Rattle.flat_model.specs.Calls.{call_of}
+use Rattle.flat_model.specs.Step.{reply_asked}
 use Rattle.flat_model.specs.Instruction.{instruction_in}
+use Rattle.flat_laws.specs.Shown.{IsCallOf}
 use Rattle.run_model.specs.State.{State}
 use Rattle.run_model.specs.Wanted.{wanted, touched_next, AllValid}
 use Rattle.run_model.specs.Kinds.{Runs}
@@ -41,9 +48,14 @@ MissIsWanted =
     → At A s k image → IsRunning A s pid now p x → run (kernel_answers k x.sid) (instruction p.regs) ≡ Err (Miss address write)
     → WantsPage A s k x address
 
--- the instruction comes to an end of its own, and makes no call
+-- none of the eight calls
+abbrev pub MakesNone : Option ℤ → Type 0
+MakesNone None = Unit {0}
+MakesNone (Some number) = call_of number ≡ None
+
+-- the instruction comes to an end of its own, and makes none of the eight calls
 abbrev pub IsWhole : Result Effect Refused → Type 0
-IsWhole (Ok effect) = effect.call ≡ None
+IsWhole (Ok effect) = MakesNone effect.call
 IsWhole (Err (Miss address write)) = ⊥
 IsWhole (Err (Below address)) = Unit {0}
 IsWhole (Err (Signal number)) = Unit {0}
@@ -53,9 +65,41 @@ pub record IsReadyFor (A : Inputs) (s : State) (p : Process) (x : Space) (r : Re
   pub unwanted : wanted A s ≡ None
   pub same : instruction_in x p.regs ≡ r
 
--- where it doesn't, and makes no call, the process waits for none
+-- where it doesn't, and makes none of the eight calls, the process waits for none
 abbrev pub NoMissIsReady : Type 0
 NoMissIsReady =
     (A : Inputs) (s : State) (k : Kernel) (image : List ℕ) (pid : ℕ) (now : Bool) (p : Process) (x : Space)
     → At A s k image → IsRunning A s pid now p x → IsWhole (run (kernel_answers k x.sid) (instruction p.regs))
     → IsReadyFor A s p x (run (kernel_answers k x.sid) (instruction p.regs))
+
+-- an instruction that makes a call writes nothing itself
+abbrev pub CallsWriteNothing : Type 0
+CallsWriteNothing = (memory : Answers) (regs : Regs) (effect : Effect) (number : ℤ) → run memory (instruction regs) ≡ Ok effect → effect.call ≡ Some number → effect.writes ≡ []
+
+-- what a call reads misses no byte
+abbrev pub IsAnswered : Result Reply Refused → Type 0
+IsAnswered (Err (Miss address write)) = ⊥
+IsAnswered _ = Unit {0}
+
+-- the process waits for no page; over the flat memory its instruction comes to this call, writes nothing itself, and the call
+-- comes to this
+pub record IsCalledFor (A : Inputs) (s : State) (p : Process) (x : Space) (call : SystemCall) (effect : Effect) (r : Result Reply Refused) : Type 0 where
+  pub unwanted : wanted A s ≡ None
+  pub same : instruction_in x p.regs ≡ Ok effect
+  pub writes : effect.writes ≡ []
+  pub replies : run (answers_of x) (reply_asked A.images s.point.flat p x call effect) ≡ r
+
+-- where the reads of a call miss a byte, its process waits for that byte's page
+abbrev pub CallMissIsWanted : Type 0
+CallMissIsWanted =
+    (A : Inputs) (s : State) (k : Kernel) (image : List ℕ) (pid : ℕ) (now : Bool) (p : Process) (x : Space) (effect : Effect) (call : SystemCall) (address : ℕ) (write : Bool)
+    → At A s k image → IsRunning A s pid now p x → run (kernel_answers k x.sid) (instruction p.regs) ≡ Ok effect → IsCallOf effect call
+    → run (kernel_answers k x.sid) (reply_asked A.images s.point.flat p x call effect) ≡ Err (Miss address write) → WantsPage A s k x address
+
+-- where they don't it waits for none
+abbrev pub CallIsReady : Type 0
+CallIsReady =
+    (A : Inputs) (s : State) (k : Kernel) (image : List ℕ) (pid : ℕ) (now : Bool) (p : Process) (x : Space) (effect : Effect) (call : SystemCall)
+    → At A s k image → IsRunning A s pid now p x → run (kernel_answers k x.sid) (instruction p.regs) ≡ Ok effect → IsCallOf effect call
+    → IsAnswered (run (kernel_answers k x.sid) (reply_asked A.images s.point.flat p x call effect))
+    → IsCalledFor A s p x call effect (run (kernel_answers k x.sid) (reply_asked A.images s.point.flat p x call effect))

@@ -6,7 +6,7 @@ ghost use Rattle.run_model.specs.State.{State};
 ghost use Rattle.paging_units.specs.Made.{Ground, MadeBy, ImageBy};
 ghost use Rattle.run_units.specs.Leads.{HasImages, KeepsLocked, MadeAs, Leads};
 ghost use Rattle.run_units.specs.Filling.{ForcingIsNext, ForcedNext, FillIsNext, BringingIsNext, BroughtNext};
-ghost use Rattle.run_units.specs.Touching.{MissIsWanted, NoMissIsReady};
+ghost use Rattle.run_units.specs.Touching.{MissIsWanted, NoMissIsReady, CallsWriteNothing, CallMissIsWanted, CallIsReady};
 ghost use Rattle.run_units.specs.Settling.{SettlingIsNext, SettledNext};
 ghost use Rattle.run_units.specs.Serving.{At, ServingIsNext, ServedNext};
 
@@ -50,9 +50,13 @@ pub fn settling_is_next()
 {}
 
 /// An instruction over the frames of a machine says which page its process waits for: the first byte that misses is of the
-/// first page that it touches and that isn't valid. Where none misses, and the instruction makes no call, the process waits for
-/// no page, and the instruction comes to what it comes to over the flat memory.
+/// first page that it touches and that isn't valid. Where none misses, and the instruction makes none of the eight calls, the
+/// process waits for no page, and the instruction comes to what it comes to over the flat memory. One that makes a call writes
+/// nothing itself; so of the bytes that the call reads the same is so.
 pub fn accesses_tell_pages()
     ensures misses { MissIsWanted }
     ensures hits { NoMissIsReady }
+    ensures calls { CallsWriteNothing }
+    ensures calls_miss { CallMissIsWanted }
+    ensures calls_hit { CallIsReady }
 {}
