@@ -58,7 +58,7 @@ sized_in k x (Some y) e h = (y, e, h)
 
 lent : (A : Inputs) (s : State) (k : Kernel) (image : List ℕ) (pid : ℕ) (p : Process) (x : Space) → At A s k image → process_of s.point.flat pid ≡ Some p → p.holding ≡ Holds x → Lent A k x
 lent A s k image pid p x at here holds = record {
-  spots = record { image = same_image; spots = same_spots };
+  spots = record { image = same_image; spots = spot_same };
   covers = memory_covers A.images k image flat x keeps.coupled keeps.stands.texts own same_text;
 }
   where
@@ -94,11 +94,14 @@ lent A s k image pid p x at here holds = record {
     stack_same : stack_len k.place x.sid ≡ length x.stack_bytes
     stack_same = ap (λ (o : Option SpacePages). 1024 * length (stack_in o)) sized.1 ∙ sym sized.2.stack_size
 
-    same_spots : (a : ℕ) → spot_in k.place x.sid a ≡ address_in x a
-    same_spots a =
+    spot_same : (a : ℕ) → spot_in k.place x.sid a ≡ address_in x a
+    spot_same a =
         ap (λ (t : ℕ). spot_at t (data_len k.place x.sid) (stack_len k.place x.sid) a) text_same
         ∙ ap (λ (d : ℕ). spot_at (length x.text_bytes) d (stack_len k.place x.sid) a) data_same
         ∙ ap (λ (z : ℕ). spot_at (length x.text_bytes) (length x.data_bytes) z a) stack_same
+
+pub same_spots : (A : Inputs) (s : State) (k : Kernel) (image : List ℕ) (pid : ℕ) (p : Process) (x : Space) → At A s k image → process_of s.point.flat pid ≡ Some p → p.holding ≡ Holds x → SameSpots k x
+same_spots A s k image pid p x at here holds = (lent A s k image pid p x at here holds).spots
 
 -- What a process that runs touches.
 

@@ -5,3 +5,5 @@ pub mod Settling
 pub mod Touching
 pub mod Instructing
 pub mod Calling
+pub mod Stepping
+pub mod Acting

@@ -3,3 +3,5 @@ pub mod Serving
 pub mod Filling
 pub mod Settling
 pub mod Touching
+pub mod Stepping
+pub mod Acting

@@ -5,8 +5,10 @@ ghost use Rattle.kernel_model.specs.Kernel.{Kernel};
 ghost use Rattle.run_model.specs.State.{State};
 ghost use Rattle.paging_units.specs.Made.{Ground, MadeBy, ImageBy};
 ghost use Rattle.run_units.specs.Leads.{HasImages, KeepsLocked, MadeAs, Leads};
+ghost use Rattle.run_units.specs.Acting.{StepBegins, StepIsRefused, RefusedStepComes, ReplyComes};
 ghost use Rattle.run_units.specs.Filling.{ForcingIsNext, ForcedNext, FillIsNext, BringingIsNext, BroughtNext};
 ghost use Rattle.run_units.specs.Touching.{MissIsWanted, NoMissIsReady, CallsWriteNothing, CallMissIsWanted, CallIsReady};
+ghost use Rattle.run_units.specs.Stepping.{ActIsNext, StepIsMade, RanIsMade};
 ghost use Rattle.run_units.specs.Settling.{SettlingIsNext, SettledNext};
 ghost use Rattle.run_units.specs.Serving.{At, ServingIsNext, ServedNext};
 
@@ -59,4 +61,23 @@ pub fn accesses_tell_pages()
     ensures calls { CallsWriteNothing }
     ensures calls_miss { CallMissIsWanted }
     ensures calls_hit { CallIsReady }
+{}
+
+/// What a process does, once it waits for no page, is the next unit of the run. A machine makes it: an entry of the process with
+/// the change of its step, once the pieces that the change asks for were found; and an instruction whose bytes were written and
+/// which was counted.
+pub fn steps_are_made()
+    ensures acts { ActIsNext }
+    ensures steps { StepIsMade }
+    ensures ran { RanIsMade }
+{}
+
+/// What a process does next follows from its step: its first entry, once its pieces find their places and no space has to settle;
+/// the entry that says so, where they find none, and behind that the step of who was refused; and behind bytes that went out the
+/// reply.
+pub fn steps_come()
+    ensures begins { StepBegins }
+    ensures refused { StepIsRefused }
+    ensures behind_refusal { RefusedStepComes }
+    ensures behind_output { ReplyComes }
 {}

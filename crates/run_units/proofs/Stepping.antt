@@ -1,0 +1,165 @@
+-- The steps of processes, as a machine makes them, are units of a run.
+use Rattle.std.proofs.Common.{◌≡◌, ℕ, ◌*◌, ◌/◌, ◌%◌, Bool, true, false, List, [], ◌∷◌, length, Option, Some, None, Result, Ok, Err, refl, sym, ap, ◌∙◌, subst}
+use Rattle.vm_facts.specs.Answers.{ByteWrite}
+use Rattle.vm_facts.specs.declared.entry.Entry.{Entry}
+use Rattle.vm_facts.specs.declared.entry.Entry.TheVariants as entries
+use Rattle.vm_facts.specs.declared.regs.Regs.{Regs}
+use Rattle.vm_facts.specs.declared.page.Page.{Page}
+use Rattle.vm_facts.specs.declared.page.Page.TheVariants as pages
+use Rattle.vm_facts.specs.declared.page.PageState.{PageState}
+use Rattle.vm_facts.specs.declared.page.PageState.TheVariants.{Unfilled, Valid, Invalid, Coming, Going, OnSwap}
+use Rattle.swap_book.specs.Holdings.{Holdings}
+use Rattle.swap_book.specs.Placing.{Wanted, place_all}
+use Rattle.flat_state.specs.declared.spot.Spot.{Spot}
+use Rattle.flat_state.specs.declared.spot.Spot.TheVariants as spots
+use Rattle.flat_state.specs.Space.{Space, address_in, spot_at}
+use Rattle.flat_state.specs.Flat.{Holding, Holds, Lends, Zombie, Process, FlatState, Inputs, process_of}
+use Rattle.flat_state.specs.Change.{is_borrower}
+use Rattle.flat_state.specs.declared.change.Change.{Change}
+use Rattle.page_model.specs.Placement.{Placement, image_of, slots_of, state_of}
+use Rattle.page_model.specs.Place.{facts_of}
+use Rattle.page_model.specs.Moves.{touch}
+use Rattle.kernel_model.specs.Kernel.{Kernel, write_step}
+use Rattle.kernel_model.specs.ChangeStep.{ran_by}
+use Rattle.kernel_model.specs.Asks.{asked}
+use Rattle.kernel_model.specs.Unit.{has_lender, passing_change}
+use Rattle.kernel_laws.proofs.Kept.Borrowed.{borrows_is}
+use Rattle.kernel_laws.proofs.Machine.Shapes.{Shaped, touch_shaped, sizes_kept, image_kept}
+use Rattle.machine_state.specs.UserMemory.{bytes_of, text_len, data_len, stack_len, spot_in, write_by_state, write_page, write_spot, write_in, writes_in}
+use Rattle.flat_model.specs.Step.{Step}
+use Rattle.flat_model.specs.Run.{step_at}
+use Rattle.flat_model.specs.Asked.{or_before, with_pieces, wanted_if, wanted_in, change_wanted}
+use Rattle.flat_model.specs.Touched.{page_tested}
+use Rattle.flat_laws.proofs.Asking.{change_same}
+use Rattle.run_model.specs.State.{State}
+use Rattle.run_laws.specs.Machine.{place_in, write_into, write_page as write_tested, write_byte, write_bytes, write_held, write_by, takes_step, written_step, taken_step, process_step, ran_step, unit_step, Completes}
+use Rattle.run_units.specs.Leads.{MadeAs}
+use Rattle.run_units.specs.Serving.{At}
+use Rattle.run_units.specs.Touching.{IsRunning}
+use Rattle.run_units.specs.Stepping.{with_holdings}
+use Rattle.run_units.proofs.Touching.{SameSpots}
+use Rattle.run_units.proofs.Instructing.{same_spots}
+
+-- A step with a change.
+
+none_held : (k : Kernel) (h : Holding) → write_held k h [] ≡ k
+none_held k (Holds x) = refl
+none_held k (Lends sid child) = refl
+none_held k (Zombie status) = refl
+
+none_written : (k : Kernel) (o : Option Process) → write_by k o [] ≡ k
+none_written k None = refl
+none_written k (Some p) = none_held k p.holding
+
+unwritten : (A : Inputs) (s : State) (k : Kernel) (pid : ℕ) (step : Step) → step_at A s.point pid ≡ step → step.writes ≡ [] → written_step A s k pid ≡ k
+unwritten A s k pid step e w =
+    ap (λ (x : Step). write_by k (process_of s.point.flat pid) x.writes) e ∙ ap (write_by k (process_of s.point.flat pid)) w ∙ none_written k (process_of s.point.flat pid)
+
+wanted_is : (A : Inputs) (s : State) (k : Kernel) (image : List ℕ) (pid : ℕ) (now : Bool) (p : Process) (x : Space) (change : Change) → At A s k image → IsRunning A s pid now p x
+    → wanted_if A.images s.point.flat change (process_of s.point.flat pid) ≡ asked (facts_of A.images) k pid change
+wanted_is A s k image pid now p x change at r =
+    let keeps = at.stands.keeps in
+    ap (wanted_if A.images s.point.flat change) r.here ∙ ap (wanted_in A.images s.point.flat change) r.holds
+    ∙ sym (change_same A.images k s.point.flat pid p x change at.fit keeps.stands.texts keeps.numbered at.run.numbers keeps.coupled.tables r.here r.holds)
+
+taken : (A : Inputs) (s : State) (k : Kernel) (image : List ℕ) (pid : ℕ) (now : Bool) (p : Process) (x : Space) (step : Step) (found : Holdings) → At A s k image → IsRunning A s pid now p x
+    → step_at A s.point pid ≡ step → step.writes ≡ [] → place_all A.swap_blocks k.holdings (asked (facts_of A.images) k pid step.change) ≡ Ok found
+    → taken_step A s k pid ≡ with_holdings k found
+taken A s k image pid now p x step found at r e w f =
+    ap (λ (l : Kernel). takes_step A l (wanted_if A.images s.point.flat (step_at A s.point pid).change (process_of s.point.flat pid))) (unwritten A s k pid step e w)
+    ∙ ap (λ (z : Step). takes_step A k (wanted_if A.images s.point.flat z.change (process_of s.point.flat pid))) e
+    ∙ ap (takes_step A k) (wanted_is A s k image pid now p x step.change at r)
+    ∙ ap (λ (o : Result Holdings ℕ). with_holdings k (or_before k.holdings o)) f
+
+made_is : (A : Inputs) (s : State) (k : Kernel) (image : List ℕ) (pid : ℕ) (u : Entry) → Completes pid u → unit_step A s k image [] u ≡ process_step A s k pid u
+made_is A s k image pid (entries.Grew q pages) c = ap (λ (n : ℕ). process_step A s k n (entries.Grew q pages)) c
+made_is A s k image pid (entries.Call q number carry r0 r1) c = ap (λ (n : ℕ). process_step A s k n (entries.Call q number carry r0 r1)) c
+made_is A s k image pid (entries.Sleeps q) c = ap (λ (n : ℕ). process_step A s k n (entries.Sleeps q)) c
+made_is A s k image pid (entries.Ended q status) c = ap (λ (n : ℕ). process_step A s k n (entries.Ended q status)) c
+made_is A s k image pid _ c = absurd c
+
+by_unit : (A : Inputs) (s : State) (k l : Kernel) (image : List ℕ) (pid : ℕ) (u : Entry) → Completes pid u → l ≡ unit_step A s k image [] u → MadeAs A s k image u l (Some image)
+by_unit A s k l image pid (entries.Grew q pages) c e = record { read = []; given = tt; made = e; told = refl }
+by_unit A s k l image pid (entries.Call q number carry r0 r1) c e = record { read = []; given = tt; made = e; told = refl }
+by_unit A s k l image pid (entries.Sleeps q) c e = record { read = []; given = tt; made = e; told = refl }
+by_unit A s k l image pid (entries.Ended q status) c e = record { read = []; given = tt; made = e; told = refl }
+by_unit A s k l image pid _ c e = absurd c
+
+pub step_made : (A : Inputs) (s : State) (k l : Kernel) (image : List ℕ) (pid : ℕ) (now : Bool) (p : Process) (x : Space) (u : Entry) (step : Step) (found : Holdings)
+    → At A s k image → IsRunning A s pid now p x → Completes pid u → step_at A s.point pid ≡ step → step.writes ≡ []
+    → place_all A.swap_blocks k.holdings (asked (facts_of A.images) k pid step.change) ≡ Ok found
+    → l ≡ passing_change (has_lender k.processes pid) (facts_of A.images) (with_holdings k found) pid step.regs u step.change
+    → MadeAs A s k image u l (Some image)
+step_made A s k l image pid now p x u step found at r c e w f m =
+    let facts = facts_of A.images in
+    let lends : is_borrower s.point.flat.processes pid ≡ has_lender k.processes pid = sym (borrows_is k s.point.flat pid at.stands.keeps.coupled.tables) in
+    let whole : process_step A s k pid u ≡ passing_change (has_lender k.processes pid) facts (with_holdings k found) pid step.regs u step.change =
+    ap (λ (z : Step). passing_change (is_borrower s.point.flat.processes pid) facts (taken_step A s k pid) pid z.regs u z.change) e
+    ∙ ap (λ (b : Bool). passing_change b facts (taken_step A s k pid) pid step.regs u step.change) lends
+    ∙ ap (λ (y : Kernel). passing_change (has_lender k.processes pid) facts y pid step.regs u step.change) (taken A s k image pid now p x step found at r e w f) in
+    by_unit A s k l image pid u c (m ∙ sym whole ∙ sym (made_is A s k image pid u c))
+
+-- An instruction.
+
+-- a written byte leaves how many pages there are
+spots_on : (k : Kernel) (x : Space) (q : Page) (f at byte : ℕ) → SameSpots k x → SameSpots (write_step k q f at byte) x
+spots_on k x q f at byte e =
+    let shape : Shaped k.place (touch k.place q) = touch_shaped k.place q in
+    let size : (w : Page) → bytes_of (touch k.place q) w ≡ bytes_of k.place w = λ w. ap (λ (n : ℕ). 1024 * n) (sizes_kept k.place (touch k.place q) shape w) in
+    let image : image_of (touch k.place q) x.sid ≡ image_of k.place x.sid = image_kept k.place (touch k.place q) shape x.sid in
+    record {
+      image = image ∙ e.image;
+      spots = λ a.
+          ap (λ (n : ℕ). spot_at (bytes_of (touch k.place q) (pages.Text n 0)) (data_len (touch k.place q) x.sid) (stack_len (touch k.place q) x.sid) a) image
+          ∙ ap (λ (n : ℕ). spot_at n (data_len (touch k.place q) x.sid) (stack_len (touch k.place q) x.sid) a) (size (pages.Text (image_of k.place x.sid) 0))
+          ∙ ap (λ (n : ℕ). spot_at (text_len k.place x.sid) n (stack_len (touch k.place q) x.sid) a) (size (pages.Data x.sid 0))
+          ∙ ap (λ (n : ℕ). spot_at (text_len k.place x.sid) (data_len k.place x.sid) n a) (size (pages.Stack x.sid 0)) ∙ e.spots a;
+    }
+
+page_spots : (k : Kernel) (x : Space) (q : Page) (s : PageState) (at byte : ℕ) → SameSpots k x → SameSpots (write_by_state k q s at byte) x
+page_spots k x q (Valid f) at byte e = spots_on k x q f at byte e
+page_spots k x q Unfilled at byte e = e
+page_spots k x q (Invalid f) at byte e = e
+page_spots k x q (Coming f) at byte e = e
+page_spots k x q (Going f) at byte e = e
+page_spots k x q OnSwap at byte e = e
+
+written_spots : (k : Kernel) (x : Space) (spot : Spot) (byte : ℕ) → SameSpots k x → SameSpots (write_spot k x.sid spot byte) x
+written_spots k x (spots.Text i) byte e = e
+written_spots k x (spots.Data i) byte e = page_spots k x (pages.Data x.sid (i / 1024)) (state_of k.place (pages.Data x.sid (i / 1024))) (i % 1024) byte e
+written_spots k x (spots.Stack i) byte e = page_spots k x (pages.Stack x.sid (i / 1024)) (state_of k.place (pages.Stack x.sid (i / 1024))) (i % 1024) byte e
+written_spots k x spots.Below byte e = e
+written_spots k x spots.Outside byte e = e
+
+same_state : (k : Kernel) (q : Page) (s : PageState) (at byte : ℕ) → write_by_state k q s at byte ≡ write_into k q s at byte
+same_state k q (Valid f) at byte = refl
+same_state k q Unfilled at byte = refl
+same_state k q (Invalid f) at byte = refl
+same_state k q (Coming f) at byte = refl
+same_state k q (Going f) at byte = refl
+same_state k q OnSwap at byte = refl
+
+same_spot : (k : Kernel) (x : Space) (spot : Spot) (byte : ℕ) → write_spot k x.sid spot byte ≡ write_tested k (page_tested x spot) (place_in spot) byte
+same_spot k x (spots.Text i) byte = refl
+same_spot k x (spots.Data i) byte = same_state k (pages.Data x.sid (i / 1024)) (state_of k.place (pages.Data x.sid (i / 1024))) (i % 1024) byte
+same_spot k x (spots.Stack i) byte = same_state k (pages.Stack x.sid (i / 1024)) (state_of k.place (pages.Stack x.sid (i / 1024))) (i % 1024) byte
+same_spot k x spots.Below byte = refl
+same_spot k x spots.Outside byte = refl
+
+same_write : (k : Kernel) (x : Space) (w : ByteWrite) → SameSpots k x → write_in k x.sid w ≡ write_byte k x w
+same_write k x w e = ap (λ (spot : Spot). write_spot k x.sid spot w.byte) (e.spots w.address) ∙ same_spot k x (address_in x w.address) w.byte
+
+pub same_writes : (ws : List ByteWrite) (k : Kernel) (x : Space) → SameSpots k x → writes_in k x.sid ws ≡ write_bytes k x ws
+same_writes [] k x e = refl
+same_writes (w ∷ ws) k x e =
+    same_writes ws (write_in k x.sid w) x (written_spots k x (spot_in k.place x.sid w.address) w.byte e) ∙ ap (λ (y : Kernel). write_bytes y x ws) (same_write k x w e)
+
+pub ran_made : (A : Inputs) (s : State) (k l : Kernel) (image : List ℕ) (pid : ℕ) (now : Bool) (p : Process) (x : Space) (step : Step) → At A s k image → IsRunning A s pid now p x
+    → step_at A s.point pid ≡ step → l ≡ ran_by (writes_in k x.sid step.writes) pid step.regs (entries.Ran pid 1) → MadeAs A s k image (entries.Ran pid 1) l (Some image)
+ran_made A s k l image pid now p x step at r e m =
+    let written : written_step A s k pid ≡ writes_in k x.sid step.writes =
+    ap (λ (z : Step). write_by k (process_of s.point.flat pid) z.writes) e ∙ ap (λ (o : Option Process). write_by k o step.writes) r.here
+    ∙ ap (λ (h : Holding). write_held k h step.writes) r.holds ∙ sym (same_writes step.writes k x (same_spots A s k image pid p x at r.here r.holds)) in
+    let whole : ran_step A s k pid 1 ≡ ran_by (writes_in k x.sid step.writes) pid step.regs (entries.Ran pid 1) =
+    ap (λ (z : Step). ran_by (written_step A s k pid) pid z.regs (entries.Ran pid 1)) e ∙ ap (λ (y : Kernel). ran_by y pid step.regs (entries.Ran pid 1)) written in
+    record { read = []; given = tt; made = m ∙ sym whole; told = refl }

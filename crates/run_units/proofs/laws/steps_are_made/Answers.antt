@@ -1,0 +1,12 @@
+use Rattle.run_laws.proofs.Flows.{runs_next}
+use Rattle.run_units.proofs.Stepping.{step_made, ran_made}
+use Rattle.run_units.proofs.laws.steps_are_made.Goals as goal
+
+pub returns-clause-acts : goal.returns-clause-acts
+returns-clause-acts c = runs_next
+
+pub returns-clause-steps : goal.returns-clause-steps
+returns-clause-steps c = step_made
+
+pub returns-clause-ran : goal.returns-clause-ran
+returns-clause-ran c = ran_made

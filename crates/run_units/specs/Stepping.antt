@@ -1,0 +1,54 @@
+-- The steps of processes, as a machine makes them.
+use Rattle.std.specs.Prelude.{◌≡◌, ℕ, Bool, List, [], ◌∷◌, Option, Some, None, Ok}
+use Rattle.vm_facts.specs.declared.entry.Entry.{Entry}
+use Rattle.vm_facts.specs.declared.entry.Entry.TheVariants as entries
+use Rattle.vm_facts.specs.declared.regs.Regs.{Regs}
+use Rattle.swap_book.specs.Holdings.{Holdings}
+use Rattle.swap_book.specs.Placing.{place_all}
+use Rattle.flat_state.specs.Space.{Space}
+use Rattle.flat_state.specs.Flat.{Process, Inputs}
+use Rattle.flat_state.specs.declared.change.Change.{Change}
+use Rattle.page_model.specs.Place.{facts_of}
+use Rattle.kernel_model.specs.Kernel.{Kernel}
+use Rattle.kernel_model.specs.ChangeStep.{ran_by}
+use Rattle.kernel_model.specs.Asks.{asked}
+use Rattle.kernel_model.specs.Unit.{has_lender, passing_change}
+use Rattle.machine_state.specs.UserMemory.{writes_in}
+use Rattle.flat_model.specs.Step.{Step}
+use Rattle.flat_model.specs.Run.{step_at}
+use Rattle.run_model.specs.State.{State}
+use Rattle.run_model.specs.Wanted.{wanted}
+use Rattle.run_model.specs.Act.{act}
+use Rattle.run_model.specs.Next.{next_unit}
+use Rattle.run_model.specs.Kinds.{Runs}
+use Rattle.run_laws.specs.Machine.{Completes}
+use Rattle.run_units.specs.Leads.{MadeAs}
+use Rattle.run_units.specs.Serving.{At}
+use Rattle.run_units.specs.Touching.{IsRunning}
+
+-- what a process does next is the next unit of the run, once it waits for no page
+abbrev pub ActIsNext : Type 0
+ActIsNext =
+    (A : Inputs) (s : State) (pid : ℕ) (now : Bool) (u : Entry) → Runs A s pid now → wanted A s ≡ None → act A s pid ≡ Some u → next_unit A s ≡ Some u
+
+-- the machine with the pieces that were found
+abbrev pub with_holdings : Kernel → Holdings → Kernel
+with_holdings k found = record k { holdings = found }
+
+-- An entry of a process with the change of its step, once the pieces that it takes were found, and with the space that passes, is
+-- the unit of the run; the instruction wrote nothing.
+abbrev pub StepIsMade : Type 0
+StepIsMade =
+    (A : Inputs) (s : State) (k l : Kernel) (image : List ℕ) (pid : ℕ) (now : Bool) (p : Process) (x : Space) (u : Entry) (step : Step) (found : Holdings)
+    → At A s k image → IsRunning A s pid now p x → Completes pid u → step_at A s.point pid ≡ step → step.writes ≡ []
+    → place_all A.swap_blocks k.holdings (asked (facts_of A.images) k pid step.change) ≡ Ok found
+    → l ≡ passing_change (has_lender k.processes pid) (facts_of A.images) (with_holdings k found) pid step.regs u step.change
+    → MadeAs A s k image u l (Some image)
+
+-- An instruction whose bytes were written, and which was counted, is the unit of the run.
+abbrev pub RanIsMade : Type 0
+RanIsMade =
+    (A : Inputs) (s : State) (k l : Kernel) (image : List ℕ) (pid : ℕ) (now : Bool) (p : Process) (x : Space) (step : Step)
+    → At A s k image → IsRunning A s pid now p x → step_at A s.point pid ≡ step
+    → l ≡ ran_by (writes_in k x.sid step.writes) pid step.regs (entries.Ran pid 1)
+    → MadeAs A s k image (entries.Ran pid 1) l (Some image)
