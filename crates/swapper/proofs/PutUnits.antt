@@ -45,9 +45,9 @@ use Rattle.machine_state.specs.Settled.{IsSameBeside}
 use Rattle.machine_state.specs.Calls.{life_in, AreAlike, CanPush, CanGoOut}
 use Rattle.machine_state.specs.Conditions.{HasStopped}
 use Rattle.machine_state.specs.Swapping.{WritesU, SwapBehind}
-use Rattle.paging_units.specs.Made.{MakesUnit}
+use Rattle.paging_units.specs.Made.{Made, MakesUnit, Ground, ground}
 use Rattle.paging_units.specs.Stops.{StopsAt, SpoilsBy}
-use Rattle.paging_units.proofs.Units.{unit_place, unit_journal, unit_same, unit_whole}
+use Rattle.paging_units.proofs.Units.{unit_place, unit_journal, unit_same, unit_whole, same_ground}
 use Rattle.paging_units.proofs.Keeping.{unit_shaped}
 use Rattle.paging_units.proofs.Stopping.{plain_longer}
 use Rattle.swapper.specs.declared.putting_out.Step.{Step}
@@ -161,7 +161,11 @@ same_there None w e n = absurd (n refl)
 same_there (Some x) None e n = absurd cc
 same_there (Some x) (Some y) e n = λ k. absurd cc
 
-module _ (old next : Standing) (pid sid : ℕ) (step : Step) (i h : Option (List ℕ)) (s : IsStep old.kernel.place sid step) (m : MakesUnit [] (put_out_unit old.kernel.place pid sid) old next i h) where
+module _ (old next : Standing) (pid sid : ℕ) (step : Step) (holds : Option (List NamedFile)) (i h : Option (List ℕ)) (s : IsStep old.kernel.place sid step)
+    (m : MakesUnit (ground old holds []) (put_out_unit old.kernel.place pid sid) old next i h) where
+  abbrev g : Ground
+  g = ground old holds []
+
   abbrev e : Entry
   e = put_out_unit old.kernel.place pid sid
 
@@ -169,25 +173,25 @@ module _ (old next : Standing) (pid sid : ℕ) (step : Step) (i h : Option (List
   longer = one_more old.kernel.journal e (step_plain old.kernel.place pid sid step s)
 
   place_is : next.kernel.place ≡ place_entry [] (length old.kernel.journal + 1) old.kernel.place e
-  place_is = unit_place [] e old.kernel next.kernel m.made ∙ ap (λ (at : ℕ). place_entry [] at old.kernel.place e) longer
+  place_is = unit_place g e old.kernel next.kernel i m.made ∙ ap (λ (at : ℕ). place_entry [] at old.kernel.place e) longer
 
   journal_is : length next.kernel.journal ≡ length old.kernel.journal + 1
-  journal_is = ap (λ (js : List Entry). length js) (unit_journal [] e old.kernel next.kernel m.made) ∙ longer
+  journal_is = ap (λ (js : List Entry). length js) (unit_journal g e old.kernel next.kernel i m.made) ∙ longer
 
   rest : SameRest old.kernel.place next.kernel.place
   rest = subst (SameRest old.kernel.place) (sym place_is) (rest_kept old.kernel.place pid sid (length old.kernel.journal + 1) step s)
 
-  pub puts_on : (holds later : Option (List NamedFile)) (blocks more : ℕ) → later ≡ holds → more ≡ blocks → Puts old holds blocks pid sid → Puts next later more pid sid
-  puts_on holds later blocks more f g a = record {
-    running = (unit_same [] e old.kernel next.kernel m.made).stopped ∙ a.running;
-    whole = unit_whole [] e old next i h m a.whole;
+  pub puts_on : (later : Option (List NamedFile)) (blocks more : ℕ) → later ≡ holds → more ≡ blocks → Puts old holds blocks pid sid → Puts next later more pid sid
+  puts_on later blocks more f b a = record {
+    running = (unit_same g e old.kernel next.kernel i m.made).stopped ∙ a.running;
+    whole = unit_whole g e old next i h m a.whole;
     area = let x = a.area in let size = ap (λ (x : Params). x.swap_blocks) m.beside.params in omega arith;
     files = subst (λ (ns : List ImageNamed). AreFiles ns later) (sym m.beside.images) (subst (λ (x : Option (List NamedFile)). AreFiles old.images x) (sym f) a.files);
     clear = rest.due ∙ a.clear;
     holds_there = record {
-      holds = ap (λ (ps : List Proc). life_of_proc (numbered (λ (p : Proc). p.pid) pid ps)) (unit_same [] e old.kernel next.kernel m.made).processes ∙ a.holds_there.holds;
+      holds = ap (λ (ps : List Proc). life_of_proc (numbered (λ (p : Proc). p.pid) pid ps)) (unit_same g e old.kernel next.kernel i m.made).processes ∙ a.holds_there.holds;
       there = same_there (numbered space_number sid old.kernel.place.spaces) (numbered space_number sid next.kernel.place.spaces)
-          ((unit_shaped [] e old.kernel next.kernel m.made).spaces sid) a.holds_there.there;
+          ((unit_shaped g e old.kernel next.kernel i m.made).spaces sid) a.holds_there.there;
     };
     resident = same_out old.kernel.place next.kernel.place pid rest.residents ∙ a.resident;
   }
@@ -204,12 +208,16 @@ module _ (old next : Standing) (pid sid : ℕ) (step : Step) (i h : Option (List
     subst (λ (x : Placement). PutsOut us (length old.kernel.journal + 1) x pid sid q) place_is (subst (λ (at : ℕ). PutsOut us at next.kernel.place pid sid q) journal_is p),
   )
 
-  pub put_first : (new : Standing) (j : Option (List ℕ)) → is_out old.kernel.place pid ≡ false → PutOut pid sid next new h j → PutOut pid sid old new i j
-  put_first new j n f = record {
+  same_files : (later : Option (List NamedFile)) (us : List Entry) (k : Kernel) (j : Option (List ℕ)) → later ≡ holds → Made (ground next later []) us next.kernel h k j → Made g us next.kernel h k j
+  same_files later us k j q made = subst (λ (x : Ground). Made x us next.kernel h k j) (same_ground old next holds later [] q m.beside) made
+
+  pub put_first : (later : Option (List NamedFile)) (new : Standing) (j : Option (List ℕ)) → later ≡ holds → is_out old.kernel.place pid ≡ false
+      → PutOut pid sid next new later h j → PutOut pid sid old new holds i j
+  put_first later new j q n f = record {
     units = e ∷ f.units;
     at = f.at;
     image = f.image;
-    made = record { next = next.kernel; image = h; made = m.made; told = m.told; rest = f.made };
+    made = record { next = next.kernel; image = h; made = m.made; told = m.told; rest = same_files later f.units f.at f.image q f.made };
     step = f.step;
     bare = f.bare;
     wrote = f.wrote;
@@ -218,12 +226,13 @@ module _ (old next : Standing) (pid sid : ℕ) (step : Step) (i h : Option (List
     beside = beside_both old next new m.beside f.beside;
   }
 
-  pub stops_first : (stop : Stop) (new : Standing) (j : Option (List ℕ)) → is_out old.kernel.place pid ≡ false → StopsPutting pid sid next stop new h j → StopsPutting pid sid old stop new i j
-  stops_first stop new j n f = record {
+  pub stops_first : (later : Option (List NamedFile)) (stop : Stop) (new : Standing) (j : Option (List ℕ)) → later ≡ holds → is_out old.kernel.place pid ≡ false
+      → StopsPutting pid sid next stop new later h j → StopsPutting pid sid old stop new holds i j
+  stops_first later stop new j q n f = record {
     units = e ∷ f.units;
     at = f.at;
     image = f.image;
-    made = record { next = next.kernel; image = h; made = m.made; told = m.told; rest = f.made };
+    made = record { next = next.kernel; image = h; made = m.made; told = m.told; rest = same_files later f.units f.at f.image q f.made };
     puts = puts_first f.units f.at.place n f.puts;
     still = f.still;
     stops = f.stops;
@@ -231,9 +240,9 @@ module _ (old next : Standing) (pid sid : ℕ) (step : Step) (i h : Option (List
     images = f.images ∙ m.beside.images;
   }
 
-pub stops_here : (pid sid : ℕ) (old : Standing) (stop : Stop) (new : Standing) (i j : Option (List ℕ)) → is_out old.kernel.place pid ≡ false → new.params ≡ old.params → new.images ≡ old.images
-    → StopsAt (put_out_unit old.kernel.place pid sid) old.kernel i stop new j → StopsPutting pid sid old stop new i j
-stops_here pid sid old stop new i j n a b s = record { units = []; at = old.kernel; image = i; made = (refl, refl); puts = refl; still = n; stops = s; params = a; images = b }
+pub stops_here : (pid sid : ℕ) (old : Standing) (stop : Stop) (new : Standing) (holds : Option (List NamedFile)) (i j : Option (List ℕ)) → is_out old.kernel.place pid ≡ false → new.params ≡ old.params → new.images ≡ old.images
+    → StopsAt (put_out_unit old.kernel.place pid sid) old.kernel i stop new j → StopsPutting pid sid old stop new holds i j
+stops_here pid sid old stop new holds i j n a b s = record { units = []; at = old.kernel; image = i; made = (refl, refl); puts = refl; still = n; stops = s; params = a; images = b }
 
 -- The last unit.
 
@@ -254,9 +263,9 @@ holder_resides k pid sid r e = r pid (lives_holding (numbered (λ (p : Proc). p.
 pub can_go_out : (k : Kernel) (pid sid : ℕ) → k.place.due ≡ [] → HoldsThere k pid sid → is_out k.place pid ≡ false → IsNext k.place sid None → CanGoOut k pid
 can_go_out k pid sid d h r n = record { clear = d; sid = sid; holds = h.holds; there = h.there; resident = r; settled = n.0; empty = n.1 }
 
-pub put_last : (pid sid : ℕ) (old new : Standing) (i j : Option (List ℕ)) → IsResident old.kernel.place pid → is_out old.kernel.place pid ≡ false → IsNext old.kernel.place sid None
-    → new.kernel ≡ out_step old.kernel pid → IsSameBeside old new → WritesU old.kernel pid i j → PutOut pid sid old new i j
-put_last pid sid old new i j r n l e b w =
+pub put_last : (pid sid : ℕ) (old new : Standing) (holds : Option (List NamedFile)) (i j : Option (List ℕ)) → IsResident old.kernel.place pid → is_out old.kernel.place pid ≡ false → IsNext old.kernel.place sid None
+    → new.kernel ≡ out_step old.kernel pid → IsSameBeside old new → WritesU old.kernel pid i j → PutOut pid sid old new holds i j
+put_last pid sid old new holds i j r n l e b w =
     let p = old.kernel.place in
     let at = length old.kernel.journal + 1 in
     let place_is : new.kernel.place ≡ moved p pid true at =
@@ -283,13 +292,13 @@ ok_is {A} r limit journal pid s t e f = (
   (λ h. err_same {A = A} s t (sym e ∙ f.1 h.0)),
 )
 
-pub out_stops : (pid sid : ℕ) (old new : Standing) (i j : Option (List ℕ)) (r : Result (Unit {0}) Stop) → is_out old.kernel.place pid ≡ false → IsNext old.kernel.place sid None
+pub out_stops : (pid sid : ℕ) (old new : Standing) (holds : Option (List NamedFile)) (i j : Option (List ℕ)) (r : Result (Unit {0}) Stop) → is_out old.kernel.place pid ≡ false → IsNext old.kernel.place sid None
     → OnErr r (HasStopped old new) → OnErr r ((r ≡ Err stops.JournalFull) ⊎ ((r ≡ Err stops.NoMemory) ⊎ (r ≡ Err stops.SwapWriteFault)))
     → ((r ≡ Err stops.JournalFull) ↔ (old.params.journal ≤ length old.kernel.journal)) → OnErr r (SwapBehind r old.kernel pid i j)
-    → IfErr r (λ stop. StopsPutting pid sid old stop new i j)
-out_stops pid sid old new i j (Ok x) n l s c f b = tt
-out_stops pid sid old new i j (Err stop) n l s c f b =
-    stops_here pid sid old stop new i j n s.params s.images (subst (λ (e : Entry). StopsAt e old.kernel i stop new j) (sym (last_unit old.kernel.place pid sid l)) (record {
+    → IfErr r (λ stop. StopsPutting pid sid old stop new holds i j)
+out_stops pid sid old new holds i j (Ok x) n l s c f b = tt
+out_stops pid sid old new holds i j (Err stop) n l s c f b =
+    stops_here pid sid old stop new holds i j n s.params s.images (subst (λ (e : Entry). StopsAt e old.kernel i stop new j) (sym (last_unit old.kernel.place pid sid l)) (record {
       stopped = s.stopped;
       journal = s.journal;
       full = subst (λ (p : Params). (stop ≡ stops.JournalFull) ↔ ((p.journal ≤ length old.kernel.journal) × (length old.kernel.journal < length (append old.kernel.journal (entries.SwapOut pid))))) (sym s.params)

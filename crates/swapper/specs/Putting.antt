@@ -5,6 +5,7 @@ use Rattle.vm_facts.specs.declared.page.Page.TheVariants.{Data, Stack, Text}
 use Rattle.vm_facts.specs.declared.entry.Entry.{Entry}
 use Rattle.vm_facts.specs.declared.entry.Entry.TheVariants as entries
 use Rattle.vm_facts.specs.declared.stop.Stop.{Stop}
+use Rattle.io_edge.specs.FileHolding.{NamedFile}
 use Rattle.core_map.specs.Frames.{Frames}
 use Rattle.space_map.specs.Space.{Places}
 use Rattle.page_model.specs.Placement.{Placement, is_dirty}
@@ -22,7 +23,7 @@ use Rattle.machine_state.specs.Machine.{Standing}
 use Rattle.machine_state.specs.Settled.{IsSameBeside}
 use Rattle.machine_state.specs.Calls.{life_in}
 use Rattle.machine_state.specs.Swapping.{WritesU}
-use Rattle.paging_units.specs.Made.{Made}
+use Rattle.paging_units.specs.Made.{Made, ground}
 use Rattle.paging_units.specs.Stops.{StopsAt}
 use Rattle.swapper.specs.declared.putting_out.Step.{Step}
 use Rattle.swapper.specs.declared.putting_out.Step.TheVariants as steps
@@ -59,12 +60,12 @@ pub record HoldsThere (k : Kernel) (pid sid : ℕ) : Type 0 where
   pub there : HasSpace k.place sid
 
 -- The call makes these units, and then the process goes out: its u page is written, and its record keeps no registers. Each
--- is the unit that puts it out. The swap images, where they are told, are those before and behind the call.
-pub record PutOut (pid sid : ℕ) (old new : Standing) (i j : Option (List ℕ)) : Type 0 where
+-- is the unit that puts it out. The files and the swap images, where they are told, are those before and behind the call.
+pub record PutOut (pid sid : ℕ) (old new : Standing) (holds : Option (List NamedFile)) (i j : Option (List ℕ)) : Type 0 where
   pub units : List Entry
   pub at : Kernel
   pub image : Option (List ℕ)
-  pub made : Made [] units old.kernel i at image
+  pub made : Made (ground old holds []) units old.kernel i at image
   pub step : new.kernel ≡ out_step at pid
   pub bare : (p : Proc) → proc_of at pid ≡ Some p → proc_of new.kernel pid ≡ Some (record p { regs = cleared })
   pub wrote : WritesU at pid image j
@@ -74,11 +75,11 @@ pub record PutOut (pid sid : ℕ) (old new : Standing) (i j : Option (List ℕ))
 
 -- The call stops: these units put the process out and lead to a kernel in which it is in; there it stops at the unit that
 -- comes next.
-pub record StopsPutting (pid sid : ℕ) (old : Standing) (stop : Stop) (new : Standing) (i j : Option (List ℕ)) : Type 0 where
+pub record StopsPutting (pid sid : ℕ) (old : Standing) (stop : Stop) (new : Standing) (holds : Option (List NamedFile)) (i j : Option (List ℕ)) : Type 0 where
   pub units : List Entry
   pub at : Kernel
   pub image : Option (List ℕ)
-  pub made : Made [] units old.kernel i at image
+  pub made : Made (ground old holds []) units old.kernel i at image
   pub puts : PutsOut units (length old.kernel.journal) old.kernel.place pid sid at.place
   pub still : is_out at.place pid ≡ false
   pub stops : StopsAt (put_out_unit at.place pid sid) at image stop new j

@@ -28,10 +28,10 @@ MayTurn k (turns.In pid) = is_out k.place pid ≡ true
 MayTurn k (turns.Out pid) = ((sid : ℕ) × HoldsThere k pid sid) × (has_lender k.processes pid ≡ false) × (is_out k.place pid ≡ false)
 
 -- the process comes in, or goes out by its units, or nothing changes
-abbrev pub Turns : Turned → Standing → Standing → Option (List ℕ) → Option (List ℕ) → Type 0
-Turns turns.Nothing old new i j = (new ≡ old) × (j ≡ i)
-Turns (turns.In pid) old new i j = IsIn old.kernel new.kernel pid i × IsSameBeside old new × (j ≡ i)
-Turns (turns.Out pid) old new i j = (sid : ℕ) × HoldsThere old.kernel pid sid × PutOut pid sid old new i j
+abbrev pub Turns : Turned → Standing → Standing → Option (List NamedFile) → Option (List ℕ) → Option (List ℕ) → Type 0
+Turns turns.Nothing old new holds i j = (new ≡ old) × (j ≡ i)
+Turns (turns.In pid) old new holds i j = IsIn old.kernel new.kernel pid i × IsSameBeside old new × (j ≡ i)
+Turns (turns.Out pid) old new holds i j = (sid : ℕ) × HoldsThere old.kernel pid sid × PutOut pid sid old new holds i j
 
 -- The machine still stands for the flat states that it stood for; where a process comes in, for those in which its
 -- registers are longwords.
@@ -41,7 +41,7 @@ KeepsTurn (turns.In pid) old new holds i j = KeepsIn old.kernel new.kernel pid i
 KeepsTurn (turns.Out pid) old new holds i j = KeepsThrough old new holds i j
 
 -- the turn stops at a unit of what it was to do
-abbrev pub StopsTurning : Turned → Standing → Stop → Standing → Option (List ℕ) → Option (List ℕ) → Type 0
-StopsTurning turns.Nothing old stop new i j = ⊥
-StopsTurning (turns.In pid) old stop new i j = StopsAt (entries.SwapIn pid) old.kernel i stop new j
-StopsTurning (turns.Out pid) old stop new i j = (sid : ℕ) × HoldsThere old.kernel pid sid × StopsPutting pid sid old stop new i j
+abbrev pub StopsTurning : Turned → Standing → Stop → Standing → Option (List NamedFile) → Option (List ℕ) → Option (List ℕ) → Type 0
+StopsTurning turns.Nothing old stop new holds i j = ⊥
+StopsTurning (turns.In pid) old stop new holds i j = StopsAt (entries.SwapIn pid) old.kernel i stop new j
+StopsTurning (turns.Out pid) old stop new holds i j = (sid : ℕ) × HoldsThere old.kernel pid sid × StopsPutting pid sid old stop new holds i j

@@ -82,9 +82,9 @@ fn carry_out<F: Files, D: SwapDev>(
     requires files { AreFiles m.old.images (F.holds files.old) }
     requires clear { m.old.kernel.place.due ≡ [] }
     requires may { MayTurn m.old.kernel chosen }
-    ensures did { OnOk result (Turns chosen m.old m.new (D.image swap.old) (D.image swap.new)) }
+    ensures did { OnOk result (Turns chosen m.old m.new (F.holds files.old) (D.image swap.old) (D.image swap.new)) }
     ensures keeps { OnOk result (KeepsTurn chosen m.old m.new (F.holds files.old) (D.image swap.old) (D.image swap.new)) }
-    ensures stopped { IfErr result (λ stop. StopsTurning chosen m.old stop m.new (D.image swap.old) (D.image swap.new)) }
+    ensures stopped { IfErr result (λ stop. StopsTurning chosen m.old stop m.new (F.holds files.old) (D.image swap.old) (D.image swap.new)) }
     ensures files_lead { F.leads files.old files.new }
     ensures swap_leads { D.leads swap.old swap.new }
     ensures holds { F.holds files.new ≡ F.holds files.old }
@@ -116,10 +116,10 @@ pub fn turn<F: Files, D: SwapDev>(
     requires clear { m.old.kernel.place.due ≡ [] }
     requires spaces { HoldersHaveSpaces m.old.kernel }
     ensures chosen { IfOk result (λ t. choice_of t ≡ swap_choice m.old.kernel.place (runners_of m.old.kernel)) }
-    ensures did { IfOk result (λ t. Turns t m.old m.new (D.image swap.old) (D.image swap.new)) }
+    ensures did { IfOk result (λ t. Turns t m.old m.new (F.holds files.old) (D.image swap.old) (D.image swap.new)) }
     ensures keeps { IfOk result (λ t. KeepsTurn t m.old m.new (F.holds files.old) (D.image swap.old) (D.image swap.new)) }
     ensures stopped { IfErr result (λ stop. (t : Chosen) × (choice_of t ≡ swap_choice m.old.kernel.place (runners_of m.old.kernel))
-        × StopsTurning t m.old stop m.new (D.image swap.old) (D.image swap.new)) }
+        × StopsTurning t m.old stop m.new (F.holds files.old) (D.image swap.old) (D.image swap.new)) }
     ensures files_lead { F.leads files.old files.new }
     ensures swap_leads { D.leads swap.old swap.new }
     ensures holds { F.holds files.new ≡ F.holds files.old }

@@ -1,6 +1,7 @@
 //! How a process goes out and comes in.
 ghost use Rattle.std.specs.Prelude.{◌≡◌, ◌⊎◌, ℕ, ◌<◌, ◌≤◌, ◌&&◌, true, false, List, [], length, Option, OnOk, OnErr, IfErr};
 ghost use Rattle.vm_facts.specs.declared.entry.Entry.TheVariants as entries;
+ghost use Rattle.io_edge.specs.FileHolding.{NamedFile};
 ghost use Rattle.page_model.specs.Placement.{is_dirty};
 ghost use Rattle.page_model.specs.Runs.{run_put, is_seated};
 ghost use Rattle.page_model.specs.Serve.{is_full};
@@ -14,7 +15,7 @@ ghost use Rattle.machine_state.specs.Conditions.{KeepsFlat};
 ghost use Rattle.machine_state.specs.Done.{KeepsThrough, CountsPages, CountsReads, CountsWrites};
 ghost use Rattle.machine_state.specs.Settled.{IsSameBeside};
 ghost use Rattle.machine_state.specs.Swapping.{IsIn, KeepsIn, KeepsOut};
-ghost use Rattle.paging_units.specs.Made.{MakesUnit};
+ghost use Rattle.paging_units.specs.Made.{ground, MakesUnit};
 ghost use Rattle.paging_units.specs.Stops.{StopsAt};
 ghost use Rattle.swapper.specs.Putting.{HasView, IsOfSegment, IsStepFor, IsStep, IsNext, HoldsThere, PutOut, StopsPutting};
 
@@ -108,7 +109,7 @@ fn complete<F: Files, D: SwapDev>(m: &mut Machine, files: &mut F, swap: &mut D) 
     requires area { m.old.params.swap_blocks ≤ D.blocks swap.old }
     requires files { AreFiles m.old.images (F.holds files.old) }
     requires some { 0 < length m.old.kernel.place.transfers }
-    ensures made { OnOk result (MakesUnit [] entries.Done m.old m.new (D.image swap.old) (D.image swap.new)) }
+    ensures made { OnOk result (MakesUnit (ground m.old (F.holds files.old) []) entries.Done m.old m.new (D.image swap.old) (D.image swap.new)) }
     ensures keeps { OnOk result (KeepsThrough m.old m.new (F.holds files.old) (D.image swap.old) (D.image swap.new)) }
     ensures stopped { IfErr result (λ stop. StopsAt entries.Done m.old.kernel (D.image swap.old) stop m.new (D.image swap.new)) }
     ensures params { m.new.params ≡ m.old.params }
@@ -135,7 +136,8 @@ fn put_page(m: &mut Machine, sid: u32, page: Page) -> Result<(), Stop>
     requires own { IsOfSegment sid page }
     requires seated { is_seated m.old.kernel.place page ≡ true }
     requires room { (is_dirty m.old.kernel.place page && is_full m.old.kernel.place) ≡ false }
-    ensures made { (i : Option (List ℕ)) → OnOk result (MakesUnit [] (entries.Put page (run_put m.old.kernel.place page).n) m.old m.new i i) }
+    ensures made { (holds : Option (List NamedFile)) (i : Option (List ℕ))
+        → OnOk result (MakesUnit (ground m.old holds []) (entries.Put page (run_put m.old.kernel.place page).n) m.old m.new i i) }
     ensures keeps { OnOk result (KeepsFlat m.old.kernel m.new.kernel) }
     ensures stopped { (i : Option (List ℕ)) → IfErr result (λ stop. StopsAt (entries.Put page (run_put m.old.kernel.place page).n) m.old.kernel i stop m.new i) }
     ensures params { m.new.params ≡ m.old.params }
@@ -162,7 +164,8 @@ fn put_once<F: Files, D: SwapDev>(
     requires clear { m.old.kernel.place.due ≡ [] }
     requires there { HasSpace m.old.kernel.place sid }
     requires step { IsStep m.old.kernel.place sid step }
-    ensures made { OnOk result (MakesUnit [] (put_out_unit m.old.kernel.place _pid sid) m.old m.new (D.image swap.old) (D.image swap.new)) }
+    ensures made { OnOk result (MakesUnit (ground m.old (F.holds files.old) []) (put_out_unit m.old.kernel.place _pid sid) m.old m.new
+        (D.image swap.old) (D.image swap.new)) }
     ensures keeps { OnOk result (KeepsThrough m.old m.new (F.holds files.old) (D.image swap.old) (D.image swap.new)) }
     ensures stopped { IfErr result (λ stop. StopsAt (put_out_unit m.old.kernel.place _pid sid) m.old.kernel (D.image swap.old) stop m.new (D.image swap.new)) }
     ensures params { m.new.params ≡ m.old.params }
@@ -191,9 +194,10 @@ fn leave<D: SwapDev>(m: &mut Machine, swap: &mut D, pid: u32, sid: u32) -> Resul
     requires holds { HoldsThere m.old.kernel pid sid }
     requires resident { is_out m.old.kernel.place pid ≡ false }
     requires last { IsNext m.old.kernel.place sid None }
-    ensures put { OnOk result (PutOut pid sid m.old m.new (D.image swap.old) (D.image swap.new)) }
+    ensures put { (holds : Option (List NamedFile)) → OnOk result (PutOut pid sid m.old m.new holds (D.image swap.old) (D.image swap.new)) }
     ensures keeps { OnOk result (KeepsOut m.old.kernel m.new.kernel (D.image swap.old) (D.image swap.new)) }
-    ensures stopped { IfErr result (λ stop. StopsPutting pid sid m.old stop m.new (D.image swap.old) (D.image swap.new)) }
+    ensures stopped { (holds : Option (List NamedFile))
+        → IfErr result (λ stop. StopsPutting pid sid m.old stop m.new holds (D.image swap.old) (D.image swap.new)) }
     ensures cause { OnErr result ((result ≡ Err Stop.JournalFull) ⊎ ((result ≡ Err Stop.NoMemory) ⊎ (result ≡ Err Stop.SwapWriteFault))) }
     ensures swap_leads { D.leads swap.old swap.new }
     ensures blocks { D.blocks swap.new ≡ D.blocks swap.old }
@@ -219,9 +223,9 @@ fn put_all<F: Files, D: SwapDev>(
     requires clear { m.old.kernel.place.due ≡ [] }
     requires holds { HoldsThere m.old.kernel pid sid }
     requires resident { is_out m.old.kernel.place pid ≡ false }
-    ensures put { OnOk result (PutOut pid sid m.old m.new (D.image swap.old) (D.image swap.new)) }
+    ensures put { OnOk result (PutOut pid sid m.old m.new (F.holds files.old) (D.image swap.old) (D.image swap.new)) }
     ensures keeps { OnOk result (KeepsThrough m.old m.new (F.holds files.old) (D.image swap.old) (D.image swap.new)) }
-    ensures stopped { IfErr result (λ stop. StopsPutting pid sid m.old stop m.new (D.image swap.old) (D.image swap.new)) }
+    ensures stopped { IfErr result (λ stop. StopsPutting pid sid m.old stop m.new (F.holds files.old) (D.image swap.old) (D.image swap.new)) }
     ensures files_lead { F.leads files.old files.new }
     ensures swap_leads { D.leads swap.old swap.new }
     ensures holds { F.holds files.new ≡ F.holds files.old }
@@ -269,9 +273,11 @@ pub fn swap_out<F: Files, D: SwapDev>(
     requires holds { (sid : ℕ) × HoldsThere m.old.kernel pid sid }
     requires own { has_lender m.old.kernel.processes pid ≡ false }
     requires resident { is_out m.old.kernel.place pid ≡ false }
-    ensures put { OnOk result ((sid : ℕ) × HoldsThere m.old.kernel pid sid × PutOut pid sid m.old m.new (D.image swap.old) (D.image swap.new)) }
+    ensures put { OnOk result ((sid : ℕ) × HoldsThere m.old.kernel pid sid
+        × PutOut pid sid m.old m.new (F.holds files.old) (D.image swap.old) (D.image swap.new)) }
     ensures keeps { OnOk result (KeepsThrough m.old m.new (F.holds files.old) (D.image swap.old) (D.image swap.new)) }
-    ensures stopped { IfErr result (λ stop. (sid : ℕ) × HoldsThere m.old.kernel pid sid × StopsPutting pid sid m.old stop m.new (D.image swap.old) (D.image swap.new)) }
+    ensures stopped { IfErr result (λ stop. (sid : ℕ) × HoldsThere m.old.kernel pid sid
+        × StopsPutting pid sid m.old stop m.new (F.holds files.old) (D.image swap.old) (D.image swap.new)) }
     ensures files_lead { F.leads files.old files.new }
     ensures swap_leads { D.leads swap.old swap.new }
     ensures holds_still { F.holds files.new ≡ F.holds files.old }
