@@ -7,3 +7,4 @@ pub mod Instructing
 pub mod Calling
 pub mod Stepping
 pub mod Acting
+pub mod Moving

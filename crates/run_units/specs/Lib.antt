@@ -5,3 +5,4 @@ pub mod Settling
 pub mod Touching
 pub mod Stepping
 pub mod Acting
+pub mod Moving

@@ -9,6 +9,7 @@ ghost use Rattle.run_units.specs.Acting.{StepBegins, StepIsRefused, RefusedStepC
 ghost use Rattle.run_units.specs.Filling.{ForcingIsNext, ForcedNext, FillIsNext, BringingIsNext, BroughtNext};
 ghost use Rattle.run_units.specs.Touching.{MissIsWanted, NoMissIsReady, CallsWriteNothing, CallMissIsWanted, CallIsReady};
 ghost use Rattle.run_units.specs.Stepping.{ActIsNext, StepIsMade, RanIsMade};
+ghost use Rattle.run_units.specs.Moving.{MovingIsNext, MoveNext, MovesEnd};
 ghost use Rattle.run_units.specs.Settling.{SettlingIsNext, SettledNext};
 ghost use Rattle.run_units.specs.Serving.{At, ServingIsNext, ServedNext};
 
@@ -80,4 +81,12 @@ pub fn steps_come()
     ensures refused { StepIsRefused }
     ensures behind_refusal { RefusedStepComes }
     ensures behind_output { ReplyComes }
+{}
+
+/// Under a line that asks for moves of the hands each move, and each transfer that ends before one, is the next unit of the run,
+/// and the line is over where as many were made as it asks for, or a quarter of the frames are free.
+pub fn moving_is_next()
+    ensures units { MovingIsNext }
+    ensures next { MoveNext }
+    ensures ends { MovesEnd }
 {}

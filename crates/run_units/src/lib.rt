@@ -6,6 +6,6 @@
 mod laws;
 
 pub use laws::{
-    accesses_tell_pages, filling_is_next, serving_is_next, settling_is_next, steps_are_made,
-    units_are_next,
+    accesses_tell_pages, filling_is_next, moving_is_next, serving_is_next, settling_is_next,
+    steps_are_made, units_are_next,
 };
