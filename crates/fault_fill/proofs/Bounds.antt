@@ -27,6 +27,7 @@ use Rattle.span_laws.proofs.Serving.{served_short}
 use Rattle.span_laws.proofs.Serving as short
 use Rattle.machine_state.specs.Machine.{Standing}
 use Rattle.paging_units.specs.LastMoves.{last_moves}
+use Rattle.paging_units.specs.Made.{ground}
 use Rattle.paging_units.proofs.LastMoves.{last_of}
 use Rattle.paging_units.proofs.Units.{made_journal}
 use Rattle.fault_fill.specs.Serving.{CanServe, ServesTo, StopsServing}
@@ -48,7 +49,7 @@ serves_short now locked q old new holds i j o there s =
     let k : short.Served false s.units new.kernel.place q (length old.kernel.place.transfers + 5) 0 (length old.kernel.place.transfers) 1 (length s.units) =
     served_short false s.units old.kernel.place new.kernel.place locked q now o there s.leads in
     let a = units_added_false old.kernel.journal s.units in
-    let b = ap (λ (es : List Entry). length es) (made_journal locked s.units old.kernel new.kernel i j s.makes.made) in
+    let b = ap (λ (es : List Entry). length es) (made_journal (ground old holds locked) s.units old.kernel new.kernel i j s.makes.made) in
     record {
       few = (let f = k.few in omega arith);
       flights = λ v. (let r = k.rest v in omega arith);
@@ -61,13 +62,13 @@ serves_takings now locked q old new holds i j o there s =
     served_short false s.units old.kernel.place new.kernel.place locked q now o there s.leads in
     k.taken
 
-pub stops_short : (now : Bool) (locked : List Page) (q : Page) (old new : Standing) (i j : Option (List ℕ)) (stop : Stop) → OwnsFrames old.kernel.place → IsThere old.kernel.place q
-    → StopsServing now locked q old new i j stop → length new.kernel.journal ≤ length old.kernel.journal + length old.kernel.place.transfers + 5
-stops_short now locked q old new i j stop o there s =
+pub stops_short : (now : Bool) (locked : List Page) (q : Page) (old new : Standing) (holds : Option (List NamedFile)) (i j : Option (List ℕ)) (stop : Stop) → OwnsFrames old.kernel.place
+    → IsThere old.kernel.place q → StopsServing now locked q old new holds i j stop → length new.kernel.journal ≤ length old.kernel.journal + length old.kernel.place.transfers + 5
+stops_short now locked q old new holds i j stop o there s =
     let k : short.Served false s.units s.kernel.place q (length old.kernel.place.transfers + 5) 0 (length old.kernel.place.transfers) 1 (length s.units) =
     served_short false s.units old.kernel.place s.kernel.place locked q now o there s.leads in
     let a = units_added_false old.kernel.journal s.units in
-    let b = ap (λ (es : List Entry). length es) (made_journal locked s.units old.kernel s.kernel i s.image s.made) in
+    let b = ap (λ (es : List Entry). length es) (made_journal (ground old holds locked) s.units old.kernel s.kernel i s.image s.made) in
     let c = ap (λ (es : List Entry). length es) s.at.journal in
     let f = k.few in
     omega arith
@@ -187,12 +188,12 @@ pub calls_calm : (q : Page) (old new : Standing) (holds : Option (List NamedFile
     → ServesTo false [] q old new holds i j → last_moves new.kernel.journal ≤ last_moves old.kernel.journal
 calls_calm q old new holds i j s =
     let a = last_calm s.units old.kernel.place new.kernel.place q old.kernel.journal s.leads in
-    let b = ap last_moves (made_journal [] s.units old.kernel new.kernel i j s.makes.made) in
+    let b = ap last_moves (made_journal (ground old holds []) s.units old.kernel new.kernel i j s.makes.made) in
     omega arith
 
 pub calls_low : (locked : List Page) (q : Page) (old new : Standing) (holds : Option (List NamedFile)) (i j : Option (List ℕ)) → OwnsFrames old.kernel.place → CanServe old.kernel.place q
     → ServesTo true locked q old new holds i j → is_valid (state_of new.kernel.place q) ≡ true → last_moves new.kernel.journal ≤ last_moves old.kernel.journal
 calls_low locked q old new holds i j o c s v =
     let a = last_low s.units old.kernel.place new.kernel.place locked q old.kernel.journal o c s.leads v in
-    let b = ap last_moves (made_journal locked s.units old.kernel new.kernel i j s.makes.made) in
+    let b = ap last_moves (made_journal (ground old holds locked) s.units old.kernel new.kernel i j s.makes.made) in
     omega arith

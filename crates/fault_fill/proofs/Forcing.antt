@@ -25,7 +25,7 @@ still_frameless (e ∷ us) p r locked q o n h =
     still_frameless us (force p locked) r locked q (force_owner p locked o) (s.frames q ∙ n) h.2
 
 pub room_further : (locked : List Page) (q : Page) (old next new : Standing) (holds later : Option (List NamedFile)) (i h j : Option (List ℕ)) → NoneMade old next i h → later ≡ holds
-    → OwnsFrames old.kernel.place → NeedsFrame old.kernel.place q → Forced locked next new h j → KeepsThrough next new later h j → Further locked q old new holds i j
+    → OwnsFrames old.kernel.place → NeedsFrame old.kernel.place q → Forced locked next new later h j → KeepsThrough next new later h j → Further locked q old new holds i j
 room_further locked q old next new holds later i h j n e o needs f keeps = record {
   serves = record {
     units = d.units;
@@ -37,17 +37,19 @@ room_further locked q old next new holds later i h j n e o needs f keeps = recor
   low = λ none. (let a = d.free in let b = ap length none in absurd (omega arith));
 }
   where
-    d : Forced locked old new i j
-    d = subst (λ (s : Standing). Forced locked s new i j) n.machine (subst (λ (x : Option (List ℕ)). Forced locked next new x j) n.image f)
+    d : Forced locked old new holds i j
+    d =
+        subst (λ (s : Standing). Forced locked s new holds i j) n.machine
+        (subst (λ (x : Option (List ℕ)). Forced locked next new holds x j) n.image (subst (λ (x : Option (List NamedFile)). Forced locked next new x h j) e f))
 
     kept : KeepsThrough old new holds i j
     kept =
         subst (λ (s : Standing). KeepsThrough s new holds i j) n.machine
         (subst (λ (x : Option (List ℕ)). KeepsThrough next new holds x j) n.image (subst (λ (x : Option (List NamedFile)). KeepsThrough next new x h j) e keeps))
 
-pub room_stops : (locked : List Page) (q : Page) (old next new : Standing) (i h j : Option (List ℕ)) (stop : Stop) → NoneMade old next i h
-    → OwnsFrames old.kernel.place → NeedsFrame old.kernel.place q → StopsForcing locked next stop new h j → StopsServing true locked q old new i j stop
-room_stops locked q old next new i h j stop n o needs f = record {
+pub room_stops : (locked : List Page) (q : Page) (old next new : Standing) (holds later : Option (List NamedFile)) (i h j : Option (List ℕ)) (stop : Stop) → NoneMade old next i h → later ≡ holds
+    → OwnsFrames old.kernel.place → NeedsFrame old.kernel.place q → StopsForcing locked next stop new later h j → StopsServing true locked q old new holds i j stop
+room_stops locked q old next new holds later i h j stop n e o needs f = record {
   units = d.units;
   kernel = d.at;
   image = d.image;
@@ -60,5 +62,7 @@ room_stops locked q old next new i h j stop n o needs f = record {
   images = d.images;
 }
   where
-    d : StopsForcing locked old stop new i j
-    d = subst (λ (s : Standing). StopsForcing locked s stop new i j) n.machine (subst (λ (x : Option (List ℕ)). StopsForcing locked next stop new x j) n.image f)
+    d : StopsForcing locked old stop new holds i j
+    d =
+        subst (λ (s : Standing). StopsForcing locked s stop new holds i j) n.machine
+        (subst (λ (x : Option (List ℕ)). StopsForcing locked next stop new holds x j) n.image (subst (λ (x : Option (List NamedFile)). StopsForcing locked next stop new x h j) e f))

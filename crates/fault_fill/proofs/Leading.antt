@@ -22,10 +22,11 @@ use Rattle.machine_state.specs.Files.{AreFiles}
 use Rattle.machine_state.specs.Conditions.{HasStopped, KeepsFlat}
 use Rattle.machine_state.specs.Done.{KeepsThrough, CountsPages, CountsReads, CountsWrites}
 use Rattle.machine_state.specs.Settled.{IsSameBeside}
-use Rattle.paging_units.specs.Made.{MadeBy, ImageBy, SameBeside}
+use Rattle.paging_units.specs.Made.{Ground, ground, MadeBy, ImageBy, SameBeside}
 use Rattle.paging_units.specs.Stops.{CauseBy, SpoilsBy}
-use Rattle.paging_units.proofs.Units.{served_place, unit_journal, unit_same, made_append, made_one, made_same, makes_none, makes_both}
+use Rattle.paging_units.proofs.Units.{served_place, unit_journal, unit_same, made_append, made_one, made_same, makes_none, makes_both, makes_on}
 use Rattle.paging_units.proofs.Keeping.{made_shaped, keeps_flat, keeps_same, keeps_both}
+use Rattle.clock_hands.proofs.Units.{made_on}
 use Rattle.fault_fill.specs.Serving.{CanServe, UnitMade, UnitStops, ServesTo, StopsServing}
 use Rattle.fault_fill.specs.Units.{AnyUnit, PlainMade, PlainStop, EndMade, EndStops, NoneMade}
 use Rattle.fault_fill.specs.Units.{is_flying, Further}
@@ -47,12 +48,12 @@ beside_of old new e = record {
 }
 
 pub plain_made : (q : Page) (e : Entry) (old new : Standing) → ((now : Bool) → serve_unit old.kernel.place q now ≡ Some e)
-    → ((locked : List Page) → MadeBy locked e old.kernel new.kernel) → ((i : Option (List ℕ)) → ImageBy e old.kernel i i)
+    → ((g : Ground) (i : Option (List ℕ)) → MadeBy g e old.kernel i new.kernel) → ((i : Option (List ℕ)) → ImageBy e old.kernel i i)
     → new ≡ record old { kernel = new.kernel; room = None } → KeepsFlat old.kernel new.kernel → PlainMade q old new
 plain_made q e old new next made told rest keeps = λ holds image now locked. record {
   entry = e;
   next = next now;
-  made = made locked;
+  made = made (ground old holds locked) image;
   told = told image;
   rest = beside_of old new rest;
   keeps = keeps_flat old new holds image keeps;
@@ -115,7 +116,7 @@ pub reclaim_calls : (q : Page) → CallsNone (entries.Reclaim q)
 reclaim_calls q = record { told = λ k i. refl; causes = λ s ts h. h; spoils = λ s k i. refl; longer = λ j. refl }
 
 pub plain_either : {A S : Type 0} (r : Result A Stop) (q : Page) (e : Entry) (old new : Standing) → CallsNone e → ((now : Bool) → serve_unit old.kernel.place q now ≡ Some e)
-    → (S → (locked : List Page) → MadeBy locked e old.kernel new.kernel)
+    → (S → (g : Ground) (i : Option (List ℕ)) → MadeBy g e old.kernel i new.kernel)
     → OnOk r S → OnOk r (new ≡ record old { kernel = new.kernel; room = None }) → OnOk r (KeepsFlat old.kernel new.kernel)
     → OnErr r (HasStopped old new) → OnErr r ((r ≡ Err stops.JournalFull) ⊎ (r ≡ Err stops.NoMemory))
     → ((r ≡ Err stops.JournalFull) ↔ (old.params.journal ≤ length old.kernel.journal)) → MatchResult r (λ (u : A). PlainMade q old new) (PlainStop q old new)
@@ -143,13 +144,13 @@ pub record GoesOn (old new : Standing) : Type 0 where
 pub unit_on : (now : Bool) (locked : List Page) (q : Page) (old new : Standing) (holds : Option (List NamedFile)) (before after : Option (List ℕ))
     → UnitMade now locked q old new holds before after → GoesOn old new
 unit_on now locked q old new holds before after u =
-    let s : SameBeside old.kernel new.kernel = unit_same locked u.entry old.kernel new.kernel u.made in
+    let s : SameBeside old.kernel new.kernel = unit_same (ground old holds locked) u.entry old.kernel new.kernel before u.made in
     record { stopped = s.stopped; holdings = s.holdings }
 
 pub units_on : (now : Bool) (locked : List Page) (q : Page) (old new : Standing) (holds : Option (List NamedFile)) (before after : Option (List ℕ))
     → ServesTo now locked q old new holds before after → GoesOn old new
 units_on now locked q old new holds before after u =
-    let s : SameBeside old.kernel new.kernel = made_same locked u.units old.kernel new.kernel before after u.makes.made in
+    let s : SameBeside old.kernel new.kernel = made_same (ground old holds locked) u.units old.kernel new.kernel before after u.makes.made in
     record { stopped = s.stopped; holdings = s.holdings }
 
 pub whole_on : (old new : Standing) → IsSameBeside old new → GoesOn old new → old.before ≡ old.kernel.holdings → new.before ≡ new.kernel.holdings
@@ -168,8 +169,8 @@ pub one_serves : (now : Bool) (locked : List Page) (q : Page) (old new : Standin
     → CanServe old.kernel.place q → UnitMade now locked q old new holds before after → ServesTo now locked q old new holds before after
 one_serves now locked q old new holds before after c u = record {
   units = u.entry ∷ [];
-  leads = (u.next, sym (served_place locked q now u.entry old.kernel new.kernel u.next (due_same old.kernel.place.due q c.fresh) u.made));
-  makes = record { made = made_one locked u.entry old.kernel new.kernel before after u.made u.told; beside = u.rest };
+  leads = (u.next, sym (served_place (ground old holds locked) q now u.entry old.kernel new.kernel before u.next (due_same old.kernel.place.due q c.fresh) u.made));
+  makes = record { made = made_one (ground old holds locked) u.entry old.kernel new.kernel before after u.made u.told; beside = u.rest };
   keeps = u.keeps;
 }
 
@@ -178,7 +179,7 @@ pub none_serves : (now : Bool) (locked : List Page) (q : Page) (old new : Standi
 none_serves now locked q old new holds before after n = record {
   units = [];
   leads = ap (λ (s : Standing). s.kernel.place) (sym n.machine);
-  makes = makes_none locked old new before after n.machine n.image;
+  makes = makes_none (ground old holds locked) old new before after n.machine n.image;
   keeps = subst (λ (i : Option (List ℕ)). KeepsThrough old new holds before i) (sym n.image) (keeps_same old new holds before (ap (λ (s : Standing). s.kernel) (sym n.machine)));
 }
 
@@ -187,13 +188,13 @@ pub both_serve : (now : Bool) (locked : List Page) (q : Page) (old next new : St
 both_serve now locked q old next new holds later a b c e s t = record {
   units = s.units ++ t.units;
   leads = serves_append s.units t.units old.kernel.place next.kernel.place new.kernel.place locked q now s.leads t.leads;
-  makes = makes_both locked s.units t.units old next new a b c s.makes t.makes;
-  keeps = keeps_both old next new holds later a b c s.makes.beside.images (made_shaped locked s.units old.kernel next.kernel a b s.makes.made) e s.keeps t.keeps;
+  makes = makes_both (ground old holds locked) s.units t.units old next new a b c s.makes (makes_on t.units old next new holds later locked b c e s.makes.beside t.makes);
+  keeps = keeps_both old next new holds later a b c s.makes.beside.images (made_shaped (ground old holds locked) s.units old.kernel next.kernel a b s.makes.made) e s.keeps t.keeps;
 }
 
-pub stops_here : (now : Bool) (locked : List Page) (q : Page) (old new : Standing) (before after : Option (List ℕ)) (stop : Stop)
-    → UnitStops now q old new before after stop → StopsServing now locked q old new before after stop
-stops_here now locked q old new before after stop u = record {
+pub stops_here : (now : Bool) (locked : List Page) (q : Page) (old new : Standing) (holds : Option (List NamedFile)) (before after : Option (List ℕ)) (stop : Stop)
+    → UnitStops now q old new before after stop → StopsServing now locked q old new holds before after stop
+stops_here now locked q old new holds before after stop u = record {
   units = [];
   kernel = old.kernel;
   image = before;
@@ -206,14 +207,15 @@ stops_here now locked q old new before after stop u = record {
   images = u.images;
 }
 
-pub stops_later : (now : Bool) (locked : List Page) (q : Page) (old next new : Standing) (holds : Option (List NamedFile)) (a b c : Option (List ℕ)) (stop : Stop)
-    → ServesTo now locked q old next holds a b → StopsServing now locked q next new b c stop → StopsServing now locked q old new a c stop
-stops_later now locked q old next new holds a b c stop s t = record {
+pub stops_later : (now : Bool) (locked : List Page) (q : Page) (old next new : Standing) (holds later : Option (List NamedFile)) (a b c : Option (List ℕ)) (stop : Stop) → later ≡ holds
+    → ServesTo now locked q old next holds a b → StopsServing now locked q next new later b c stop → StopsServing now locked q old new holds a c stop
+stops_later now locked q old next new holds later a b c stop e s t = record {
   units = s.units ++ t.units;
   kernel = t.kernel;
   image = t.image;
   leads = serves_append s.units t.units old.kernel.place next.kernel.place t.kernel.place locked q now s.leads t.leads;
-  made = made_append locked s.units t.units old.kernel next.kernel t.kernel a b t.image s.makes.made t.made;
+  made = made_append (ground old holds locked) s.units t.units old.kernel next.kernel t.kernel a b t.image s.makes.made
+      (made_on t.units old next holds later locked next.kernel t.kernel b t.image e s.makes.beside t.made);
   entry = t.entry;
   next = t.next;
   at = t.at;
@@ -232,7 +234,7 @@ unit_behind now locked q old new holds before after o c u =
 pub unit_nearer : (q : Page) (old new : Standing) (holds : Option (List NamedFile)) (before after : Option (List ℕ))
     → OwnsFrames old.kernel.place → CanServe old.kernel.place q → UnitMade false [] q old new holds before after → near new.kernel.place q < near old.kernel.place q
 unit_nearer q old new holds before after o c u =
-    subst (λ (p : Placement). near p q < near old.kernel.place q) (sym (served_place [] q false u.entry old.kernel new.kernel u.next (due_same old.kernel.place.due q c.fresh) u.made))
+    subst (λ (p : Placement). near p q < near old.kernel.place q) (sym (served_place (ground old holds []) q false u.entry old.kernel new.kernel before u.next (due_same old.kernel.place.due q c.fresh) u.made))
     (near_falls old.kernel.place q u.entry o c.there u.next)
 
 pub served_later : (answer : Served) (q : Page) (old next new : Standing) (holds later : Option (List NamedFile)) (a b c : Option (List ℕ)) → later ≡ holds
@@ -251,12 +253,12 @@ pub unit_further : (locked : List Page) (q : Page) (old new : Standing) (holds :
 unit_further locked q old new holds before after c u z = record {
   serves = record {
     units = u.entry ∷ [];
-    leads = (u.next, sym (served_place locked q true u.entry old.kernel new.kernel u.next (due_same old.kernel.place.due q c.fresh) u.made));
-    makes = record { made = made_one locked u.entry old.kernel new.kernel before after u.made u.told; beside = u.rest };
+    leads = (u.next, sym (served_place (ground old holds locked) q true u.entry old.kernel new.kernel before u.next (due_same old.kernel.place.due q c.fresh) u.made));
+    makes = record { made = made_one (ground old holds locked) u.entry old.kernel new.kernel before after u.made u.told; beside = u.rest };
     keeps = u.keeps;
   };
   some = omega arith;
-  low = λ e. (let j = ap last_moves (unit_journal locked u.entry old.kernel new.kernel u.made) in omega arith);
+  low = λ e. (let j = ap last_moves (unit_journal (ground old holds locked) u.entry old.kernel new.kernel before u.made) in omega arith);
 }
 
 pub any_further : (locked : List Page) (q : Page) (old new : Standing) (holds : Option (List NamedFile)) (before after : Option (List ℕ))
@@ -289,10 +291,10 @@ end_further locked q old next new holds later i h j n e c f m =
     d : EndMade old new holds i j
     d = end_same old next new holds later i h j n e m
 
-pub end_stops_now : (locked : List Page) (q : Page) (old next new : Standing) (i h j : Option (List ℕ)) (stop : Stop) → NoneMade old next i h
-    → is_flying (state_of old.kernel.place q) ≡ true → EndStops next new h j stop → StopsServing true locked q old new i j stop
-end_stops_now locked q old next new i h j stop n f m =
-    stops_here true locked q old new i j stop (end_stops true q old new i j stop (unit_waits old.kernel.place q f) (stop_same old next new i h j stop n m))
+pub end_stops_now : (locked : List Page) (q : Page) (old next new : Standing) (holds : Option (List NamedFile)) (i h j : Option (List ℕ)) (stop : Stop) → NoneMade old next i h
+    → is_flying (state_of old.kernel.place q) ≡ true → EndStops next new h j stop → StopsServing true locked q old new holds i j stop
+end_stops_now locked q old next new holds i h j stop n f m =
+    stops_here true locked q old new holds i j stop (end_stops true q old new i j stop (unit_waits old.kernel.place q f) (stop_same old next new i h j stop n m))
 
 -- The counts of faults of a step that calls no device.
 

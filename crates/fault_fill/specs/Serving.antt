@@ -13,7 +13,7 @@ use Rattle.machine_state.specs.Machine.{Standing}
 use Rattle.machine_state.specs.PlaceOf.{is_blank}
 use Rattle.machine_state.specs.Done.{KeepsThrough}
 use Rattle.machine_state.specs.Settled.{IsSameBeside}
-use Rattle.paging_units.specs.Made.{MadeBy, ImageBy, Made, Makes}
+use Rattle.paging_units.specs.Made.{ground, MadeBy, ImageBy, Made, Makes}
 use Rattle.paging_units.specs.Stops.{StopsAt}
 
 -- A page that is there, of text that a space shares where it is text, and not due. Another page may be due, unless this
@@ -28,7 +28,7 @@ pub record CanServe (p : Placement) (q : Page) : Type 0 where
 pub record UnitMade (now : Bool) (locked : List Page) (q : Page) (old new : Standing) (holds : Option (List NamedFile)) (before after : Option (List ℕ)) : Type 0 where
   pub entry : Entry
   pub next : serve_unit old.kernel.place q now ≡ Some entry
-  pub made : MadeBy locked entry old.kernel new.kernel
+  pub made : MadeBy (ground old holds locked) entry old.kernel before new.kernel
   pub told : ImageBy entry old.kernel before after
   pub rest : IsSameBeside old new
   pub keeps : KeepsThrough old new holds before after
@@ -46,16 +46,16 @@ pub record UnitStops (now : Bool) (q : Page) (old new : Standing) (before after 
 pub record ServesTo (now : Bool) (locked : List Page) (q : Page) (old new : Standing) (holds : Option (List NamedFile)) (before after : Option (List ℕ)) : Type 0 where
   pub units : List Entry
   pub leads : Serves units old.kernel.place locked q now new.kernel.place
-  pub makes : Makes locked units old new before after
+  pub makes : Makes (ground old holds locked) units old new before after
   pub keeps : KeepsThrough old new holds before after
 
 -- Units of serving the page lead to a kernel and a swap image, and there the machine stopped where the next one comes.
-pub record StopsServing (now : Bool) (locked : List Page) (q : Page) (old new : Standing) (before after : Option (List ℕ)) (stop : Stop) : Type 0 where
+pub record StopsServing (now : Bool) (locked : List Page) (q : Page) (old new : Standing) (holds : Option (List NamedFile)) (before after : Option (List ℕ)) (stop : Stop) : Type 0 where
   pub units : List Entry
   pub kernel : Kernel
   pub image : Option (List ℕ)
   pub leads : Serves units old.kernel.place locked q now kernel.place
-  pub made : Made locked units old.kernel before kernel image
+  pub made : Made (ground old holds locked) units old.kernel before kernel image
   pub entry : Entry
   pub next : serve_unit kernel.place q now ≡ Some entry
   pub at : StopsAt entry kernel image stop new after

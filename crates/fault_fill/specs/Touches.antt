@@ -107,14 +107,14 @@ pub record StopsGrowing (old new : Standing) (before after : Option (List ℕ)) 
   pub image : after ≡ before
 
 -- the machine stopped while the page was served, after few entries
-pub record StopsAtPage (now : Bool) (locked : List Page) (q : Page) (old new : Standing) (before after : Option (List ℕ)) (stop : Stop) : Type 0 where
-  pub serving : StopsServing now locked q old new before after stop
+pub record StopsAtPage (now : Bool) (locked : List Page) (q : Page) (old new : Standing) (holds : Option (List NamedFile)) (before after : Option (List ℕ)) (stop : Stop) : Type 0 where
+  pub serving : StopsServing now locked q old new holds before after stop
   pub few : length new.kernel.journal ≤ length old.kernel.journal + length old.kernel.place.transfers + 5
 
 -- A refused access never stops the machine.
-abbrev pub AccessStops : Bool → List Page → Access → ℕ → Standing → Standing → Option (List ℕ) → Option (List ℕ) → Stop → Type 0
-AccessStops now locked (accesses.Page q) pid old new before after stop = StopsAtPage now locked q old new before after stop
-AccessStops now locked (accesses.Refused signal) pid old new before after stop = ⊥
-AccessStops now locked (accesses.Growth sid pages) pid old new before after stop =
+abbrev pub AccessStops : Bool → List Page → Access → ℕ → Standing → Standing → Option (List NamedFile) → Option (List ℕ) → Option (List ℕ) → Stop → Type 0
+AccessStops now locked (accesses.Page q) pid old new holds before after stop = StopsAtPage now locked q old new holds before after stop
+AccessStops now locked (accesses.Refused signal) pid old new holds before after stop = ⊥
+AccessStops now locked (accesses.Growth sid pages) pid old new holds before after stop =
     StopsGrowing old new before after stop
-    ⊎ GrownFirst old pid pages (λ between. StopsAtPage now locked (page_names.Stack sid (pages - 1)) between new before after stop)
+    ⊎ GrownFirst old pid pages (λ between. StopsAtPage now locked (page_names.Stack sid (pages - 1)) between new holds before after stop)

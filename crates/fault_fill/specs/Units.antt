@@ -9,7 +9,7 @@ use Rattle.io_edge.specs.FileHolding.{NamedFile}
 use Rattle.page_model.specs.Pages.{frame_of, is_valid}
 use Rattle.page_model.specs.Placement.{Placement, state_of}
 use Rattle.machine_state.specs.Machine.{Standing}
-use Rattle.machine_state.specs.Done.{IsDone, ImageAfter, KeepsThrough}
+use Rattle.machine_state.specs.Done.{sources, IsDone, ImageAfter, KeepsThrough}
 use Rattle.machine_state.specs.Settled.{IsSameBeside}
 use Rattle.paging_units.specs.Stops.{StopsAt}
 use Rattle.paging_units.specs.LastMoves.{last_moves}
@@ -44,7 +44,7 @@ PlainStop q old new stop = (image : Option (List ℕ)) → AnyStop q old new ima
 
 -- the end of the oldest transfer
 pub record EndMade (old new : Standing) (holds : Option (List NamedFile)) (before after : Option (List ℕ)) : Type 0 where
-  pub done : IsDone old.kernel new.kernel
+  pub done : IsDone (sources old holds) before old.kernel new.kernel
   pub told : ImageAfter old.kernel before after
   pub rest : IsSameBeside old new
   pub keeps : KeepsThrough old new holds before after

@@ -27,7 +27,7 @@ pub fn serve_page<F: Files, D: SwapDev>(
     requires files { AreFiles m.old.images (F.holds files.old) }
     requires can { CanServe m.old.kernel.place page }
     ensures served { MatchResult result (λ answer. ServedAs answer page m.old m.new (F.holds files.old) (D.image swap.old) (D.image swap.new))
-        (StopsServing false [] page m.old m.new (D.image swap.old) (D.image swap.new)) }
+        (StopsServing false [] page m.old m.new (F.holds files.old) (D.image swap.old) (D.image swap.new)) }
     ensures few { OnOk result (IsShort page m.old m.new) }
     ensures few_at_stop { OnErr result (length m.new.kernel.journal ≤ length m.old.kernel.journal + length m.old.kernel.place.transfers + 5) }
     ensures low { OnOk result (last_moves m.new.kernel.journal ≤ last_moves m.old.kernel.journal) }
@@ -62,7 +62,7 @@ pub fn serve_page_now<F: Files, D: SwapDev>(
     requires room { HasRoom m.old.kernel.place locked.now }
     requires low { last_moves m.old.kernel.journal ≤ 1000000 }
     ensures served { MatchResult result (λ u. ServedNow locked.now page m.old m.new (F.holds files.old) (D.image swap.old) (D.image swap.new))
-        (StopsServing true locked.now page m.old m.new (D.image swap.old) (D.image swap.new)) }
+        (StopsServing true locked.now page m.old m.new (F.holds files.old) (D.image swap.old) (D.image swap.new)) }
     ensures few { OnOk result (IsShort page m.old m.new) }
     ensures few_at_stop { OnErr result (length m.new.kernel.journal ≤ length m.old.kernel.journal + length m.old.kernel.place.transfers + 5) }
     ensures low { OnOk result (last_moves m.new.kernel.journal ≤ last_moves m.old.kernel.journal) }

@@ -38,7 +38,7 @@ pub(crate) fn serve_on<F: Files, D: SwapDev>(
     requires files { AreFiles m.old.images (F.holds files.old) }
     requires can { CanServe m.old.kernel.place page }
     ensures served { MatchResult result (λ answer. ServesAs answer page m.old m.new (F.holds files.old) (D.image swap.old) (D.image swap.new))
-        (StopsServing false [] page m.old m.new (D.image swap.old) (D.image swap.new)) }
+        (StopsServing false [] page m.old m.new (F.holds files.old) (D.image swap.old) (D.image swap.new)) }
     ensures files_lead { F.leads files.old files.new }
     ensures swap_leads { D.leads swap.old swap.new }
     ensures holds { F.holds files.new ≡ F.holds files.old }
@@ -77,7 +77,7 @@ fn serve_further<F: Files, D: SwapDev>(
     requires room { HasRoom m.old.kernel.place locked.now }
     requires low { m.old.kernel.place.free ≡ [] → last_moves m.old.kernel.journal ≤ 1000000 }
     ensures made { MatchResult result (λ more. GoesFurther more locked.now page m.old m.new (F.holds files.old) (D.image swap.old) (D.image swap.new))
-        (StopsServing true locked.now page m.old m.new (D.image swap.old) (D.image swap.new)) }
+        (StopsServing true locked.now page m.old m.new (F.holds files.old) (D.image swap.old) (D.image swap.new)) }
     ensures files_lead { F.leads files.old files.new }
     ensures swap_leads { D.leads swap.old swap.new }
     ensures holds { F.holds files.new ≡ F.holds files.old }
@@ -122,7 +122,7 @@ pub(crate) fn serve_now_on<F: Files, D: SwapDev>(
     requires room { HasRoom m.old.kernel.place locked.now }
     requires low { m.old.kernel.place.free ≡ [] → last_moves m.old.kernel.journal ≤ 1000000 }
     ensures served { MatchResult result (λ u. ServesNow locked.now page m.old m.new (F.holds files.old) (D.image swap.old) (D.image swap.new))
-        (StopsServing true locked.now page m.old m.new (D.image swap.old) (D.image swap.new)) }
+        (StopsServing true locked.now page m.old m.new (F.holds files.old) (D.image swap.old) (D.image swap.new)) }
     ensures files_lead { F.leads files.old files.new }
     ensures swap_leads { D.leads swap.old swap.new }
     ensures holds { F.holds files.new ≡ F.holds files.old }

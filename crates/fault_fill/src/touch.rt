@@ -177,7 +177,7 @@ pub fn serve<F: Files, D: SwapDev>(
     ensures served { MatchResult result
         (λ answer. AccessComes (λ came q from. TouchedAs came q from m.new (F.holds files.old) (D.image swap.old) (D.image swap.new))
         (access_by m.old.kernel pid address write) answer pid m.old m.new (D.image swap.old) (D.image swap.new))
-        (AccessStops false [] (access_by m.old.kernel pid address write) pid m.old m.new (D.image swap.old) (D.image swap.new)) }
+        (AccessStops false [] (access_by m.old.kernel pid address write) pid m.old m.new (F.holds files.old) (D.image swap.old) (D.image swap.new)) }
     ensures files_lead { F.leads files.old files.new }
     ensures swap_leads { D.leads swap.old swap.new }
     ensures holds { F.holds files.new ≡ F.holds files.old }
@@ -221,7 +221,7 @@ pub fn serve_now<F: Files, D: SwapDev>(
     ensures served { MatchResult result
         (λ answer. AccessComes (λ came q from. TouchedNow locked.now came q from m.new (F.holds files.old) (D.image swap.old) (D.image swap.new))
         (access_by m.old.kernel pid address write) answer pid m.old m.new (D.image swap.old) (D.image swap.new))
-        (AccessStops true locked.now (access_by m.old.kernel pid address write) pid m.old m.new (D.image swap.old) (D.image swap.new)) }
+        (AccessStops true locked.now (access_by m.old.kernel pid address write) pid m.old m.new (F.holds files.old) (D.image swap.old) (D.image swap.new)) }
     ensures files_lead { F.leads files.old files.new }
     ensures swap_leads { D.leads swap.old swap.new }
     ensures holds { F.holds files.new ≡ F.holds files.old }

@@ -14,7 +14,7 @@ returns-clause-served g c =
     let i = g.D.SwapDev.image c.args.swap.now in
     let j = g.D.SwapDev.image c.serve_on.new.swap in
     let owner = c.sound.ensures.sound.owner.frames in
-    match_map (λ a. ServesAs a q old new holds i j) (λ a. ServedAs a q old new holds i j) (StopsServing false [] q old new i j) (StopsServing false [] q old new i j) c.serve_on.result
+    match_map (λ a. ServesAs a q old new holds i j) (λ a. ServedAs a q old new holds i j) (StopsServing false [] q old new holds i j) (StopsServing false [] q old new holds i j) c.serve_on.result
     (λ a m. (record { serves = m.0; takes = serves_takings false [] q old new holds i j owner c.requires.can.there m.0 }, m.1)) (λ stop m. m)
     c.serve_on.ensures.served
 
@@ -27,7 +27,7 @@ returns-clause-few g c =
     let i = g.D.SwapDev.image c.args.swap.now in
     let j = g.D.SwapDev.image c.serve_on.new.swap in
     let owner = c.sound.ensures.sound.owner.frames in
-    match_ok (λ a. ServesAs a q old new holds i j) (StopsServing false [] q old new i j) c.serve_on.result (λ a m. serves_short false [] q old new holds i j owner c.requires.can.there m.0)
+    match_ok (λ a. ServesAs a q old new holds i j) (StopsServing false [] q old new holds i j) c.serve_on.result (λ a m. serves_short false [] q old new holds i j owner c.requires.can.there m.0)
     c.serve_on.ensures.served
 
 pub returns-clause-low : goal.returns-clause-low
@@ -39,7 +39,7 @@ returns-clause-low g c =
     let i = g.D.SwapDev.image c.args.swap.now in
     let j = g.D.SwapDev.image c.serve_on.new.swap in
     let owner = c.sound.ensures.sound.owner.frames in
-    match_ok (λ a. ServesAs a q old new holds i j) (StopsServing false [] q old new i j) c.serve_on.result (λ a m. calls_calm q old new holds i j m.0)
+    match_ok (λ a. ServesAs a q old new holds i j) (StopsServing false [] q old new holds i j) c.serve_on.result (λ a m. calls_calm q old new holds i j m.0)
     c.serve_on.ensures.served
 
 pub returns-clause-few_at_stop : goal.returns-clause-few_at_stop
@@ -51,7 +51,7 @@ returns-clause-few_at_stop g c =
     let i = g.D.SwapDev.image c.args.swap.now in
     let j = g.D.SwapDev.image c.serve_on.new.swap in
     let owner = c.sound.ensures.sound.owner.frames in
-    match_err (λ a. ServesAs a q old new holds i j) (StopsServing false [] q old new i j) c.serve_on.result (λ stop m. stops_short false [] q old new i j stop owner c.requires.can.there m)
+    match_err (λ a. ServesAs a q old new holds i j) (StopsServing false [] q old new holds i j) c.serve_on.result (λ stop m. stops_short false [] q old new holds i j stop owner c.requires.can.there m)
     c.serve_on.ensures.served
 
 pub returns-clause-stay : goal.returns-clause-stay
@@ -63,5 +63,5 @@ returns-clause-stay g c =
     let i = g.D.SwapDev.image c.args.swap.now in
     let j = g.D.SwapDev.image c.serve_on.new.swap in
     let owner = c.sound.ensures.sound.owner.frames in
-    match_ok (λ a. ServesAs a q old new holds i j) (StopsServing false [] q old new i j) c.serve_on.result (λ a m. all_stay m.0.units old.kernel.place new.kernel.place q owner c.requires.can m.0.leads)
+    match_ok (λ a. ServesAs a q old new holds i j) (StopsServing false [] q old new holds i j) c.serve_on.result (λ a m. all_stay m.0.units old.kernel.place new.kernel.place q owner c.requires.can m.0.leads)
     c.serve_on.ensures.served

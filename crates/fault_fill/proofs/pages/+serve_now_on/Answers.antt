@@ -59,7 +59,7 @@ returns-then-more-clause-served g t c =
     let j = g.D.SwapDev.image c.serve_now_on.new.swap in
     let f : Further locked q old next holds i h = subst (λ (b : Bool). GoesFurther b locked q old next holds i h) c.if-more.true c.in-Ok.ensures.made in
     match_map (λ u. ServesNow locked q next new later h j) (λ u. ServesNow locked q old new holds i j)
-    (StopsServing true locked q next new h j) (StopsServing true locked q old new i j) c.serve_now_on.result
+    (StopsServing true locked q next new later h j) (StopsServing true locked q old new holds i j) c.serve_now_on.result
     (λ u m. served_now_later locked q old next new holds later i h j c.in-Ok.ensures.holds f.serves m)
-    (λ stop m. stops_later true locked q old next new holds i h j stop f.serves m)
+    (λ stop m. stops_later true locked q old next new holds later i h j stop c.in-Ok.ensures.holds f.serves m)
     c.serve_now_on.ensures.served

@@ -11,7 +11,7 @@ use Rattle.fault_fill.proofs.pages.+serve_on.Goals as goal
 
 pub returns-in-Err-clause-served : goal.returns-in-Err-clause-served
 returns-in-Err-clause-served g t c =
-    stops_here false [] c.args.page c.args.m.now c.serve_unit.new.m (g.D.SwapDev.image c.args.swap.now) (g.D.SwapDev.image c.serve_unit.new.swap) c.in-Err.stop
+    stops_here false [] c.args.page c.args.m.now c.serve_unit.new.m (g.F.Files.holds c.args.files.now) (g.D.SwapDev.image c.args.swap.now) (g.D.SwapDev.image c.serve_unit.new.swap) c.in-Err.stop
     (c.in-Err.ensures.made false)
 
 pub serve_on-requires : goal.serve_on-requires
@@ -61,7 +61,7 @@ returns-in-Nearer-clause-served g t c =
     let any : AnyUnit q old next holds i h = subst (λ (u : Came). ComesTo u q old next holds i h) c.in-Nearer.is c.in-Ok.ensures.made in
     let s : ServesTo false [] q old next holds i h = one_serves false [] q old next holds i h c.requires.can (any false []) in
     match_map (λ (a : Served). ServesAs a q next new later h j) (λ (a : Served). ServesAs a q old new holds i j)
-    (StopsServing false [] q next new h j) (StopsServing false [] q old new i j) c.serve_on.result
+    (StopsServing false [] q next new later h j) (StopsServing false [] q old new holds i j) c.serve_on.result
     (λ a m. served_later a q old next new holds later i h j c.in-Ok.ensures.holds s m)
-    (λ stop m. stops_later false [] q old next new holds i h j stop s m)
+    (λ stop m. stops_later false [] q old next new holds later i h j stop c.in-Ok.ensures.holds s m)
     c.serve_on.ensures.served

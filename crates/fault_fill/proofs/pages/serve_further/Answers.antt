@@ -10,7 +10,7 @@ use Rattle.fault_fill.proofs.pages.serve_further.Goals as goal
 
 pub returns-in-Err-clause-made : goal.returns-in-Err-clause-made
 returns-in-Err-clause-made g c =
-    stops_here true c.args.locked.now c.args.page c.args.m.now c.serve_unit.new.m (g.D.SwapDev.image c.args.swap.now) (g.D.SwapDev.image c.serve_unit.new.swap) c.in-Err.stop
+    stops_here true c.args.locked.now c.args.page c.args.m.now c.serve_unit.new.m (g.F.Files.holds c.args.files.now) (g.D.SwapDev.image c.args.swap.now) (g.D.SwapDev.image c.serve_unit.new.swap) c.in-Err.stop
     (c.in-Err.ensures.made true)
 
 pub finish-requires-clause-some : goal.finish-requires-clause-some
@@ -61,7 +61,7 @@ returns-in-Err-finish-clause-made g c =
     let j = g.D.SwapDev.image c.finish.new.swap in
     let waits : NoneMade old next i h × (is_flying (state_of old.kernel.place q) ≡ true) =
     subst (λ (u : Came). ComesTo u q old next holds i h) c.in-Waits.is c.in-Ok.ensures.made in
-    end_stops_now c.args.locked.now q old next c.finish.new.m i h j c.in-Err-finish.stop waits.0 waits.1 c.in-Err-finish.ensures.made
+    end_stops_now c.args.locked.now q old next c.finish.new.m holds i h j c.in-Err-finish.stop waits.0 waits.1 c.in-Err-finish.ensures.made
 
 pub returns-in-Ok-make_room-clause-made : goal.returns-in-Ok-make_room-clause-made
 returns-in-Ok-make_room-clause-made g c =
@@ -84,10 +84,11 @@ returns-in-Err-make_room-clause-made g c =
     let old = c.args.m.now in
     let next = c.serve_unit.new.m in
     let holds = g.F.Files.holds c.args.files.now in
+    let later = g.F.Files.holds c.serve_unit.new.files in
     let i = g.D.SwapDev.image c.args.swap.now in
     let h = g.D.SwapDev.image c.serve_unit.new.swap in
     let j = g.D.SwapDev.image c.make_room.new.swap in
     let starves : NoneMade old next i h × NeedsFrame old.kernel.place q =
     subst (λ (u : Came). ComesTo u q old next holds i h) c.in-Starves.is c.in-Ok.ensures.made in
-    room_stops c.args.locked.now q old next c.make_room.new.m i h j c.in-Err-make_room.stop starves.0 c.sound.ensures.sound.owner.frames starves.1
+    room_stops c.args.locked.now q old next c.make_room.new.m holds later i h j c.in-Err-make_room.stop starves.0 c.in-Ok.ensures.holds c.sound.ensures.sound.owner.frames starves.1
     c.in-Err-make_room.ensures.stopped
