@@ -8,3 +8,4 @@ pub mod Calling
 pub mod Stepping
 pub mod Acting
 pub mod Moving
+pub mod Swapping

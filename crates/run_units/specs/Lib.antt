@@ -6,3 +6,4 @@ pub mod Touching
 pub mod Stepping
 pub mod Acting
 pub mod Moving
+pub mod Swapping

@@ -7,6 +7,7 @@ ghost use Rattle.paging_units.specs.Made.{Ground, MadeBy, ImageBy};
 ghost use Rattle.run_units.specs.Leads.{HasImages, KeepsLocked, MadeAs, Leads};
 ghost use Rattle.run_units.specs.Acting.{StepBegins, StepIsRefused, RefusedStepComes, ReplyComes};
 ghost use Rattle.run_units.specs.Filling.{ForcingIsNext, ForcedNext, FillIsNext, BringingIsNext, BroughtNext};
+ghost use Rattle.run_units.specs.Swapping.{PuttingIsNext, PutNext, OutIsMade, InIsMade, NoteIsMade, LineAsks, LineComes, TurnComes};
 ghost use Rattle.run_units.specs.Touching.{MissIsWanted, NoMissIsReady, CallsWriteNothing, CallMissIsWanted, CallIsReady};
 ghost use Rattle.run_units.specs.Stepping.{ActIsNext, StepIsMade, RanIsMade};
 ghost use Rattle.run_units.specs.Moving.{MovingIsNext, MoveNext, MovesEnd};
@@ -89,4 +90,22 @@ pub fn moving_is_next()
     ensures units { MovingIsNext }
     ensures next { MoveNext }
     ensures ends { MovesEnd }
+{}
+
+/// Under a line by which the swapper puts a process out each unit that does so is the next unit of the run, and the last is the one
+/// by which it goes out, with its registers in its u page. One that comes in has the registers that its u page holds.
+pub fn swapping_is_next()
+    ensures units { PuttingIsNext }
+    ensures next { PutNext }
+    ensures out { OutIsMade }
+    ensures comes { InIsMade }
+{}
+
+/// What a line asks for first comes next, and once the last mark is over the next line, or behind the last line a turn. Entries
+/// that go into the journal alone are units of the run.
+pub fn marks_come()
+    ensures asks { LineAsks }
+    ensures lines { LineComes }
+    ensures turns { TurnComes }
+    ensures notes { NoteIsMade }
 {}

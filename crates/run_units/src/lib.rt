@@ -6,6 +6,6 @@
 mod laws;
 
 pub use laws::{
-    accesses_tell_pages, filling_is_next, moving_is_next, serving_is_next, settling_is_next,
-    steps_are_made, units_are_next,
+    accesses_tell_pages, filling_is_next, marks_come, moving_is_next, serving_is_next,
+    settling_is_next, steps_are_made, swapping_is_next, units_are_next,
 };
