@@ -12,22 +12,33 @@ use Rattle.swap_book.specs.Holdings.{Holdings}
 use Rattle.swap_book.specs.Placing.{Wanted, place_all}
 use Rattle.flat_state.specs.declared.spot.Spot.{Spot}
 use Rattle.flat_state.specs.declared.spot.Spot.TheVariants as spots
-use Rattle.flat_state.specs.Space.{Space, address_in, spot_at}
+use Rattle.flat_state.specs.Space.{Space, address_in, spot_at, answers_of, puts}
 use Rattle.flat_state.specs.Flat.{Holding, Holds, Lends, Zombie, Process, FlatState, Inputs, process_of}
 use Rattle.flat_state.specs.Change.{is_borrower}
 use Rattle.flat_state.specs.declared.change.Change.{Change}
 use Rattle.page_model.specs.Placement.{Placement, image_of, slots_of, state_of}
-use Rattle.page_model.specs.Place.{facts_of}
+use Rattle.page_model.specs.Place.{facts_of, space_of_holding}
+use Rattle.page_model.specs.Swapper.{is_out}
 use Rattle.page_model.specs.Moves.{touch}
-use Rattle.kernel_model.specs.Kernel.{Kernel, write_step}
+use Rattle.kernel_model.specs.Kernel.{Kernel, Proc, write_step}
+use Rattle.kernel_model.specs.Coupled.{KeepsRegs}
 use Rattle.kernel_model.specs.ChangeStep.{ran_by}
 use Rattle.kernel_model.specs.Asks.{asked}
-use Rattle.kernel_model.specs.Unit.{has_lender, passing_change}
+use Rattle.kernel_model.specs.Unit.{has_lender, passing_change, proc_of}
 use Rattle.kernel_laws.proofs.Kept.Borrowed.{borrows_is}
+use Rattle.kernel_laws.proofs.Machine.Swaps.{found_at}
 use Rattle.kernel_laws.proofs.Machine.Shapes.{Shaped, touch_shaped, sizes_kept, image_kept}
 use Rattle.machine_state.specs.UserMemory.{bytes_of, text_len, data_len, stack_len, spot_in, write_by_state, write_page, write_spot, write_in, writes_in}
-use Rattle.flat_model.specs.Step.{Step}
-use Rattle.flat_model.specs.Run.{step_at}
+use Rattle.user_vax.specs.Program.{run}
+use Rattle.user_vax.specs.Effects.{Effect}
+use Rattle.user_vax.specs.declared.refused.Refused.{Refused}
+use Rattle.flat_model.specs.Instruction.{instruction_in}
+use Rattle.flat_model.specs.declared.calls.Reply.{Reply}
+use Rattle.flat_model.specs.declared.calls.SystemCall.{SystemCall}
+use Rattle.flat_model.specs.Calls.{or_fault, refused_reply}
+use Rattle.flat_model.specs.Step.{Step, reply_asked, replied_step, called_step, step_behind, step_of, step_holding, step_if, flat_step}
+use Rattle.flat_model.specs.Run.{step_at, is_refused}
+use Rattle.flat_laws.specs.Shown.{IsCallOf}
 use Rattle.flat_model.specs.Asked.{or_before, with_pieces, wanted_if, wanted_in, change_wanted}
 use Rattle.flat_model.specs.Touched.{page_tested}
 use Rattle.flat_laws.proofs.Asking.{change_same}
@@ -35,7 +46,7 @@ use Rattle.run_model.specs.State.{State}
 use Rattle.run_laws.specs.Machine.{place_in, write_into, write_page as write_tested, write_byte, write_bytes, write_held, write_by, takes_step, written_step, taken_step, process_step, ran_step, unit_step, Completes}
 use Rattle.run_units.specs.Leads.{MadeAs}
 use Rattle.run_units.specs.Serving.{At}
-use Rattle.run_units.specs.Touching.{IsRunning}
+use Rattle.run_units.specs.Touching.{IsRunning, IsReadyFor, IsCalledFor}
 use Rattle.run_units.specs.Stepping.{with_holdings}
 use Rattle.run_units.proofs.Touching.{SameSpots}
 use Rattle.run_units.proofs.Instructing.{same_spots}
@@ -163,3 +174,34 @@ ran_made A s k l image pid now p x step at r e m =
     let whole : ran_step A s k pid 1 ≡ ran_by (writes_in k x.sid step.writes) pid step.regs (entries.Ran pid 1) =
     ap (λ (z : Step). ran_by (written_step A s k pid) pid z.regs (entries.Ran pid 1)) e ∙ ap (λ (y : Kernel). ran_by y pid step.regs (entries.Ran pid 1)) written in
     record { read = []; given = tt; made = m ∙ sym whole; told = refl }
+
+-- The step that comes.
+
+held : (A : Inputs) (s : State) (pid : ℕ) (p : Process) (x : Space) (r : Result Effect Refused) → process_of s.point.flat pid ≡ Some p → p.holding ≡ Holds x → instruction_in x p.regs ≡ r
+    → step_at A s.point pid ≡ step_of A.images s.point.flat p x (is_refused s.point.last pid) r
+unfolding flat_step
+held A s pid p x r here holds same =
+    let refused : Bool = is_refused s.point.last pid in
+    ap (step_if A.images s.point.flat refused) here ∙ ap (step_holding A.images s.point.flat p refused) holds ∙ ap (step_of A.images s.point.flat p x refused) same
+
+pub step_known : (A : Inputs) (s : State) (pid : ℕ) (now : Bool) (p : Process) (x : Space) (r : Result Effect Refused) → IsRunning A s pid now p x → IsReadyFor A s p x r
+    → step_at A s.point pid ≡ step_of A.images s.point.flat p x (is_refused s.point.last pid) r
+step_known A s pid now p x r i h = held A s pid p x r i.here i.holds h.same
+
+pub call_known : (A : Inputs) (s : State) (pid : ℕ) (now : Bool) (p : Process) (x : Space) (effect : Effect) (call : SystemCall) (r : Result Reply Refused) → IsRunning A s pid now p x
+    → IsCallOf effect call → IsCalledFor A s p x call effect r
+    → step_at A s.point pid ≡ replied_step A.images s.point.flat p call effect (refused_reply (is_refused s.point.last pid) (or_fault r))
+call_known A s pid now p x effect call r i c h =
+    let F : FlatState = s.point.flat in
+    let refused : Bool = is_refused s.point.last pid in
+    held A s pid p x (Ok effect) i.here i.holds h.same ∙ ap (step_behind A.images F p x refused effect) c.is_number ∙ ap (called_step A.images F p x refused effect) c.names
+    ∙ ap (λ (ws : List ByteWrite). replied_step A.images F p call effect (refused_reply refused (or_fault (run (answers_of (puts x ws)) (reply_asked A.images F p x call effect))))) h.writes
+    ∙ ap (λ (z : Result Reply Refused). replied_step A.images F p call effect (refused_reply refused (or_fault z))) h.replies
+
+pub record_registers : (A : Inputs) (s : State) (k : Kernel) (image : List ℕ) (pid : ℕ) (now : Bool) (p : Process) (x : Space) (kept : Proc) → At A s k image
+    → IsRunning A s pid now p x → proc_of k pid ≡ Some kept → kept.regs ≡ p.regs
+record_registers A s k image pid now p x kept at i e =
+    let number : p.pid ≡ pid = (found_at s.point.flat pid p i.here).0 in
+    let resident : is_out k.place p.pid ≡ false = ap (is_out k.place) number ∙ ap (λ (y : Placement). is_out y pid) at.stands.place ∙ i.runs.resident in
+    let regs = at.stands.keeps.coupled.regs p kept (ap (process_of s.point.flat) number ∙ i.here) (ap (proc_of k) number ∙ e) in
+    subst (λ (b : Bool). KeepsRegs k image b p kept.regs (space_of_holding p.holding)) resident regs

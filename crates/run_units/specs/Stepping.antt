@@ -1,5 +1,5 @@
 -- The steps of processes, as a machine makes them.
-use Rattle.std.specs.Prelude.{◌≡◌, ℕ, Bool, List, [], ◌∷◌, Option, Some, None, Ok}
+use Rattle.std.specs.Prelude.{◌≡◌, ℕ, Bool, List, [], ◌∷◌, Option, Some, None, Result, Ok}
 use Rattle.vm_facts.specs.declared.entry.Entry.{Entry}
 use Rattle.vm_facts.specs.declared.entry.Entry.TheVariants as entries
 use Rattle.vm_facts.specs.declared.regs.Regs.{Regs}
@@ -9,13 +9,19 @@ use Rattle.flat_state.specs.Space.{Space}
 use Rattle.flat_state.specs.Flat.{Process, Inputs}
 use Rattle.flat_state.specs.declared.change.Change.{Change}
 use Rattle.page_model.specs.Place.{facts_of}
-use Rattle.kernel_model.specs.Kernel.{Kernel}
+use Rattle.kernel_model.specs.Kernel.{Kernel, Proc}
 use Rattle.kernel_model.specs.ChangeStep.{ran_by}
 use Rattle.kernel_model.specs.Asks.{asked}
-use Rattle.kernel_model.specs.Unit.{has_lender, passing_change}
+use Rattle.kernel_model.specs.Unit.{has_lender, passing_change, proc_of}
 use Rattle.machine_state.specs.UserMemory.{writes_in}
-use Rattle.flat_model.specs.Step.{Step}
-use Rattle.flat_model.specs.Run.{step_at}
+use Rattle.user_vax.specs.Effects.{Effect}
+use Rattle.user_vax.specs.declared.refused.Refused.{Refused}
+use Rattle.flat_model.specs.declared.calls.Reply.{Reply}
+use Rattle.flat_model.specs.declared.calls.SystemCall.{SystemCall}
+use Rattle.flat_model.specs.Calls.{or_fault, refused_reply}
+use Rattle.flat_model.specs.Step.{Step, step_of, replied_step}
+use Rattle.flat_model.specs.Run.{step_at, is_refused}
+use Rattle.flat_laws.specs.Shown.{IsCallOf}
 use Rattle.run_model.specs.State.{State}
 use Rattle.run_model.specs.Wanted.{wanted}
 use Rattle.run_model.specs.Act.{act}
@@ -24,7 +30,7 @@ use Rattle.run_model.specs.Kinds.{Runs}
 use Rattle.run_laws.specs.Machine.{Completes}
 use Rattle.run_units.specs.Leads.{MadeAs}
 use Rattle.run_units.specs.Serving.{At}
-use Rattle.run_units.specs.Touching.{IsRunning}
+use Rattle.run_units.specs.Touching.{IsRunning, IsReadyFor, IsCalledFor}
 
 -- what a process does next is the next unit of the run, once it waits for no page
 abbrev pub ActIsNext : Type 0
@@ -52,3 +58,23 @@ RanIsMade =
     → At A s k image → IsRunning A s pid now p x → step_at A s.point pid ≡ step
     → l ≡ ran_by (writes_in k x.sid step.writes) pid step.regs (entries.Ran pid 1)
     → MadeAs A s k image (entries.Ran pid 1) l (Some image)
+
+-- The step of a process by what its instruction comes to over the frames of the machine.
+abbrev pub StepIsKnown : Type 0
+StepIsKnown =
+    (A : Inputs) (s : State) (pid : ℕ) (now : Bool) (p : Process) (x : Space) (r : Result Effect Refused)
+    → IsRunning A s pid now p x → IsReadyFor A s p x r
+    → step_at A s.point pid ≡ step_of A.images s.point.flat p x (is_refused s.point.last pid) r
+
+-- The step of a process by what its call comes to over the frames of the machine.
+abbrev pub CallIsKnown : Type 0
+CallIsKnown =
+    (A : Inputs) (s : State) (pid : ℕ) (now : Bool) (p : Process) (x : Space) (effect : Effect) (call : SystemCall) (r : Result Reply Refused)
+    → IsRunning A s pid now p x → IsCallOf effect call → IsCalledFor A s p x call effect r
+    → step_at A s.point pid ≡ replied_step A.images s.point.flat p call effect (refused_reply (is_refused s.point.last pid) (or_fault r))
+
+-- The registers with which a process runs are those of its record.
+abbrev pub RecordHasRegisters : Type 0
+RecordHasRegisters =
+    (A : Inputs) (s : State) (k : Kernel) (image : List ℕ) (pid : ℕ) (now : Bool) (p : Process) (x : Space) (kept : Proc)
+    → At A s k image → IsRunning A s pid now p x → proc_of k pid ≡ Some kept → kept.regs ≡ p.regs

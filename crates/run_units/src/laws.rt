@@ -9,7 +9,7 @@ ghost use Rattle.run_units.specs.Acting.{StepBegins, StepIsRefused, RefusedStepC
 ghost use Rattle.run_units.specs.Filling.{ForcingIsNext, ForcedNext, FillIsNext, BringingIsNext, BroughtNext};
 ghost use Rattle.run_units.specs.Swapping.{PuttingIsNext, PutNext, OutIsMade, InIsMade, NoteIsMade, LineAsks, LineComes, TurnComes};
 ghost use Rattle.run_units.specs.Touching.{MissIsWanted, NoMissIsReady, CallsWriteNothing, CallMissIsWanted, CallIsReady};
-ghost use Rattle.run_units.specs.Stepping.{ActIsNext, StepIsMade, RanIsMade};
+ghost use Rattle.run_units.specs.Stepping.{ActIsNext, StepIsMade, RanIsMade, StepIsKnown, CallIsKnown, RecordHasRegisters};
 ghost use Rattle.run_units.specs.Moving.{MovingIsNext, MoveNext, MovesEnd};
 ghost use Rattle.run_units.specs.Settling.{SettlingIsNext, SettledNext};
 ghost use Rattle.run_units.specs.Serving.{At, ServingIsNext, ServedNext};
@@ -67,11 +67,15 @@ pub fn accesses_tell_pages()
 
 /// What a process does, once it waits for no page, is the next unit of the run. A machine makes it: an entry of the process with
 /// the change of its step, once the pieces that the change asks for were found; and an instruction whose bytes were written and
-/// which was counted.
+/// which was counted. The step is the one that its instruction and its call come to over the frames of the machine, with the
+/// registers of the record.
 pub fn steps_are_made()
     ensures acts { ActIsNext }
     ensures steps { StepIsMade }
     ensures ran { RanIsMade }
+    ensures known { StepIsKnown }
+    ensures called { CallIsKnown }
+    ensures registers { RecordHasRegisters }
 {}
 
 /// What a process does next follows from its step: its first entry, once its pieces find their places and no space has to settle;

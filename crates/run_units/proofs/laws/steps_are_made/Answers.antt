@@ -1,5 +1,5 @@
 use Rattle.run_laws.proofs.Flows.{runs_next}
-use Rattle.run_units.proofs.Stepping.{step_made, ran_made}
+use Rattle.run_units.proofs.Stepping.{step_made, ran_made, step_known, call_known, record_registers}
 use Rattle.run_units.proofs.laws.steps_are_made.Goals as goal
 
 pub returns-clause-acts : goal.returns-clause-acts
@@ -10,3 +10,12 @@ returns-clause-steps c = step_made
 
 pub returns-clause-ran : goal.returns-clause-ran
 returns-clause-ran c = ran_made
+
+pub returns-clause-known : goal.returns-clause-known
+returns-clause-known c = step_known
+
+pub returns-clause-called : goal.returns-clause-called
+returns-clause-called c = call_known
+
+pub returns-clause-registers : goal.returns-clause-registers
+returns-clause-registers c = record_registers
