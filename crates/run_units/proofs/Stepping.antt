@@ -13,16 +13,18 @@ use Rattle.swap_book.specs.Placing.{Wanted, place_all}
 use Rattle.flat_state.specs.declared.spot.Spot.{Spot}
 use Rattle.flat_state.specs.declared.spot.Spot.TheVariants as spots
 use Rattle.flat_state.specs.Space.{Space, address_in, spot_at, answers_of, puts}
-use Rattle.flat_state.specs.Flat.{Holding, Holds, Lends, Zombie, Process, FlatState, Inputs, process_of}
+use Rattle.flat_state.specs.Flat.{Holding, Holds, Lends, Zombie, Process, FlatState, NamedImage, Inputs, process_of}
 use Rattle.flat_state.specs.Change.{is_borrower}
 use Rattle.flat_state.specs.declared.change.Change.{Change}
-use Rattle.page_model.specs.Placement.{Placement, image_of, slots_of, state_of}
-use Rattle.page_model.specs.Place.{facts_of, space_of_holding}
+use Rattle.flat_state.specs.declared.change.Change.TheVariants as changes
+use Rattle.page_model.specs.Pages.{numbered}
+use Rattle.page_model.specs.Placement.{Placement, space_number, image_of, slots_of, state_of}
+use Rattle.page_model.specs.Place.{facts_of, space_of_holding, data_count, stack_count}
 use Rattle.page_model.specs.Swapper.{is_out}
 use Rattle.page_model.specs.Moves.{touch}
 use Rattle.kernel_model.specs.Kernel.{Kernel, Proc, write_step}
-use Rattle.kernel_model.specs.Coupled.{KeepsRegs}
-use Rattle.kernel_model.specs.ChangeStep.{ran_by}
+use Rattle.kernel_model.specs.Coupled.{Fits, KeepsRegs}
+use Rattle.kernel_model.specs.ChangeStep.{ran_by, change_step}
 use Rattle.kernel_model.specs.Asks.{asked}
 use Rattle.kernel_model.specs.Unit.{has_lender, passing_change, proc_of}
 use Rattle.kernel_laws.proofs.Kept.Borrowed.{borrows_is}
@@ -35,19 +37,26 @@ use Rattle.user_vax.specs.declared.refused.Refused.{Refused}
 use Rattle.flat_model.specs.Instruction.{instruction_in}
 use Rattle.flat_model.specs.declared.calls.Reply.{Reply}
 use Rattle.flat_model.specs.declared.calls.SystemCall.{SystemCall}
-use Rattle.flat_model.specs.Calls.{or_fault, refused_reply}
-use Rattle.flat_model.specs.Step.{Step, reply_asked, replied_step, called_step, step_behind, step_of, step_holding, step_if, flat_step}
+use Rattle.flat_model.specs.Calls.{or_fault, refused_reply, stack_pages_of}
+use Rattle.flat_model.specs.Step.{Step, data_pages_of, reply_asked, replied_step, called_step, step_behind, step_of, step_holding, step_if, flat_step}
 use Rattle.flat_model.specs.Run.{step_at, is_refused}
 use Rattle.flat_laws.specs.Shown.{IsCallOf}
 use Rattle.flat_model.specs.Asked.{or_before, with_pieces, wanted_if, wanted_in, change_wanted}
 use Rattle.flat_model.specs.Touched.{page_tested}
-use Rattle.flat_laws.proofs.Asking.{change_same}
+use Rattle.flat_laws.proofs.Asking.{own_space, data_counted, stack_counted, change_same}
 use Rattle.run_model.specs.State.{State}
 use Rattle.run_laws.specs.Machine.{place_in, write_into, write_page as write_tested, write_byte, write_bytes, write_held, write_by, takes_step, written_step, taken_step, process_step, ran_step, unit_step, Completes}
-use Rattle.run_units.specs.Leads.{MadeAs}
+use Rattle.io_edge.specs.FileHolding.{NamedFile}
+use Rattle.aout_image.specs.declared.Image.{Image}
+use Rattle.aout_image.specs.Image.{Loaded, loaded}
+use Rattle.machine_state.specs.Sourced.{ImageNamed}
+use Rattle.machine_state.specs.Files.{AreLoaded, AreImages}
+use Rattle.machine_state.specs.Applying.{facts_named}
+use Rattle.paging_units.specs.Made.{Ground}
+use Rattle.run_units.specs.Leads.{HasImages, MadeAs}
 use Rattle.run_units.specs.Serving.{At}
 use Rattle.run_units.specs.Touching.{IsRunning, IsReadyFor, IsCalledFor}
-use Rattle.run_units.specs.Stepping.{with_holdings}
+use Rattle.run_units.specs.Stepping.{with_holdings, PassesNone}
 use Rattle.run_units.proofs.Touching.{SameSpots}
 use Rattle.run_units.proofs.Instructing.{same_spots}
 
@@ -205,3 +214,54 @@ record_registers A s k image pid now p x kept at i e =
     let resident : is_out k.place p.pid ≡ false = ap (is_out k.place) number ∙ ap (λ (y : Placement). is_out y pid) at.stands.place ∙ i.runs.resident in
     let regs = at.stands.keeps.coupled.regs p kept (ap (process_of s.point.flat) number ∙ i.here) (ap (proc_of k) number ∙ e) in
     subst (λ (b : Bool). KeepsRegs k image b p kept.regs (space_of_holding p.holding)) resident regs
+
+-- A change with which no space passes.
+
+plain_change : (b : Bool) (images : List Image) (k : Kernel) (pid : ℕ) (regs : Regs) (e : Entry) (change : Change) → PassesNone change
+    → change_step images k pid regs e change ≡ passing_change b images k pid regs e change
+plain_change true images k pid regs e changes.Keep h = refl
+plain_change false images k pid regs e changes.Keep h = refl
+plain_change true images k pid regs e (changes.Resize d t) h = refl
+plain_change false images k pid regs e (changes.Resize d t) h = refl
+plain_change true images k pid regs e (changes.Fork child) h = refl
+plain_change false images k pid regs e (changes.Fork child) h = refl
+plain_change true images k pid regs e (changes.Reap child) h = refl
+plain_change false images k pid regs e (changes.Reap child) h = refl
+plain_change true images k pid regs e changes.Sleep h = refl
+plain_change false images k pid regs e changes.Sleep h = refl
+plain_change b images k pid regs e _ h = absurd h
+
+pub plain_made : (A : Inputs) (s : State) (k l : Kernel) (image : List ℕ) (pid : ℕ) (now : Bool) (p : Process) (x : Space) (u : Entry) (step : Step) (found : Holdings)
+    → At A s k image → IsRunning A s pid now p x → Completes pid u → step_at A s.point pid ≡ step → step.writes ≡ [] → PassesNone step.change
+    → place_all A.swap_blocks k.holdings (asked (facts_of A.images) k pid step.change) ≡ Ok found
+    → l ≡ change_step (facts_of A.images) (with_holdings k found) pid step.regs u step.change → MadeAs A s k image u l (Some image)
+plain_made A s k l image pid now p x u step found at r c e w n f m =
+    step_made A s k l image pid now p x u step found at r c e w f
+    (m ∙ plain_change (has_lender k.processes pid) (facts_of A.images) (with_holdings k found) pid step.regs u step.change n)
+
+pub none_asked : (size : ℕ) (k : Kernel) → (place_all size k.holdings [] ≡ Ok k.holdings) × (with_holdings k k.holdings ≡ k)
+unfolding place_all
+none_asked size k = (refl, refl)
+
+loaded_facts : (ns : List ImageNamed) (files : List NamedFile) (images : List NamedImage) → AreLoaded ns files images → facts_named ns ≡ facts_of images
+unfolding loaded
+loaded_facts [] files [] h = refl
+loaded_facts [] files (y ∷ ys) h = absurd h
+loaded_facts (n ∷ ns) files [] h = absurd h
+loaded_facts (n ∷ ns) files (y ∷ ys) h =
+    ap (λ (fs : List Image). n.facts ∷ fs) (loaded_facts ns files ys h.1) ∙ ap (λ (z : Loaded). z.facts ∷ facts_of ys) (sym h.0)
+
+pub headers_agree : (A : Inputs) (g : Ground) → HasImages g A → facts_named g.from.images ≡ facts_of A.images
+headers_agree A g h = go g.from.files h
+  where
+    go : (o : Option (List NamedFile)) → AreImages g.from.images o A.images → facts_named g.from.images ≡ facts_of A.images
+    go None x = absurd x
+    go (Some files) x = loaded_facts g.from.images files A.images x
+
+pub growth_counts : (A : Inputs) (s : State) (k : Kernel) (image : List ℕ) (pid : ℕ) (now : Bool) (p : Process) (x : Space) → At A s k image → IsRunning A s pid now p x
+    → (data_count k.place x.sid ≡ data_pages_of x) × (stack_count k.place x.sid ≡ stack_pages_of x)
+growth_counts A s k image pid now p x at r =
+    let own = own_space s.point.flat pid p x at.run.numbers r.here r.holds in
+    let fits : Fits (Some x) (numbered space_number x.sid k.place.spaces) =
+    subst (λ (o : Option Space). Fits o (numbered space_number x.sid k.place.spaces)) own (at.stands.keeps.coupled.tables.spaces x.sid) in
+    (data_counted x (numbered space_number x.sid k.place.spaces) fits, stack_counted x (numbered space_number x.sid k.place.spaces) fits)

@@ -8,18 +8,21 @@ use Rattle.swap_book.specs.Placing.{place_all}
 use Rattle.flat_state.specs.Space.{Space}
 use Rattle.flat_state.specs.Flat.{Process, Inputs}
 use Rattle.flat_state.specs.declared.change.Change.{Change}
-use Rattle.page_model.specs.Place.{facts_of}
+use Rattle.flat_state.specs.declared.change.Change.TheVariants as changes
+use Rattle.page_model.specs.Place.{facts_of, data_count, stack_count}
 use Rattle.kernel_model.specs.Kernel.{Kernel, Proc}
-use Rattle.kernel_model.specs.ChangeStep.{ran_by}
+use Rattle.kernel_model.specs.ChangeStep.{ran_by, change_step}
 use Rattle.kernel_model.specs.Asks.{asked}
 use Rattle.kernel_model.specs.Unit.{has_lender, passing_change, proc_of}
+use Rattle.machine_state.specs.Applying.{facts_named}
 use Rattle.machine_state.specs.UserMemory.{writes_in}
+use Rattle.paging_units.specs.Made.{Ground}
 use Rattle.user_vax.specs.Effects.{Effect}
 use Rattle.user_vax.specs.declared.refused.Refused.{Refused}
 use Rattle.flat_model.specs.declared.calls.Reply.{Reply}
 use Rattle.flat_model.specs.declared.calls.SystemCall.{SystemCall}
-use Rattle.flat_model.specs.Calls.{or_fault, refused_reply}
-use Rattle.flat_model.specs.Step.{Step, step_of, replied_step}
+use Rattle.flat_model.specs.Calls.{or_fault, refused_reply, stack_pages_of}
+use Rattle.flat_model.specs.Step.{Step, step_of, replied_step, data_pages_of}
 use Rattle.flat_model.specs.Run.{step_at, is_refused}
 use Rattle.flat_laws.specs.Shown.{IsCallOf}
 use Rattle.run_model.specs.State.{State}
@@ -28,7 +31,7 @@ use Rattle.run_model.specs.Act.{act}
 use Rattle.run_model.specs.Next.{next_unit}
 use Rattle.run_model.specs.Kinds.{Runs}
 use Rattle.run_laws.specs.Machine.{Completes}
-use Rattle.run_units.specs.Leads.{MadeAs}
+use Rattle.run_units.specs.Leads.{HasImages, MadeAs}
 use Rattle.run_units.specs.Serving.{At}
 use Rattle.run_units.specs.Touching.{IsRunning, IsReadyFor, IsCalledFor}
 
@@ -78,3 +81,35 @@ abbrev pub RecordHasRegisters : Type 0
 RecordHasRegisters =
     (A : Inputs) (s : State) (k : Kernel) (image : List ℕ) (pid : ℕ) (now : Bool) (p : Process) (x : Space) (kept : Proc)
     → At A s k image → IsRunning A s pid now p x → proc_of k pid ≡ Some kept → kept.regs ≡ p.regs
+
+-- no space passes with the change
+abbrev pub PassesNone : Change → Type 0
+PassesNone changes.Keep = Unit {0}
+PassesNone (changes.Resize data_pages stack_pages) = Unit {0}
+PassesNone (changes.Fork child) = Unit {0}
+PassesNone (changes.Reap child) = Unit {0}
+PassesNone changes.Sleep = Unit {0}
+PassesNone _ = ⊥
+
+-- then the change is that of the machine's own call
+abbrev pub PlainStepIsMade : Type 0
+PlainStepIsMade =
+    (A : Inputs) (s : State) (k l : Kernel) (image : List ℕ) (pid : ℕ) (now : Bool) (p : Process) (x : Space) (u : Entry) (step : Step) (found : Holdings)
+    → At A s k image → IsRunning A s pid now p x → Completes pid u → step_at A s.point pid ≡ step → step.writes ≡ [] → PassesNone step.change
+    → place_all A.swap_blocks k.holdings (asked (facts_of A.images) k pid step.change) ≡ Ok found
+    → l ≡ change_step (facts_of A.images) (with_holdings k found) pid step.regs u step.change
+    → MadeAs A s k image u l (Some image)
+
+-- a change that asks for no pieces leaves those that are held
+abbrev pub NoneAskedIsFound : Type 0
+NoneAskedIsFound = (size : ℕ) (k : Kernel) → (place_all size k.holdings [] ≡ Ok k.holdings) × (with_holdings k k.holdings ≡ k)
+
+-- the images of a machine have the headers of the run's
+abbrev pub HeadersAgree : Type 0
+HeadersAgree = (A : Inputs) (g : Ground) → HasImages g A → facts_named g.from.images ≡ facts_of A.images
+
+-- growth counts the pages of data that the flat space has
+abbrev pub GrowthCounts : Type 0
+GrowthCounts =
+    (A : Inputs) (s : State) (k : Kernel) (image : List ℕ) (pid : ℕ) (now : Bool) (p : Process) (x : Space)
+    → At A s k image → IsRunning A s pid now p x → (data_count k.place x.sid ≡ data_pages_of x) × (stack_count k.place x.sid ≡ stack_pages_of x)

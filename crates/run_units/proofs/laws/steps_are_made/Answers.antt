@@ -1,5 +1,5 @@
 use Rattle.run_laws.proofs.Flows.{runs_next}
-use Rattle.run_units.proofs.Stepping.{step_made, ran_made, step_known, call_known, record_registers}
+use Rattle.run_units.proofs.Stepping.{step_made, plain_made, ran_made, step_known, call_known, record_registers, none_asked, headers_agree, growth_counts}
 use Rattle.run_units.proofs.laws.steps_are_made.Goals as goal
 
 pub returns-clause-acts : goal.returns-clause-acts
@@ -19,3 +19,15 @@ returns-clause-called c = call_known
 
 pub returns-clause-registers : goal.returns-clause-registers
 returns-clause-registers c = record_registers
+
+pub returns-clause-plain : goal.returns-clause-plain
+returns-clause-plain c = plain_made
+
+pub returns-clause-none_asked : goal.returns-clause-none_asked
+returns-clause-none_asked c = none_asked
+
+pub returns-clause-headers : goal.returns-clause-headers
+returns-clause-headers c = headers_agree
+
+pub returns-clause-counts : goal.returns-clause-counts
+returns-clause-counts c = growth_counts
