@@ -24,7 +24,7 @@ use Rattle.page_model.specs.Swapper.{is_out}
 use Rattle.page_model.specs.Moves.{touch}
 use Rattle.kernel_model.specs.Kernel.{Kernel, Proc, write_step}
 use Rattle.kernel_model.specs.Coupled.{Fits, KeepsRegs}
-use Rattle.kernel_model.specs.ChangeStep.{ran_by, change_step}
+use Rattle.kernel_model.specs.ChangeStep.{ran_by, change_step, pass_step}
 use Rattle.kernel_model.specs.Asks.{asked}
 use Rattle.kernel_model.specs.Unit.{has_lender, passing_change, proc_of}
 use Rattle.kernel_laws.proofs.Kept.Borrowed.{borrows_is}
@@ -56,7 +56,7 @@ use Rattle.paging_units.specs.Made.{Ground}
 use Rattle.run_units.specs.Leads.{HasImages, MadeAs}
 use Rattle.run_units.specs.Serving.{At}
 use Rattle.run_units.specs.Touching.{IsRunning, IsReadyFor, IsCalledFor}
-use Rattle.run_units.specs.Stepping.{with_holdings, PassesNone}
+use Rattle.run_units.specs.Stepping.{with_holdings, PassesNone, GivesBack, returned}
 use Rattle.run_units.proofs.Touching.{SameSpots}
 use Rattle.run_units.proofs.Instructing.{same_spots}
 
@@ -238,6 +238,40 @@ pub plain_made : (A : Inputs) (s : State) (k l : Kernel) (image : List ℕ) (pid
 plain_made A s k l image pid now p x u step found at r c e w n f m =
     step_made A s k l image pid now p x u step found at r c e w f
     (m ∙ plain_change (has_lender k.processes pid) (facts_of A.images) (with_holdings k found) pid step.regs u step.change n)
+
+-- A change before which a borrowed space goes back.
+
+back_change : (b : Bool) (images : List Image) (k : Kernel) (found : Holdings) (pid : ℕ) (regs : Regs) (e : Entry) (change : Change) → GivesBack change
+    → change_step images (with_holdings (returned b k pid) found) pid regs e change ≡ passing_change b images (with_holdings k found) pid regs e change
+back_change true images k found pid regs e (changes.Exec number top) h = refl
+back_change false images k found pid regs e (changes.Exec number top) h = refl
+back_change true images k found pid regs e (changes.End status) h = refl
+back_change false images k found pid regs e (changes.End status) h = refl
+back_change b images k found pid regs e _ h = absurd h
+
+pub returning_made : (A : Inputs) (s : State) (k l : Kernel) (image : List ℕ) (pid : ℕ) (now : Bool) (p : Process) (x : Space) (u : Entry) (step : Step) (found : Holdings)
+    → At A s k image → IsRunning A s pid now p x → Completes pid u → step_at A s.point pid ≡ step → step.writes ≡ [] → GivesBack step.change
+    → place_all A.swap_blocks k.holdings (asked (facts_of A.images) k pid step.change) ≡ Ok found
+    → l ≡ change_step (facts_of A.images) (with_holdings (returned (has_lender k.processes pid) k pid) found) pid step.regs u step.change → MadeAs A s k image u l (Some image)
+returning_made A s k l image pid now p x u step found at r c e w n f m =
+    step_made A s k l image pid now p x u step found at r c e w f
+    (m ∙ back_change (has_lender k.processes pid) (facts_of A.images) k found pid step.regs u step.change n)
+
+-- A change behind which a space is lent.
+
+lent_change : (b : Bool) (images : List Image) (k : Kernel) (pid : ℕ) (regs : Regs) (e : Entry) (child : ℕ)
+    → pass_step (change_step images k pid regs e (changes.Lend child)) pid child ≡ passing_change b images k pid regs e (changes.Lend child)
+lent_change true images k pid regs e child = refl
+lent_change false images k pid regs e child = refl
+
+pub lending_made : (A : Inputs) (s : State) (k l : Kernel) (image : List ℕ) (pid : ℕ) (now : Bool) (p : Process) (x : Space) (u : Entry) (step : Step) (found : Holdings) (child : ℕ)
+    → At A s k image → IsRunning A s pid now p x → Completes pid u → step_at A s.point pid ≡ step → step.writes ≡ [] → step.change ≡ changes.Lend child
+    → place_all A.swap_blocks k.holdings (asked (facts_of A.images) k pid step.change) ≡ Ok found
+    → l ≡ pass_step (change_step (facts_of A.images) (with_holdings k found) pid step.regs u (changes.Lend child)) pid child → MadeAs A s k image u l (Some image)
+lending_made A s k l image pid now p x u step found child at r c e w n f m =
+    step_made A s k l image pid now p x u step found at r c e w f
+    (m ∙ lent_change (has_lender k.processes pid) (facts_of A.images) (with_holdings k found) pid step.regs u child
+    ∙ ap (passing_change (has_lender k.processes pid) (facts_of A.images) (with_holdings k found) pid step.regs u) (sym n))
 
 pub none_asked : (size : ℕ) (k : Kernel) → (place_all size k.holdings [] ≡ Ok k.holdings) × (with_holdings k k.holdings ≡ k)
 unfolding place_all

@@ -1,5 +1,5 @@
 -- The steps of processes, as a machine makes them.
-use Rattle.std.specs.Prelude.{◌≡◌, ℕ, Bool, List, [], ◌∷◌, Option, Some, None, Result, Ok}
+use Rattle.std.specs.Prelude.{◌≡◌, ℕ, Bool, true, false, List, [], ◌∷◌, Option, Some, None, Result, Ok}
 use Rattle.vm_facts.specs.declared.entry.Entry.{Entry}
 use Rattle.vm_facts.specs.declared.entry.Entry.TheVariants as entries
 use Rattle.vm_facts.specs.declared.regs.Regs.{Regs}
@@ -11,9 +11,9 @@ use Rattle.flat_state.specs.declared.change.Change.{Change}
 use Rattle.flat_state.specs.declared.change.Change.TheVariants as changes
 use Rattle.page_model.specs.Place.{facts_of, data_count, stack_count}
 use Rattle.kernel_model.specs.Kernel.{Kernel, Proc}
-use Rattle.kernel_model.specs.ChangeStep.{ran_by, change_step}
+use Rattle.kernel_model.specs.ChangeStep.{ran_by, change_step, pass_step}
 use Rattle.kernel_model.specs.Asks.{asked}
-use Rattle.kernel_model.specs.Unit.{has_lender, passing_change, proc_of}
+use Rattle.kernel_model.specs.Unit.{has_lender, lender_among, passing_change, proc_of}
 use Rattle.machine_state.specs.Applying.{facts_named}
 use Rattle.machine_state.specs.UserMemory.{writes_in}
 use Rattle.paging_units.specs.Made.{Ground}
@@ -98,6 +98,35 @@ PlainStepIsMade =
     → At A s k image → IsRunning A s pid now p x → Completes pid u → step_at A s.point pid ≡ step → step.writes ≡ [] → PassesNone step.change
     → place_all A.swap_blocks k.holdings (asked (facts_of A.images) k pid step.change) ≡ Ok found
     → l ≡ change_step (facts_of A.images) (with_holdings k found) pid step.regs u step.change
+    → MadeAs A s k image u l (Some image)
+
+-- the process gives its space up, or gets another one
+abbrev pub GivesBack : Change → Type 0
+GivesBack (changes.Exec number top) = Unit {0}
+GivesBack (changes.End status) = Unit {0}
+GivesBack _ = ⊥
+
+-- a space that was lent is back with its lender
+abbrev pub returned : Bool → Kernel → ℕ → Kernel
+returned true k pid = pass_step k pid (lender_among k.processes pid)
+returned false k pid = k
+
+-- Before a new image and an end a borrowed space went back, with no entry of its own.
+abbrev pub ReturningStepIsMade : Type 0
+ReturningStepIsMade =
+    (A : Inputs) (s : State) (k l : Kernel) (image : List ℕ) (pid : ℕ) (now : Bool) (p : Process) (x : Space) (u : Entry) (step : Step) (found : Holdings)
+    → At A s k image → IsRunning A s pid now p x → Completes pid u → step_at A s.point pid ≡ step → step.writes ≡ [] → GivesBack step.change
+    → place_all A.swap_blocks k.holdings (asked (facts_of A.images) k pid step.change) ≡ Ok found
+    → l ≡ change_step (facts_of A.images) (with_holdings (returned (has_lender k.processes pid) k pid) found) pid step.regs u step.change
+    → MadeAs A s k image u l (Some image)
+
+-- Behind a vfork the space passes to the child, with no entry of its own.
+abbrev pub LendingStepIsMade : Type 0
+LendingStepIsMade =
+    (A : Inputs) (s : State) (k l : Kernel) (image : List ℕ) (pid : ℕ) (now : Bool) (p : Process) (x : Space) (u : Entry) (step : Step) (found : Holdings) (child : ℕ)
+    → At A s k image → IsRunning A s pid now p x → Completes pid u → step_at A s.point pid ≡ step → step.writes ≡ [] → step.change ≡ changes.Lend child
+    → place_all A.swap_blocks k.holdings (asked (facts_of A.images) k pid step.change) ≡ Ok found
+    → l ≡ pass_step (change_step (facts_of A.images) (with_holdings k found) pid step.regs u (changes.Lend child)) pid child
     → MadeAs A s k image u l (Some image)
 
 -- a change that asks for no pieces leaves those that are held

@@ -9,7 +9,7 @@ ghost use Rattle.run_units.specs.Acting.{StepBegins, StepIsRefused, RefusedStepC
 ghost use Rattle.run_units.specs.Filling.{ForcingIsNext, ForcedNext, FillIsNext, BringingIsNext, BroughtNext};
 ghost use Rattle.run_units.specs.Swapping.{PuttingIsNext, PutNext, OutIsMade, InIsMade, NoteIsMade, LineAsks, LineComes, TurnComes};
 ghost use Rattle.run_units.specs.Touching.{MissIsWanted, NoMissIsReady, CallsWriteNothing, CallMissIsWanted, CallIsReady};
-ghost use Rattle.run_units.specs.Stepping.{ActIsNext, StepIsMade, RanIsMade, PlainStepIsMade, StepIsKnown, CallIsKnown, RecordHasRegisters, NoneAskedIsFound, HeadersAgree, GrowthCounts};
+ghost use Rattle.run_units.specs.Stepping.{ActIsNext, StepIsMade, RanIsMade, PlainStepIsMade, ReturningStepIsMade, LendingStepIsMade, StepIsKnown, CallIsKnown, RecordHasRegisters, NoneAskedIsFound, HeadersAgree, GrowthCounts};
 ghost use Rattle.run_units.specs.Moving.{MovingIsNext, MoveNext, MovesEnd};
 ghost use Rattle.run_units.specs.Settling.{SettlingIsNext, SettledNext};
 ghost use Rattle.run_units.specs.Serving.{At, ServingIsNext, ServedNext};
@@ -73,6 +73,8 @@ pub fn steps_are_made()
     ensures acts { ActIsNext }
     ensures steps { StepIsMade }
     ensures plain { PlainStepIsMade }
+    ensures returning { ReturningStepIsMade }
+    ensures lending { LendingStepIsMade }
     ensures ran { RanIsMade }
     ensures known { StepIsKnown }
     ensures called { CallIsKnown }

@@ -1,5 +1,5 @@
 use Rattle.run_laws.proofs.Flows.{runs_next}
-use Rattle.run_units.proofs.Stepping.{step_made, plain_made, ran_made, step_known, call_known, record_registers, none_asked, headers_agree, growth_counts}
+use Rattle.run_units.proofs.Stepping.{step_made, plain_made, returning_made, lending_made, ran_made, step_known, call_known, record_registers, none_asked, headers_agree, growth_counts}
 use Rattle.run_units.proofs.laws.steps_are_made.Goals as goal
 
 pub returns-clause-acts : goal.returns-clause-acts
@@ -31,3 +31,9 @@ returns-clause-headers c = headers_agree
 
 pub returns-clause-counts : goal.returns-clause-counts
 returns-clause-counts c = growth_counts
+
+pub returns-clause-returning : goal.returns-clause-returning
+returns-clause-returning c = returning_made
+
+pub returns-clause-lending : goal.returns-clause-lending
+returns-clause-lending c = lending_made
