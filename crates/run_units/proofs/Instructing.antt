@@ -1,5 +1,5 @@
 -- An instruction over the frames of a machine that stands at a state of a run.
-use Rattle.std.proofs.Common.{◌≡◌, ◌⊎◌, inl, inr, ℕ, ◌*◌, Bool, true, false, List, [], ◌∷◌, ◌++◌, length, filter_map, Option, Some, None, Result, Ok, Err, ℤ, refl, sym, ap, ◌∙◌, subst}
+use Rattle.std.proofs.Common.{◌≡◌, ◌⊎◌, inl, inr, ℕ, ◌*◌, ◌/◌, Bool, true, false, List, [], ◌∷◌, ◌++◌, length, filter_map, Option, Some, None, Result, Ok, Err, ℤ, refl, sym, ap, ◌∙◌, subst}
 use Rattle.std.specs.List.{cons_option}
 use Rattle.std.proofs.lemmas.List.Elements.{filter_map-append}
 use Rattle.vm_facts.specs.Answers.{Answers, ByteWrite}
@@ -17,6 +17,10 @@ use Rattle.vm_facts.specs.declared.memory.ByteRead.TheVariants as reads
 use Rattle.vm_facts.specs.declared.memory.MayWrite.{MayWrite}
 use Rattle.vm_facts.specs.declared.memory.MayWrite.TheVariants as tests
 use Rattle.flat_state.specs.declared.spot.Spot.{Spot}
+use Rattle.flat_state.specs.declared.spot.Spot.TheVariants as spots
+use Rattle.fault_fill.specs.declared.access.Access.TheVariants as accesses
+use Rattle.fault_fill.specs.Access.{access_at}
+use Rattle.fault_fill.specs.Growth.{access_to}
 use Rattle.flat_state.specs.Space.{Space, spot_at, address_in, answers_of, puts}
 use Rattle.flat_state.specs.Flat.{Holds, Process, FlatState, NamedImage, Inputs, process_of, is_ready, ready_if, spaces_of, image_numbered}
 use Rattle.page_model.specs.Pages.{SpacePages, is_valid, numbered, data_in, stack_in}
@@ -24,7 +28,7 @@ use Rattle.page_model.specs.Placement.{Placement, space_number, image_in, image_
 use Rattle.page_model.specs.Conditions.{EachPage}
 use Rattle.kernel_model.specs.Kernel.{Kernel}
 use Rattle.kernel_model.specs.Coupled.{Coupled, Fits, IsSized, text_of}
-use Rattle.machine_state.specs.UserMemory.{bytes_of, text_len, data_len, stack_len, spot_in, read_spot, may_write_spot, page_in, kernel_answers}
+use Rattle.machine_state.specs.UserMemory.{bytes_of, text_len, data_len, stack_len, spot_in, read_spot, may_write_spot, page_at_spot, page_in, kernel_answers}
 use Rattle.machine_state.proofs.FlatMemory.{memory_covers}
 use Rattle.flat_model.specs.declared.calls.Reply.{Reply}
 use Rattle.flat_model.specs.declared.calls.SystemCall.{SystemCall}
@@ -122,11 +126,11 @@ runs_touch A s pid now p x r =
 -- A byte that misses.
 
 missing_at : (k : Kernel) (x : Space) (e : SameSpots k x) (a : Access) (address : ℕ) (write : Bool) → refusal (kernel_answers k x.sid) a ≡ Some (Miss address write)
-    → (spot : Spot) × (page_in k.place x.sid address ≡ Rattle.machine_state.specs.UserMemory.page_at_spot k.place x.sid spot) × Missing k x (page_of_access x a) spot
+    → (spot : Spot) × (page_in k.place x.sid address ≡ page_at_spot k.place x.sid spot) × Missing k x (page_of_access x a) spot
 missing_at k x e (ReadOf b) address write h =
     let same : b ≡ address = read_same (read_spot k x.sid (spot_in k.place x.sid b)) h in (
       address_in x b,
-      ap (λ (n : ℕ). page_in k.place x.sid n) (sym same) ∙ ap (Rattle.machine_state.specs.UserMemory.page_at_spot k.place x.sid) (e.spots b),
+      ap (λ (n : ℕ). page_in k.place x.sid n) (sym same) ∙ ap (page_at_spot k.place x.sid) (e.spots b),
       read_missing k x e.image (address_in x b) b address write (subst (λ (z : Spot). read_refusal (read_spot k x.sid z) b ≡ Some (Miss address write)) (e.spots b) h),
     )
   where
@@ -138,7 +142,7 @@ missing_at k x e (ReadOf b) address write h =
 missing_at k x e (TestOf b) address write h =
     let same : b ≡ address = test_same (may_write_spot k.place x.sid (spot_in k.place x.sid b)) h in (
       address_in x b,
-      ap (λ (n : ℕ). page_in k.place x.sid n) (sym same) ∙ ap (Rattle.machine_state.specs.UserMemory.page_at_spot k.place x.sid) (e.spots b),
+      ap (λ (n : ℕ). page_in k.place x.sid n) (sym same) ∙ ap (page_at_spot k.place x.sid) (e.spots b),
       test_missing k x (address_in x b) b address write (subst (λ (z : Spot). test_refusal (may_write_spot k.place x.sid z) b ≡ Some (Miss address write)) (e.spots b) h),
     )
   where
@@ -148,6 +152,51 @@ missing_at k x e (TestOf b) address write h =
     test_same tests.Below m = absurd cc
     test_same tests.Text m = absurd cc
     test_same tests.Outside m = absurd cc
+
+-- What an access of that byte asks for.
+
+read_asks : (k : Kernel) (x : Space) (spot : Spot) (address : ℕ) (page : Page) → page_at_spot k.place x.sid spot ≡ Some page
+    → access_at x.sid (image_of k.place x.sid) address spot false ≡ accesses.Page page
+read_asks k x (spots.Text i) address page e = ap (λ (q : Page). accesses.Page q) (let z : pages.Text (image_of k.place x.sid) (i / 1024) ≡ page = cc in z)
+read_asks k x (spots.Data i) address page e = ap (λ (q : Page). accesses.Page q) (let z : pages.Data x.sid (i / 1024) ≡ page = cc in z)
+read_asks k x (spots.Stack i) address page e = ap (λ (q : Page). accesses.Page q) (let z : pages.Stack x.sid (i / 1024) ≡ page = cc in z)
+read_asks k x spots.Below address page e = absurd cc
+read_asks k x spots.Outside address page e = absurd cc
+
+test_asks : (k : Kernel) (x : Space) (spot : Spot) (b address : ℕ) (write : Bool) (page : Page) → test_refusal (may_write_spot k.place x.sid spot) b ≡ Some (Miss address write)
+    → page_at_spot k.place x.sid spot ≡ Some page → access_at x.sid (image_of k.place x.sid) address spot true ≡ accesses.Page page
+test_asks k x (spots.Text i) b address write page m e = absurd cc
+test_asks k x (spots.Data i) b address write page m e = ap (λ (q : Page). accesses.Page q) (let z : pages.Data x.sid (i / 1024) ≡ page = cc in z)
+test_asks k x (spots.Stack i) b address write page m e = ap (λ (q : Page). accesses.Page q) (let z : pages.Stack x.sid (i / 1024) ≡ page = cc in z)
+test_asks k x spots.Below b address write page m e = absurd cc
+test_asks k x spots.Outside b address write page m e = absurd cc
+
+asks_page : (k : Kernel) (x : Space) (e : SameSpots k x) (a : Access) (address : ℕ) (write : Bool) (page : Page) → refusal (kernel_answers k x.sid) a ≡ Some (Miss address write)
+    → page_in k.place x.sid address ≡ Some page → access_to k.place x.sid address write ≡ accesses.Page page
+asks_page k x e (ReadOf b) address write page m h = go (read_spot k x.sid (spot_in k.place x.sid b)) m
+  where
+    go : (r : ByteRead) → read_refusal r b ≡ Some (Miss address write) → access_to k.place x.sid address write ≡ accesses.Page page
+    go (reads.Is byte) n = absurd cc
+    go reads.Miss n =
+        let w : false ≡ write = cc in
+        ap (access_at x.sid (image_of k.place x.sid) address (spot_in k.place x.sid address)) (sym w) ∙ read_asks k x (spot_in k.place x.sid address) address page h
+    go reads.Below n = absurd cc
+    go reads.Outside n = absurd cc
+asks_page k x e (TestOf b) address write page m h = go (may_write_spot k.place x.sid (spot_in k.place x.sid b)) refl m
+  where
+    go : (r : MayWrite) → may_write_spot k.place x.sid (spot_in k.place x.sid b) ≡ r → test_refusal r b ≡ Some (Miss address write)
+        → access_to k.place x.sid address write ≡ accesses.Page page
+    go tests.May i n = absurd cc
+    go tests.Miss i n =
+        let w : true ≡ write = cc in
+        let same : b ≡ address = cc in
+        let here : test_refusal (may_write_spot k.place x.sid (spot_in k.place x.sid address)) b ≡ Some (Miss address write) =
+        subst (λ (c : ℕ). test_refusal (may_write_spot k.place x.sid (spot_in k.place x.sid c)) b ≡ Some (Miss address write)) same m in
+        ap (access_at x.sid (image_of k.place x.sid) address (spot_in k.place x.sid address)) (sym w)
+        ∙ test_asks k x (spot_in k.place x.sid address) b address write page here h
+    go tests.Below i n = absurd cc
+    go tests.Text i n = absurd cc
+    go tests.Outside i n = absurd cc
 
 append_one : (xs ys zs : List Access) → (xs ++ ys) ++ zs ≡ xs ++ (ys ++ zs)
 append_one [] ys zs = refl
@@ -159,7 +208,7 @@ found_first x a q list e = ap (λ (o : Option Page). cons_option o (filter_map (
 -- the byte of an access that misses, behind others that don't, is of the page that the process waits for
 wanted_at : (A : Inputs) (s : State) (k : Kernel) (image : List ℕ) (pid : ℕ) (now : Bool) (p : Process) (x : Space) (front rest : List Access) (last : Access) (address : ℕ) (write : Bool)
     → At A s k image → IsRunning A s pid now p x → step_accesses A.images s.point.flat p x ≡ front ++ last ∷ rest → AllHit (kernel_answers k x.sid) front
-    → refusal (kernel_answers k x.sid) last ≡ Some (Miss address write) → WantsPage A s k x address
+    → refusal (kernel_answers k x.sid) last ≡ Some (Miss address write) → WantsPage A s k x address write
 wanted_at A s k image pid now p x front rest last address write at r e hits miss =
     let l : Lent A k x = lent A s k image pid p x at r.here r.holds in
     let z = missing_at k x l.spots last address write miss in
@@ -181,6 +230,7 @@ wanted_at A s k image pid now p x front rest last address write at r e hits miss
       valid = w.valid;
       absent = absent;
       at = z.1 ∙ g.of_spot;
+      asks = asks_page k x l.spots last address write g.page miss (z.1 ∙ g.of_spot);
     }
 
 -- where no access misses the process waits for none
@@ -247,7 +297,7 @@ unfolding step_accesses
 stepped A s p x = refl
 
 pub miss_wanted : (A : Inputs) (s : State) (k : Kernel) (image : List ℕ) (pid : ℕ) (now : Bool) (p : Process) (x : Space) (address : ℕ) (write : Bool) → At A s k image
-    → IsRunning A s pid now p x → run (kernel_answers k x.sid) (instruction p.regs) ≡ Err (Miss address write) → WantsPage A s k x address
+    → IsRunning A s pid now p x → run (kernel_answers k x.sid) (instruction p.regs) ≡ Err (Miss address write) → WantsPage A s k x address write
 miss_wanted A s k image pid now p x address write at r m =
     let after : List Access = accesses_after A.images s.point.flat p x (instruction_in x p.regs) in
     let l : Lent A k x = lent A s k image pid p x at r.here r.holds in
@@ -296,7 +346,7 @@ call_after images F p x effect call c w =
 
 pub call_wanted : (A : Inputs) (s : State) (k : Kernel) (image : List ℕ) (pid : ℕ) (now : Bool) (p : Process) (x : Space) (effect : Effect) (call : SystemCall) (address : ℕ) (write : Bool)
     → At A s k image → IsRunning A s pid now p x → run (kernel_answers k x.sid) (instruction p.regs) ≡ Ok effect → IsCallOf effect call
-    → run (kernel_answers k x.sid) (reply_asked A.images s.point.flat p x call effect) ≡ Err (Miss address write) → WantsPage A s k x address
+    → run (kernel_answers k x.sid) (reply_asked A.images s.point.flat p x call effect) ≡ Err (Miss address write) → WantsPage A s k x address write
 call_wanted A s k image pid now p x effect call address write at r i c m =
     let memory : Answers = kernel_answers k x.sid in
     let l : Lent A k x = lent A s k image pid p x at r.here r.holds in

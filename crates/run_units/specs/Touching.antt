@@ -23,6 +23,8 @@ use Rattle.flat_laws.specs.Shown.{IsCallOf}
 use Rattle.run_model.specs.State.{State}
 use Rattle.run_model.specs.Wanted.{wanted, touched_next, AllValid}
 use Rattle.run_model.specs.Kinds.{Runs}
+use Rattle.fault_fill.specs.declared.access.Access.TheVariants as accesses
+use Rattle.fault_fill.specs.Growth.{access_to}
 use Rattle.run_units.specs.Serving.{At}
 
 -- a process that runs, and its space
@@ -31,8 +33,8 @@ pub record IsRunning (A : Inputs) (s : State) (pid : ℕ) (now : Bool) (p : Proc
   pub here : process_of s.point.flat pid ≡ Some p
   pub holds : p.holding ≡ Holds x
 
--- the first page that the process touches and that isn't valid is the one of this address
-pub record WantsPage (A : Inputs) (s : State) (k : Kernel) (x : Space) (address : ℕ) : Type 0 where
+-- the first page that the process touches and that isn't valid is the one of this address, and what an access of it asks for
+pub record WantsPage (A : Inputs) (s : State) (k : Kernel) (x : Space) (address : ℕ) (write : Bool) : Type 0 where
   pub before : List Page
   pub page : Page
   pub rest : List Page
@@ -40,13 +42,14 @@ pub record WantsPage (A : Inputs) (s : State) (k : Kernel) (x : Space) (address 
   pub valid : AllValid s.place before
   pub absent : is_valid (state_of s.place page) ≡ false
   pub at : page_in k.place x.sid address ≡ Some page
+  pub asks : access_to k.place x.sid address write ≡ accesses.Page page
 
 -- where the instruction misses a byte, its process waits for that byte's page
 abbrev pub MissIsWanted : Type 0
 MissIsWanted =
     (A : Inputs) (s : State) (k : Kernel) (image : List ℕ) (pid : ℕ) (now : Bool) (p : Process) (x : Space) (address : ℕ) (write : Bool)
     → At A s k image → IsRunning A s pid now p x → run (kernel_answers k x.sid) (instruction p.regs) ≡ Err (Miss address write)
-    → WantsPage A s k x address
+    → WantsPage A s k x address write
 
 -- none of the eight calls
 abbrev pub MakesNone : Option ℤ → Type 0
@@ -94,7 +97,7 @@ abbrev pub CallMissIsWanted : Type 0
 CallMissIsWanted =
     (A : Inputs) (s : State) (k : Kernel) (image : List ℕ) (pid : ℕ) (now : Bool) (p : Process) (x : Space) (effect : Effect) (call : SystemCall) (address : ℕ) (write : Bool)
     → At A s k image → IsRunning A s pid now p x → run (kernel_answers k x.sid) (instruction p.regs) ≡ Ok effect → IsCallOf effect call
-    → run (kernel_answers k x.sid) (reply_asked A.images s.point.flat p x call effect) ≡ Err (Miss address write) → WantsPage A s k x address
+    → run (kernel_answers k x.sid) (reply_asked A.images s.point.flat p x call effect) ≡ Err (Miss address write) → WantsPage A s k x address write
 
 -- where they don't it waits for none
 abbrev pub CallIsReady : Type 0
