@@ -34,11 +34,12 @@ use Rattle.machine_state.specs.UserMemory.{bytes_of, text_len, data_len, stack_l
 use Rattle.user_vax.specs.Program.{run}
 use Rattle.user_vax.specs.Effects.{Effect}
 use Rattle.user_vax.specs.declared.refused.Refused.{Refused}
+use Rattle.user_vax.specs.declared.refused.Refused.TheVariants.{Below}
 use Rattle.flat_model.specs.Instruction.{instruction_in}
 use Rattle.flat_model.specs.declared.calls.Reply.{Reply}
 use Rattle.flat_model.specs.declared.calls.SystemCall.{SystemCall}
 use Rattle.flat_model.specs.Calls.{or_fault, refused_reply, stack_pages_of}
-use Rattle.flat_model.specs.Step.{Step, data_pages_of, reply_asked, replied_step, called_step, step_behind, step_of, step_holding, step_if, flat_step}
+use Rattle.flat_model.specs.Step.{Step, data_pages_of, pages_down_to, grown_step, reply_asked, replied_step, called_step, step_behind, step_of, step_holding, step_if, flat_step}
 use Rattle.flat_model.specs.Run.{step_at, is_refused}
 use Rattle.flat_laws.specs.Shown.{IsCallOf}
 use Rattle.flat_model.specs.Asked.{or_before, with_pieces, wanted_if, wanted_in, change_wanted}
@@ -56,7 +57,7 @@ use Rattle.paging_units.specs.Made.{Ground}
 use Rattle.run_units.specs.Leads.{HasImages, MadeAs}
 use Rattle.run_units.specs.Serving.{At}
 use Rattle.run_units.specs.Touching.{IsRunning, IsReadyFor, IsCalledFor}
-use Rattle.run_units.specs.Stepping.{with_holdings, PassesNone, GivesBack, returned}
+use Rattle.run_units.specs.Stepping.{with_holdings, PassesNone, GivesBack, returned, growth_to}
 use Rattle.run_units.proofs.Touching.{SameSpots}
 use Rattle.run_units.proofs.Instructing.{same_spots}
 
@@ -299,3 +300,21 @@ growth_counts A s k image pid now p x at r =
     let fits : Fits (Some x) (numbered space_number x.sid k.place.spaces) =
     subst (λ (o : Option Space). Fits o (numbered space_number x.sid k.place.spaces)) own (at.stands.keeps.coupled.tables.spaces x.sid) in
     (data_counted x (numbered space_number x.sid k.place.spaces) fits, stack_counted x (numbered space_number x.sid k.place.spaces) fits)
+
+pub growth_made : (A : Inputs) (s : State) (k l : Kernel) (image : List ℕ) (pid : ℕ) (now : Bool) (p : Process) (x : Space) (address : ℕ) (kept : Proc) (found : Holdings)
+    → At A s k image → IsRunning A s pid now p x → IsReadyFor A s p x (Err (Below address)) → is_refused s.point.last pid ≡ false → proc_of k pid ≡ Some kept
+    → place_all A.swap_blocks k.holdings (asked (facts_of A.images) k pid (growth_to k x address)) ≡ Ok found
+    → l ≡ change_step (facts_of A.images) (with_holdings k found) pid kept.regs (entries.Grew pid (pages_down_to address)) (growth_to k x address)
+    → MadeAs A s k image (entries.Grew pid (pages_down_to address)) l (Some image)
+growth_made A s k l image pid now p x address kept found at r ready unrefused there f m =
+    let u : Entry = entries.Grew pid (pages_down_to address) in
+    let step : Step = grown_step A.images s.point.flat p x address in
+    let is : step_at A s.point pid ≡ step =
+    step_known A s pid now p x (Err (Below address)) r ready ∙ ap (λ (b : Bool). step_of A.images s.point.flat p x b (Err (Below address))) unrefused in
+    let same : growth_to k x address ≡ step.change =
+    ap (λ (n : ℕ). let c : Change = changes.Resize n (pages_down_to address) in c) (growth_counts A s k image pid now p x at r).0 in
+    let regs : kept.regs ≡ p.regs = record_registers A s k image pid now p x kept at r there in
+    plain_made A s k l image pid now p x u step found at r refl is refl tt
+    (subst (λ (c : Change). place_all A.swap_blocks k.holdings (asked (facts_of A.images) k pid c) ≡ Ok found) same f)
+    (m ∙ ap (λ (g : Regs). change_step (facts_of A.images) (with_holdings k found) pid g u (growth_to k x address)) regs
+    ∙ ap (change_step (facts_of A.images) (with_holdings k found) pid p.regs u) same)

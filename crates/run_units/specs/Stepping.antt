@@ -1,5 +1,5 @@
 -- The steps of processes, as a machine makes them.
-use Rattle.std.specs.Prelude.{◌≡◌, ℕ, Bool, true, false, List, [], ◌∷◌, Option, Some, None, Result, Ok}
+use Rattle.std.specs.Prelude.{◌≡◌, ℕ, Bool, true, false, List, [], ◌∷◌, Option, Some, None, Result, Ok, Err}
 use Rattle.vm_facts.specs.declared.entry.Entry.{Entry}
 use Rattle.vm_facts.specs.declared.entry.Entry.TheVariants as entries
 use Rattle.vm_facts.specs.declared.regs.Regs.{Regs}
@@ -22,7 +22,8 @@ use Rattle.user_vax.specs.declared.refused.Refused.{Refused}
 use Rattle.flat_model.specs.declared.calls.Reply.{Reply}
 use Rattle.flat_model.specs.declared.calls.SystemCall.{SystemCall}
 use Rattle.flat_model.specs.Calls.{or_fault, refused_reply, stack_pages_of}
-use Rattle.flat_model.specs.Step.{Step, step_of, replied_step, data_pages_of}
+use Rattle.user_vax.specs.declared.refused.Refused.TheVariants.{Below}
+use Rattle.flat_model.specs.Step.{Step, step_of, replied_step, data_pages_of, pages_down_to}
 use Rattle.flat_model.specs.Run.{step_at, is_refused}
 use Rattle.flat_laws.specs.Shown.{IsCallOf}
 use Rattle.run_model.specs.State.{State}
@@ -137,8 +138,21 @@ NoneAskedIsFound = (size : ℕ) (k : Kernel) → (place_all size k.holdings [] �
 abbrev pub HeadersAgree : Type 0
 HeadersAgree = (A : Inputs) (g : Ground) → HasImages g A → facts_named g.from.images ≡ facts_of A.images
 
+-- the stack of a space grows to the page of an address
+abbrev pub growth_to : Kernel → Space → ℕ → Change
+growth_to k x address = changes.Resize (data_count k.place x.sid) (pages_down_to address)
+
 -- growth counts the pages of data that the flat space has
 abbrev pub GrowthCounts : Type 0
 GrowthCounts =
     (A : Inputs) (s : State) (k : Kernel) (image : List ℕ) (pid : ℕ) (now : Bool) (p : Process) (x : Space)
     → At A s k image → IsRunning A s pid now p x → (data_count k.place x.sid ≡ data_pages_of x) × (stack_count k.place x.sid ≡ stack_pages_of x)
+
+-- The growth of a stack, for a byte below it, is the unit of the run, once its pieces were found; its registers are the record's.
+abbrev pub GrowthIsMade : Type 0
+GrowthIsMade =
+    (A : Inputs) (s : State) (k l : Kernel) (image : List ℕ) (pid : ℕ) (now : Bool) (p : Process) (x : Space) (address : ℕ) (kept : Proc) (found : Holdings)
+    → At A s k image → IsRunning A s pid now p x → IsReadyFor A s p x (Err (Below address)) → is_refused s.point.last pid ≡ false → proc_of k pid ≡ Some kept
+    → place_all A.swap_blocks k.holdings (asked (facts_of A.images) k pid (growth_to k x address)) ≡ Ok found
+    → l ≡ change_step (facts_of A.images) (with_holdings k found) pid kept.regs (entries.Grew pid (pages_down_to address)) (growth_to k x address)
+    → MadeAs A s k image (entries.Grew pid (pages_down_to address)) l (Some image)

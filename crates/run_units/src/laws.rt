@@ -9,7 +9,7 @@ ghost use Rattle.run_units.specs.Acting.{StepBegins, StepIsRefused, RefusedStepC
 ghost use Rattle.run_units.specs.Filling.{ForcingIsNext, ForcedNext, FillIsNext, BringingIsNext, BroughtNext};
 ghost use Rattle.run_units.specs.Swapping.{PuttingIsNext, PutNext, OutIsMade, InIsMade, NoteIsMade, LineAsks, LineComes, TurnComes};
 ghost use Rattle.run_units.specs.Touching.{MissIsWanted, NoMissIsReady, CallsWriteNothing, CallMissIsWanted, CallIsReady};
-ghost use Rattle.run_units.specs.Stepping.{ActIsNext, StepIsMade, RanIsMade, PlainStepIsMade, ReturningStepIsMade, LendingStepIsMade, StepIsKnown, CallIsKnown, RecordHasRegisters, NoneAskedIsFound, HeadersAgree, GrowthCounts};
+ghost use Rattle.run_units.specs.Stepping.{ActIsNext, StepIsMade, RanIsMade, PlainStepIsMade, ReturningStepIsMade, LendingStepIsMade, StepIsKnown, CallIsKnown, RecordHasRegisters, NoneAskedIsFound, HeadersAgree, GrowthCounts, GrowthIsMade};
 ghost use Rattle.run_units.specs.Moving.{MovingIsNext, MoveNext, MovesEnd};
 ghost use Rattle.run_units.specs.Settling.{SettlingIsNext, SettledNext};
 ghost use Rattle.run_units.specs.Serving.{At, ServingIsNext, ServedNext};
@@ -82,6 +82,7 @@ pub fn steps_are_made()
     ensures none_asked { NoneAskedIsFound }
     ensures headers { HeadersAgree }
     ensures counts { GrowthCounts }
+    ensures growth { GrowthIsMade }
 {}
 
 /// What a process does next follows from its step: its first entry, once its pieces find their places and no space has to settle;

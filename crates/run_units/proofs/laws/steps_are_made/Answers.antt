@@ -1,5 +1,5 @@
 use Rattle.run_laws.proofs.Flows.{runs_next}
-use Rattle.run_units.proofs.Stepping.{step_made, plain_made, returning_made, lending_made, ran_made, step_known, call_known, record_registers, none_asked, headers_agree, growth_counts}
+use Rattle.run_units.proofs.Stepping.{step_made, plain_made, returning_made, lending_made, ran_made, step_known, call_known, record_registers, none_asked, headers_agree, growth_counts, growth_made}
 use Rattle.run_units.proofs.laws.steps_are_made.Goals as goal
 
 pub returns-clause-acts : goal.returns-clause-acts
@@ -37,3 +37,6 @@ returns-clause-returning c = returning_made
 
 pub returns-clause-lending : goal.returns-clause-lending
 returns-clause-lending c = lending_made
+
+pub returns-clause-growth : goal.returns-clause-growth
+returns-clause-growth c = growth_made
