@@ -24,10 +24,11 @@ use Rattle.kernel_laws.proofs.Sound.Steps.{pass_lives}
 use Rattle.machine_state.specs.Calls.{life_in}
 use Rattle.machine_state.specs.Machine.{Standing}
 use Rattle.machine_state.specs.Applying.{CanApply, MayAct}
-use Rattle.machine_state.specs.Settled.{Dones, SettledBy, IsSameBeside}
+use Rattle.machine_state.specs.Done.{Sources, sources}
+use Rattle.machine_state.specs.Settled.{EndsWhile, SettledBy}
 use Rattle.vfork_pass.specs.Passed.{HasGivenBack}
 use Rattle.proc_calls.specs.Callers.{proc_in, space_held, IsCaller}
-use Rattle.proc_calls.specs.Leaving.{HasLeftBy, HasLeft}
+use Rattle.proc_calls.specs.Leaving.{HasSettled, HasLeftBy, HasLeft}
 use Rattle.proc_calls.proofs.Callers.{caller_lives}
 
 -- What stays as transfers end.
@@ -65,9 +66,13 @@ both_go k l m a b = record {
   spaces = b.spaces ∙ a.spaces;
 }
 
-pub dones_go : (n : ℕ) (old new : Kernel) → Dones n old new → GoesOn old new
-dones_go zero old new e = subst (GoesOn old) (sym e) (stays old)
-dones_go (suc n) old new d = both_go old d.0 new (subst (GoesOn old) (sym d.1.step) (done_goes old d.1.read)) (dones_go n d.0 new d.2)
+pub ends_go : (from : Sources) (sid n : ℕ) (old new : Kernel) (before after : Option (List ℕ)) → EndsWhile from sid n old before new after → GoesOn old new
+ends_go from sid zero old new before after e = subst (GoesOn old) (sym e.0) (stays old)
+ends_go from sid (suc n) old new before after e =
+    both_go old e.1.0 new (subst (GoesOn old) (sym e.1.2.step) (done_goes old e.1.2.read)) (ends_go from sid n e.1.0 new e.1.1 after e.1.4)
+
+pub settled_goes : (from : Sources) (sid : ℕ) (old new : Kernel) (before after : Option (List ℕ)) → SettledBy from sid old new before after → GoesOn old new
+settled_goes from sid old new before after s = ends_go from sid s.count old new before after s.ends
 
 pub space_stays : (p q : Placement) (sid : ℕ) → SameSpaces p q → HasSpace p sid → HasSpace q sid
 space_stays p q sid e h n = h (absent_none space_number sid p.spaces (subst (IsAbsent sid) e (none_absent space_number sid q.spaces n)))
@@ -78,9 +83,9 @@ none_asked size before now e = ap (λ (hs : Holdings). Ok hs) e
 
 -- Once its space is settled.
 
-pub can_end_settled : (m n : Standing) (pid status : ℕ) → IsCaller m pid → has_lender m.kernel.processes pid ≡ false
-    → SettledBy (space_held m.kernel pid) m.kernel n.kernel → IsSameBeside m n → CanApply n pid (entries.Ended pid status) (End status)
-can_end_settled m n pid status c alone s b = record {
+pub can_end_settled : (m n : Standing) (pid status : ℕ) (holds : Option (List NamedFile)) (before after : Option (List ℕ)) → IsCaller m pid → has_lender m.kernel.processes pid ≡ false
+    → HasSettled m n (space_held m.kernel pid) holds before after → CanApply n pid (entries.Ended pid status) (End status)
+can_end_settled m n pid status holds before after c alone s = record {
   clear = on.due ∙ c.clear;
   ready = record {
     alive = ap (λ (ps : List Proc). lives ps pid) on.processes ∙ caller_lives m.kernel pid c.lends;
@@ -88,29 +93,29 @@ can_end_settled m n pid status c alone s b = record {
     reaps = tt;
     space = λ _. (
       subst (HasSpace n.kernel.place) (sym space) (space_stays m.kernel.place n.kernel.place c.lends.sid on.spaces c.lends.there),
-      ap (is_settled n.kernel.place) (space ∙ sym (ap space_of_life c.lends.holds)) ∙ s.settled,
+      ap (is_settled n.kernel.place) (space ∙ sym (ap space_of_life c.lends.holds)) ∙ s.settled.settled,
     );
   };
-  acts = subst (λ (l : Life). MayAct l (End status)) (sym holds) tt;
+  acts = subst (λ (l : Life). MayAct l (End status)) (sym held) tt;
   resident = same_out m.kernel.place n.kernel.place pid on.residents ∙ c.lends.resident;
   returned = λ _. ap (λ (ps : List Proc). has_lender ps pid) on.processes ∙ alone;
   entry = (refl, refl);
   whole = tt;
   few = λ t. absurd (let z : false ≡ true = t in cc);
-  found = none_asked n.params.swap_blocks n.before n.kernel.holdings (b.before ∙ c.whole ∙ sym on.holdings);
+  found = none_asked n.params.swap_blocks n.before n.kernel.holdings (s.rest.before ∙ c.whole ∙ sym on.holdings);
 }
   where
     on : GoesOn m.kernel n.kernel
-    on = dones_go s.count m.kernel n.kernel s.dones
+    on = settled_goes (sources m holds) (space_held m.kernel pid) m.kernel n.kernel before after s.settled
 
-    holds : life_in n.kernel pid ≡ HoldsSpace c.lends.sid
-    holds = ap (λ (ps : List Proc). life_of_proc (numbered (λ (p : Proc). p.pid) pid ps)) on.processes ∙ c.lends.holds
+    held : life_in n.kernel pid ≡ HoldsSpace c.lends.sid
+    held = ap (λ (ps : List Proc). life_of_proc (numbered (λ (p : Proc). p.pid) pid ps)) on.processes ∙ c.lends.holds
 
     space : space_of_life (life_in n.kernel pid) ≡ c.lends.sid
-    space = ap space_of_life holds
+    space = ap space_of_life held
 
-pub settled_runs : (m n : Standing) (sid : ℕ) → m.kernel.stopped ≡ false → SettledBy sid m.kernel n.kernel → n.kernel.stopped ≡ false
-settled_runs m n sid r s = let on = dones_go s.count m.kernel n.kernel s.dones in on.stopped ∙ r
+pub settled_runs : (from : Sources) (sid : ℕ) (old new : Kernel) (before after : Option (List ℕ)) → old.stopped ≡ false → SettledBy from sid old new before after → new.stopped ≡ false
+settled_runs from sid old new before after r s = let on = settled_goes from sid old new before after s in on.stopped ∙ r
 
 -- Once the space that it borrowed went back.
 
@@ -152,7 +157,7 @@ can_end_returned m pid status c g = record {
 module _ (m n : Standing) (pid : ℕ) (holds : Option (List NamedFile)) (before after : Option (List ℕ)) (c : IsCaller m pid) where
   runs_by : (b : Bool) → HasLeftBy b m n pid holds before after → n.kernel.stopped ≡ false
   runs_by true r = ap (λ (s : Standing). s.kernel.stopped) r.step ∙ c.running
-  runs_by false r = settled_runs m n (space_held m.kernel pid) c.running r.settled
+  runs_by false r = settled_runs (sources m holds) (space_held m.kernel pid) m.kernel n.kernel before after c.running r.settled
 
   pub left_runs : HasLeft m n pid holds before after → n.kernel.stopped ≡ false
   left_runs h = runs_by (has_lender m.kernel.processes pid) h
@@ -163,7 +168,7 @@ module _ (m n : Standing) (pid : ℕ) (holds : Option (List NamedFile)) (before 
   can_by true status e r given =
       subst (λ (s : Standing). CanApply s pid (entries.Ended pid status) (End status)) (sym r.step)
       (can_end_returned m pid status c (subst (λ (s : Standing). HasGivenBack m.kernel s.kernel pid (lender_among m.kernel.processes pid)) r.step (given e)))
-  can_by false status e r given = can_end_settled m n pid status c e r.settled r.rest
+  can_by false status e r given = can_end_settled m n pid status holds before after c e r
 
   pub can_end : (status : ℕ) → HasLeft m n pid holds before after
       → (has_lender m.kernel.processes pid ≡ true → HasGivenBack m.kernel n.kernel pid (lender_among m.kernel.processes pid))

@@ -1,10 +1,11 @@
 -- The sizes of a process, and what a change of its data asks.
-use Rattle.std.proofs.Common.{◌≡◌, ℕ, ◌+◌, ◌*◌, ◌/◌, ◌%◌, ◌<◌, ◌≤◌, min, Bool, true, false, List, [], ◌∷◌, ◌++◌, length, drop, refl, sym, ap, ◌∙◌, subst, inl, inr, arith}
+use Rattle.std.proofs.Common.{◌≡◌, ℕ, ◌+◌, ◌*◌, ◌/◌, ◌%◌, ◌<◌, ◌≤◌, min, Bool, true, false, List, Option, [], ◌∷◌, ◌++◌, length, drop, refl, sym, ap, ◌∙◌, subst, inl, inr, arith}
 use Rattle.std.specs.Prelude.{Result, Ok, Err, IfOk}
 use Rattle.std.proofs.lemmas.Bool.{cases_lt, le-leb, lt-leb}
 use Rattle.vm_facts.specs.declared.regs.Regs.{Regs}
 use Rattle.vm_facts.specs.declared.page.Page.TheVariants as pages
 use Rattle.core_map.specs.Frames.{Frames}
+use Rattle.io_edge.specs.FileHolding.{NamedFile}
 use Rattle.space_map.specs.Space.{Places}
 use Rattle.aout_image.specs.declared.Image.{Image}
 use Rattle.aout_image.specs.Image.{pages_for}
@@ -36,14 +37,15 @@ use Rattle.machine_state.proofs.Shows.{length_map}
 use Rattle.machine_state.proofs.UserFrames.{get_within, get_past}
 use Rattle.machine_state.specs.Machine.{Standing}
 use Rattle.machine_state.specs.Applying.{CanApply, MayAct, facts_named}
-use Rattle.machine_state.specs.Settled.{SettledBy, IsSameBeside}
+use Rattle.machine_state.specs.Done.{sources}
 use Rattle.machine_state.specs.UserMemory.{CanLend}
 use Rattle.machine_state.specs.Wants.{wanted_of, found_for}
 use Rattle.machine_state.specs.declared.pieces.Want.{Want}
 use Rattle.proc_calls.specs.Callers.{space_held, IsCaller}
 use Rattle.proc_calls.specs.Sizing.{data_pages_of, stack_pages_of, break_at, pieces_found, with_pieces, with_refusal}
+use Rattle.proc_calls.specs.Leaving.{HasSettled}
 use Rattle.proc_calls.proofs.Callers.{caller_lives}
-use Rattle.proc_calls.proofs.Leaving.{GoesOn, dones_go, space_stays}
+use Rattle.proc_calls.proofs.Leaving.{GoesOn, settled_goes, space_stays}
 
 -- The map of a space shows how many pages it has.
 
@@ -212,9 +214,9 @@ module _ (m : Standing) (pid : ℕ) (regs : Regs) (c : IsCaller m pid) (wanted s
 further_by : (owner : Owner) (a b new : ℕ) → pieces (2 * a) ≡ pieces (2 * b) → further owner a new ≡ further owner b new
 further_by owner a b new e = ap (λ (xs : List ℕ). wanted owner (drop (length xs) (pieces (2 * new)))) e
 
-module _ (m n : Standing) (pid : ℕ) (regs : Regs) (c : IsCaller m pid) (s : SettledBy (space_held m.kernel pid) m.kernel n.kernel) (b : IsSameBeside m n) where
+module _ (m n : Standing) (pid : ℕ) (regs : Regs) (c : IsCaller m pid) (holds : Option (List NamedFile)) (before after : Option (List ℕ)) (s : HasSettled m n (space_held m.kernel pid) holds before after) where
   on : GoesOn m.kernel n.kernel
-  on = dones_go s.count m.kernel n.kernel s.dones
+  on = settled_goes (sources m holds) (space_held m.kernel pid) m.kernel n.kernel before after s.settled
 
   same_space : space_held n.kernel pid ≡ space_held m.kernel pid
   same_space = ap (λ (ps : List Proc). space_of_life (life_of_proc (numbered (λ (p : Proc). p.pid) pid ps))) on.processes
@@ -230,11 +232,11 @@ module _ (m n : Standing) (pid : ℕ) (regs : Regs) (c : IsCaller m pid) (s : Se
   module _ (size since : ℕ) (sound : Sound size (record m.kernel { holdings = m.before })) (later : Sound since (record n.kernel { holdings = n.before })) where
     same_data : (sid : ℕ) → pieces (2 * data_count n.kernel.place sid) ≡ pieces (2 * data_count m.kernel.place sid)
     same_data sid =
-        sym (later.owner.blocks.data_held sid) ∙ ap (λ (hs : Holdings). lengths (owners.Data sid) hs) b.before ∙ sound.owner.blocks.data_held sid
+        sym (later.owner.blocks.data_held sid) ∙ ap (λ (hs : Holdings). lengths (owners.Data sid) hs) s.rest.before ∙ sound.owner.blocks.data_held sid
 
     same_stacks : (sid : ℕ) → pieces (2 * stack_count n.kernel.place sid) ≡ pieces (2 * stack_count m.kernel.place sid)
     same_stacks sid =
-        sym (later.owner.blocks.stack_held sid) ∙ ap (λ (hs : Holdings). lengths (owners.Stack sid) hs) b.before ∙ sound.owner.blocks.stack_held sid
+        sym (later.owner.blocks.stack_held sid) ∙ ap (λ (hs : Holdings). lengths (owners.Stack sid) hs) s.rest.before ∙ sound.owner.blocks.stack_held sid
 
     still_none : (images : List Image) (sid next wanted : ℕ) → wanted ≤ data_count m.kernel.place sid
         → change_asks images n.kernel.place sid next (Resize wanted (stack_count m.kernel.place sid)) ≡ []
@@ -247,8 +249,8 @@ module _ (m n : Standing) (pid : ℕ) (regs : Regs) (c : IsCaller m pid) (s : Se
     pub can_cut : (wanted stack : ℕ) → stack ≡ stack_pages_of m.kernel pid → stack ≤ 512 → wanted ≤ 4096 → wanted < data_pages_of m.kernel pid
         → CanApply n pid (call_entry pid Break regs) (Resize wanted stack)
     can_cut wanted stack is short few fewer =
-        can_size n pid regs lends_on wanted stack (on.due ∙ c.clear) (λ _. ap (is_settled n.kernel.place) same_space ∙ s.settled) few short
-        (none_placed n.params.swap_blocks n.before n.kernel.holdings (asked (facts_named n.images) n.kernel pid (Resize wanted stack)) (b.before ∙ c.whole ∙ sym on.holdings)
+        can_size n pid regs lends_on wanted stack (on.due ∙ c.clear) (λ _. ap (is_settled n.kernel.place) same_space ∙ s.settled.settled) few short
+        (none_placed n.params.swap_blocks n.before n.kernel.holdings (asked (facts_named n.images) n.kernel pid (Resize wanted stack)) (s.rest.before ∙ c.whole ∙ sym on.holdings)
         (ap (λ (t : ℕ). asked (facts_named n.images) n.kernel pid (Resize wanted t)) is
         ∙ ap (λ (x : ℕ). change_asks (facts_named n.images) n.kernel.place x n.kernel.next_sid (Resize wanted (stack_pages_of m.kernel pid))) same_space
         ∙ still_none (facts_named n.images) (space_held m.kernel pid) n.kernel.next_sid wanted (omega (arith, fewer))))

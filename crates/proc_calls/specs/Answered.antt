@@ -1,8 +1,10 @@
 -- What becomes of the machine by a call.
-use Rattle.std.specs.Prelude.{◌≡◌, ℕ, true, false, List, [], ◌∷◌, length, None, Result, Ok, Err}
+use Rattle.std.specs.Prelude.{◌≡◌, ◌⊎◌, ℕ, ◌≤◌, true, false, List, [], ◌∷◌, length, None, Result, Ok, Err}
 use Rattle.vm_facts.specs.declared.regs.Regs.{Regs}
 use Rattle.vm_facts.specs.declared.entry.Entry.{Entry}
 use Rattle.vm_facts.specs.declared.entry.Entry.TheVariants as entries
+use Rattle.vm_facts.specs.declared.stop.Stop.{Stop}
+use Rattle.vm_facts.specs.declared.stop.Stop.TheVariants as stops
 use Rattle.user_vax.specs.declared.refused.Refused.{Refused}
 use Rattle.user_vax.specs.declared.refused.Refused.TheVariants.{Miss, Below, Signal}
 use Rattle.flat_state.specs.declared.change.Change.{Change}
@@ -15,6 +17,7 @@ use Rattle.flat_model.specs.Step.{call_entry}
 use Rattle.kernel_model.specs.ChangeStep.{change_step}
 use Rattle.machine_state.specs.Machine.{Standing}
 use Rattle.machine_state.specs.Applying.{ChangesWhole, facts_named}
+use Rattle.machine_state.specs.Conditions.{HasStopped}
 use Rattle.proc_calls.specs.Callers.{regs_of}
 use Rattle.proc_calls.specs.declared.replying.Called.{Called}
 use Rattle.proc_calls.specs.declared.replying.Called.TheVariants as calls
@@ -59,3 +62,9 @@ Comes old new pid call regs (Ok reply) called = Replied old new pid call regs re
 Comes old new pid call regs (Err (Miss address write)) called = (called ≡ calls.Miss address) × (new ≡ old)
 Comes old new pid call regs (Err (Below address)) called = Replied old new pid call regs (Fails fault) called
 Comes old new pid call regs (Err (Signal number)) called = Replied old new pid call regs (Fails fault) called
+
+-- The machine stops before an entry: for want of memory, or since the journal is full, which it is only at its bound.
+pub record StopsBefore (old new : Standing) (stop : Stop) : Type 0 where
+  pub stopped : HasStopped old new
+  pub cause : (stop ≡ stops.JournalFull) ⊎ (stop ≡ stops.NoMemory)
+  pub full : stop ≡ stops.JournalFull → old.params.journal ≤ length old.kernel.journal

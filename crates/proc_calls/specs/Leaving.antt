@@ -1,8 +1,9 @@
 -- What becomes of the machine where a process leaves its space, and where it ends.
-use Rattle.std.specs.Prelude.{◌≡◌, ℕ, Bool, true, false, List, Option, Result, Ok, Err}
+use Rattle.std.specs.Prelude.{◌≡◌, ◌⊎◌, ℕ, Bool, true, false, List, Option, Result, Ok, Err}
 use Rattle.io_edge.specs.FileHolding.{NamedFile}
 use Rattle.vm_facts.specs.declared.entry.Entry.TheVariants as entries
 use Rattle.vm_facts.specs.declared.regs.Regs.{Regs}
+use Rattle.vm_facts.specs.declared.stop.Stop.{Stop}
 use Rattle.user_vax.specs.declared.refused.Refused.{Refused}
 use Rattle.flat_model.specs.declared.calls.Reply.{Reply}
 use Rattle.flat_model.specs.declared.calls.Reply.TheVariants.{Exits}
@@ -11,16 +12,17 @@ use Rattle.flat_state.specs.declared.change.Change.TheVariants.{End}
 use Rattle.kernel_model.specs.ChangeStep.{pass_step}
 use Rattle.kernel_model.specs.Unit.{lender_among, has_lender}
 use Rattle.machine_state.specs.Machine.{Standing}
-use Rattle.machine_state.specs.Settled.{SettledBy, IsSameBeside}
-use Rattle.machine_state.specs.Done.{KeepsThrough}
+use Rattle.machine_state.specs.Settled.{SettledBy, IsSameBeside, StopsSettling}
+use Rattle.machine_state.specs.Done.{sources, KeepsThrough}
 use Rattle.proc_calls.specs.Callers.{space_held, regs_of}
-use Rattle.proc_calls.specs.Answered.{Entered, Comes}
+use Rattle.proc_calls.specs.Answered.{Entered, Comes, StopsBefore}
 use Rattle.proc_calls.specs.declared.replying.Called.{Called}
 use Rattle.proc_calls.specs.declared.replying.Called.TheVariants as calls
 
--- transfers end until a space is settled, and the flat states are kept through the devices
+-- Transfers end until a space is settled, each read with the bytes of the files and the swap image, and the flat states are
+-- kept through the devices.
 pub record HasSettled (old new : Standing) (sid : ℕ) (holds : Option (List NamedFile)) (before after : Option (List ℕ)) : Type 0 where
-  pub settled : SettledBy sid old.kernel new.kernel
+  pub settled : SettledBy (sources old holds) sid old.kernel new.kernel before after
   pub rest : IsSameBeside old new
   pub keeps : KeepsThrough old new holds before after
 
@@ -53,3 +55,25 @@ abbrev pub ExitComes : Standing → Standing → ℕ → Regs → Result Reply R
 ExitComes old new pid regs (Ok (Exits status)) holds before after called = (called ≡ calls.Gone) × HasEnded old new pid status holds before after
 ExitComes old new pid regs (Ok reply) holds before after called = ⊥
 ExitComes old new pid regs (Err refused) holds before after called = Comes old new pid Exit regs (Err refused) called × (after ≡ before)
+
+-- Where the machine stops.
+
+-- a process stops as it leaves its space only as a space of its own settles
+pub record StopsLeaving (old new : Standing) (pid : ℕ) (holds : Option (List NamedFile)) (before after : Option (List ℕ)) (stop : Stop) : Type 0 where
+  pub own : has_lender old.kernel.processes pid ≡ false
+  pub settling : StopsSettling (space_held old.kernel pid) old new holds before after stop
+
+-- once the process left its space, at the entry of its end, with the swap image as it was there
+pub record StopsOnceLeft (old new : Standing) (pid : ℕ) (holds : Option (List NamedFile)) (before after : Option (List ℕ)) (stop : Stop) : Type 0 where
+  pub between : Standing
+  pub left : HasLeft old between pid holds before after
+  pub stops : StopsBefore between new stop
+
+-- a process stops before it has ended: as it leaves its space, or behind that
+abbrev pub StopsAlive : Standing → Standing → ℕ → Option (List NamedFile) → Option (List ℕ) → Option (List ℕ) → Stop → Type 0
+StopsAlive old new pid holds before after stop = StopsLeaving old new pid holds before after stop ⊎ StopsOnceLeft old new pid holds before after stop
+
+-- an exit stops so, or, where its argument is refused, before the entry that says so
+abbrev pub StopsExit : Standing → Standing → ℕ → Result Reply Refused → Option (List NamedFile) → Option (List ℕ) → Option (List ℕ) → Stop → Type 0
+StopsExit old new pid (Ok reply) holds before after stop = StopsAlive old new pid holds before after stop
+StopsExit old new pid (Err refused) holds before after stop = StopsBefore old new stop × (after ≡ before)

@@ -2,6 +2,7 @@
 use Rattle.std.specs.Prelude.{◌≡◌, ◌⊎◌, ℕ, ◌-◌, ◌<◌, ◌≤◌, nat_le, false, List, Option, None, Result, Ok, Err, is_ok}
 use Rattle.vm_facts.specs.declared.regs.Regs.{Regs}
 use Rattle.vm_facts.specs.declared.entry.Entry.TheVariants as entries
+use Rattle.vm_facts.specs.declared.stop.Stop.{Stop}
 use Rattle.io_edge.specs.FileHolding.{NamedFile}
 use Rattle.aout_image.specs.Image.{pages_for}
 use Rattle.user_vax.specs.declared.refused.Refused.{Refused}
@@ -18,9 +19,10 @@ use Rattle.kernel_model.specs.Kernel.{Kernel, note_step}
 use Rattle.kernel_model.specs.Asks.{asked}
 use Rattle.machine_state.specs.Machine.{Standing}
 use Rattle.machine_state.specs.Applying.{facts_named}
+use Rattle.machine_state.specs.Settled.{StopsSettling}
 use Rattle.machine_state.specs.UserMemory.{text_len}
 use Rattle.proc_calls.specs.Callers.{space_held}
-use Rattle.proc_calls.specs.Answered.{Replied, Comes}
+use Rattle.proc_calls.specs.Answered.{Replied, Comes, StopsBefore}
 use Rattle.proc_calls.specs.Leaving.{HasSettled}
 use Rattle.proc_calls.specs.declared.replying.Called.{Called}
 
@@ -104,3 +106,36 @@ MovesEnd old new pid regs pages holds before after called =
 abbrev pub BreakComes : Standing → Standing → ℕ → Regs → Result ℕ Refused → Option (List NamedFile) → Option (List ℕ) → Option (List ℕ) → Called → Type 0
 BreakComes old new pid regs (Ok address) holds before after called = MovesEnd old new pid regs (pages_to old.kernel pid address) holds before after called
 BreakComes old new pid regs (Err refused) holds before after called = Comes old new pid Break regs (Err refused) called × (after ≡ before)
+
+-- Where the machine stops.
+
+-- behind the entry that says that the pieces of more pages find no place
+pub record StopsRefused (old new : Standing) (pid pages : ℕ) (stop : Stop) : Type 0 where
+  pub more : data_pages_of old.kernel pid < pages
+  pub few : pages ≤ data_limit
+  pub none : is_ok (pieces_found old pid pages) ≡ false
+  pub stops : StopsBefore (with_refusal old pid) new stop
+
+-- with no call of a device: as it was, or so
+abbrev pub StopsPlain : Standing → Standing → ℕ → ℕ → Stop → Type 0
+StopsPlain old new pid pages stop = StopsBefore old new stop ⊎ StopsRefused old new pid pages stop
+
+-- once the space is settled, before the reply, with the swap image as it was there
+pub record StopsOnceSettled (old new : Standing) (sid : ℕ) (holds : Option (List NamedFile)) (before after : Option (List ℕ)) (stop : Stop) : Type 0 where
+  pub between : Standing
+  pub settled : HasSettled old between sid holds before after
+  pub stops : StopsBefore between new stop
+
+-- with fewer pages: while the space settles, or so
+pub record StopsCutting (old new : Standing) (pid pages : ℕ) (holds : Option (List NamedFile)) (before after : Option (List ℕ)) (stop : Stop) : Type 0 where
+  pub fewer : pages < data_pages_of old.kernel pid
+  pub stops : StopsSettling (space_held old.kernel pid) old new holds before after stop ⊎ StopsOnceSettled old new (space_held old.kernel pid) holds before after stop
+
+abbrev pub StopsMoving : Standing → Standing → ℕ → ℕ → Option (List NamedFile) → Option (List ℕ) → Option (List ℕ) → Stop → Type 0
+StopsMoving old new pid pages holds before after stop =
+    (StopsPlain old new pid pages stop × (after ≡ before)) ⊎ StopsCutting old new pid pages holds before after stop
+
+-- by what the argument reads as
+abbrev pub StopsBreak : Standing → Standing → ℕ → Result ℕ Refused → Option (List NamedFile) → Option (List ℕ) → Option (List ℕ) → Stop → Type 0
+StopsBreak old new pid (Ok address) holds before after stop = StopsMoving old new pid (pages_to old.kernel pid address) holds before after stop
+StopsBreak old new pid (Err refused) holds before after stop = StopsBefore old new stop × (after ≡ before)

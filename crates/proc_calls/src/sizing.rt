@@ -1,5 +1,5 @@
 //! The call that moves the end of the data.
-ghost use Rattle.std.specs.Prelude.{◌≡◌, ◌<◌, ◌≤◌, true, false, IfOk, OnErr};
+ghost use Rattle.std.specs.Prelude.{◌≡◌, ◌<◌, ◌≤◌, false, IfOk, IfErr};
 ghost use Rattle.core_map.specs.Frames.{Frames};
 ghost use Rattle.user_vax.specs.Program.{run};
 ghost use Rattle.flat_state.specs.declared.change.Change.TheVariants.{Resize};
@@ -11,11 +11,12 @@ ghost use Rattle.page_model.specs.Placement.{image_of};
 ghost use Rattle.table_view.specs.Views.{ShowsSpace};
 ghost use Rattle.machine_state.specs.Showing.{ShowsCore};
 ghost use Rattle.machine_state.specs.Applying.{CanApply};
+ghost use Rattle.machine_state.specs.Done.{CountsPages, CountsReads, CountsWrites};
 ghost use Rattle.machine_state.specs.Files.{AreFiles};
 ghost use Rattle.machine_state.specs.UserMemory.{CanLend, kernel_answers};
-ghost use Rattle.proc_calls.specs.Answered.{Replied};
+ghost use Rattle.proc_calls.specs.Answered.{Replied, StopsBefore};
 ghost use Rattle.proc_calls.specs.Callers.{space_held, IsCaller};
-ghost use Rattle.proc_calls.specs.Sizing.{data_pages_of, stack_pages_of, pages_to, Grows, CutData, MovesEnd, BreakComes};
+ghost use Rattle.proc_calls.specs.Sizing.{data_pages_of, stack_pages_of, pages_to, Grows, CutData, MovesEnd, BreakComes, StopsPlain, StopsCutting, StopsMoving, StopsBreak};
 
 use crate::replying::{Called, fail, process, refuse, replied_one, reply};
 use flat_model::{Asked, DATA_LIMIT, ENOMEM, SystemCall, argument};
@@ -79,7 +80,7 @@ fn resize(m: &mut Machine, pid: u32, regs: &Regs, sizes: Sizes) -> Result<Called
     requires running { m.old.kernel.stopped ≡ false }
     requires can { CanApply m.old pid (call_entry pid Break (replied regs.now false 0)) (Resize sizes.wanted sizes.stack_pages) }
     ensures replied { IfOk result (Replied m.old m.new pid Break regs.now (Does (replied regs.now false 0) (Resize sizes.wanted sizes.stack_pages))) }
-    ensures stop { OnErr result (m.new.kernel.stopped ≡ true) }
+    ensures stops { IfErr result (StopsBefore m.old m.new) }
 {
     let change = Change::Resize {
         data_pages: sizes.wanted,
@@ -97,7 +98,7 @@ fn grow(m: &mut Machine, pid: u32, regs: &Regs, sizes: Sizes) -> Result<Called, 
     requires most { sizes.wanted ≤ data_limit }
     requires more { data_pages_of m.old.kernel pid < sizes.wanted }
     ensures grows { IfOk result (Grows m.old m.new pid regs.now sizes.wanted) }
-    ensures stop { OnErr result (m.new.kernel.stopped ≡ true) }
+    ensures stops { IfErr result (StopsPlain m.old m.new pid sizes.wanted) }
 {
     m.sound();
     let want = Want {
@@ -129,11 +130,15 @@ fn cut<F: Files, D: SwapDev>(
     requires most { sizes.wanted ≤ data_limit }
     requires fewer { sizes.wanted < data_pages_of m.old.kernel pid }
     ensures cut { IfOk result (CutData m.old m.new pid regs.now sizes.wanted (F.holds files.old) (D.image swap.old) (D.image swap.new)) }
-    ensures stop { OnErr result (m.new.kernel.stopped ≡ true) }
+    ensures stops { IfErr result (StopsCutting m.old m.new pid sizes.wanted (F.holds files.old) (D.image swap.old) (D.image swap.new)) }
     ensures files_lead { F.leads files.old files.new }
     ensures swap_leads { D.leads swap.old swap.new }
     ensures holds { F.holds files.new ≡ F.holds files.old }
     ensures blocks { D.blocks swap.new ≡ D.blocks swap.old }
+    ensures open_faults { F.open_faults files.new ≡ F.open_faults files.old }
+    ensures page_faults { CountsPages result (F.page_faults files.old) (F.page_faults files.new) }
+    ensures read_faults { CountsReads result (D.read_faults swap.old) (D.read_faults swap.new) }
+    ensures write_faults { CountsWrites result (D.write_faults swap.old) (D.write_faults swap.new) }
 {
     m.sound();
     m.settle(files, swap, sizes.sid)?;
@@ -164,11 +169,15 @@ fn move_end<F: Files, D: SwapDev>(
     requires area { m.old.params.swap_blocks ≤ D.blocks swap.old }
     requires files { AreFiles m.old.images (F.holds files.old) }
     ensures moves { IfOk result (MovesEnd m.old m.new pid regs.now (pages_to m.old.kernel pid address) (F.holds files.old) (D.image swap.old) (D.image swap.new)) }
-    ensures stop { OnErr result (m.new.kernel.stopped ≡ true) }
+    ensures stops { IfErr result (StopsMoving m.old m.new pid (pages_to m.old.kernel pid address) (F.holds files.old) (D.image swap.old) (D.image swap.new)) }
     ensures files_lead { F.leads files.old files.new }
     ensures swap_leads { D.leads swap.old swap.new }
     ensures holds { F.holds files.new ≡ F.holds files.old }
     ensures blocks { D.blocks swap.new ≡ D.blocks swap.old }
+    ensures open_faults { F.open_faults files.new ≡ F.open_faults files.old }
+    ensures page_faults { CountsPages result (F.page_faults files.old) (F.page_faults files.new) }
+    ensures read_faults { CountsReads result (D.read_faults swap.old) (D.read_faults swap.new) }
+    ensures write_faults { CountsWrites result (D.write_faults swap.old) (D.write_faults swap.new) }
 {
     let sizes = sizes_to(m, pid, address);
     if sizes.wanted > DATA_LIMIT {
@@ -196,11 +205,15 @@ pub fn brk<F: Files, D: SwapDev>(
     requires area { m.old.params.swap_blocks ≤ D.blocks swap.old }
     requires files { AreFiles m.old.images (F.holds files.old) }
     ensures comes { IfOk result (BreakComes m.old m.new pid regs.now (run (kernel_answers m.old.kernel (space_held m.old.kernel pid)) (argument regs.now 1)) (F.holds files.old) (D.image swap.old) (D.image swap.new)) }
-    ensures stop { OnErr result (m.new.kernel.stopped ≡ true) }
+    ensures stops { IfErr result (StopsBreak m.old m.new pid (run (kernel_answers m.old.kernel (space_held m.old.kernel pid)) (argument regs.now 1)) (F.holds files.old) (D.image swap.old) (D.image swap.new)) }
     ensures files_lead { F.leads files.old files.new }
     ensures swap_leads { D.leads swap.old swap.new }
     ensures holds { F.holds files.new ≡ F.holds files.old }
     ensures blocks { D.blocks swap.new ≡ D.blocks swap.old }
+    ensures open_faults { F.open_faults files.new ≡ F.open_faults files.old }
+    ensures page_faults { CountsPages result (F.page_faults files.old) (F.page_faults files.new) }
+    ensures read_faults { CountsReads result (D.read_faults swap.old) (D.read_faults swap.new) }
+    ensures write_faults { CountsWrites result (D.write_faults swap.old) (D.write_faults swap.new) }
 {
     match read_address(m, pid, regs) {
         Err(refused) => refuse(m, pid, SystemCall::Break, regs, refused),

@@ -1,8 +1,8 @@
 use Rattle.std.proofs.Common.{ℕ, sym, ◌∙◌, subst}
-use Rattle.std.specs.Prelude.{Result, IfOk}
+use Rattle.std.specs.Prelude.{Result, IfOk, IfErr}
 use Rattle.user_vax.specs.declared.refused.Refused.{Refused}
 use Rattle.machine_state.specs.Machine.{Standing}
-use Rattle.proc_calls.specs.Sizing.{pages_to, MovesEnd, BreakComes}
+use Rattle.proc_calls.specs.Sizing.{pages_to, MovesEnd, BreakComes, StopsMoving, StopsBreak}
 use Rattle.proc_calls.proofs.sizing.brk.Goals as goal
 
 pub returns-in-Ok-clause-comes : goal.returns-in-Ok-clause-comes
@@ -17,3 +17,16 @@ returns-in-Ok-clause-comes g c =
     c.read_address.ensures.same c.move_end.ensures.moves in
     subst (λ (r : Result ℕ Refused). IfOk c.move_end.result (BreakComes m n c.args.pid c.args.regs.now r holds i j))
     (sym c.in-Ok.is ∙ c.read_address.ensures.value) moves
+
+pub returns-in-Ok-clause-stops : goal.returns-in-Ok-clause-stops
+returns-in-Ok-clause-stops g c =
+    let m = c.args.m.now in
+    let n = c.move_end.new.m in
+    let holds = g.F.Files.holds c.args.files.now in
+    let i = g.D.SwapDev.image c.args.swap.now in
+    let j = g.D.SwapDev.image c.move_end.new.swap in
+    let moving =
+    subst (λ (x : Standing). IfErr c.move_end.result (StopsMoving x n c.args.pid (pages_to x.kernel c.args.pid c.in-Ok.address) holds i j))
+    c.read_address.ensures.same c.move_end.ensures.stops in
+    subst (λ (r : Result ℕ Refused). IfErr c.move_end.result (StopsBreak m n c.args.pid r holds i j))
+    (sym c.in-Ok.is ∙ c.read_address.ensures.value) moving
