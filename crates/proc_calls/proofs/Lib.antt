@@ -2,6 +2,7 @@ pub mod Callers
 pub mod Leaving
 pub mod Exits
 pub mod Sizes
+pub mod Breaks
 pub mod Names
 pub mod Crowded
 pub mod Copies

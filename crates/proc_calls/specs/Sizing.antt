@@ -49,6 +49,11 @@ data_sized k pid pages = Resize pages (stack_pages_of k pid)
 abbrev pub break_at : Kernel → ℕ → Regs → ℕ → Reply
 break_at k pid regs pages = break_by (nat_le pages data_limit) regs pages (stack_pages_of k pid)
 
+-- by what the argument reads as
+abbrev pub break_read : Kernel → ℕ → Regs → Result ℕ Refused → Result Reply Refused
+break_read k pid regs (Ok address) = Ok (break_at k pid regs (pages_to k pid address))
+break_read k pid regs (Err refused) = Err refused
+
 -- the holdings once the pieces for that are found, or the length of the first piece that finds no place
 abbrev pub pieces_found : Standing → ℕ → ℕ → Result Holdings ℕ
 pieces_found m pid pages = place_all m.params.swap_blocks m.kernel.holdings (asked (facts_named m.images) m.kernel pid (data_sized m.kernel pid pages))

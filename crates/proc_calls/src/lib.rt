@@ -8,6 +8,7 @@
 mod children;
 mod copying;
 mod ending;
+mod laws;
 mod making;
 mod reading;
 mod replying;
@@ -17,6 +18,7 @@ mod writing;
 pub use children::{getpid, wait};
 pub use copying::copy_due;
 pub use ending::{exit, kill, leave_space};
+pub use laws::break_is_flat;
 pub use making::vfork;
 pub use reading::read_by_call;
 pub use replying::Called;
