@@ -119,7 +119,7 @@ settled_runs from sid old new before after r s = let on = settled_goes from sid 
 
 -- Once the space that it borrowed went back.
 
-lender_lives : (o : Option Proc) (sid child : ℕ) → life_of_proc o ≡ LendsSpace sid child → lives_in o ≡ true
+pub lender_lives : (o : Option Proc) (sid child : ℕ) → life_of_proc o ≡ LendsSpace sid child → lives_in o ≡ true
 lender_lives None sid child e = absurd cc
 lender_lives (Some p) sid child e = ap has_life e
 

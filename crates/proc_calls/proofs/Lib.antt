@@ -3,6 +3,9 @@ pub mod Leaving
 pub mod Exits
 pub mod Sizes
 pub mod Breaks
+pub mod Starts
+pub mod Spaces
+pub mod Begins
 pub mod Names
 pub mod Crowded
 pub mod Copies

@@ -63,13 +63,13 @@ pub record StopsLeaving (old new : Standing) (pid : ℕ) (holds : Option (List N
   pub own : has_lender old.kernel.processes pid ≡ false
   pub settling : StopsSettling (space_held old.kernel pid) old new holds before after stop
 
--- once the process left its space, at the entry of its end, with the swap image as it was there
+-- once the process left its space, before the entry that follows, with the swap image as it was there
 pub record StopsOnceLeft (old new : Standing) (pid : ℕ) (holds : Option (List NamedFile)) (before after : Option (List ℕ)) (stop : Stop) : Type 0 where
   pub between : Standing
   pub left : HasLeft old between pid holds before after
   pub stops : StopsBefore between new stop
 
--- a process stops before it has ended: as it leaves its space, or behind that
+-- a machine stops before a process has ended or has its image: as the process leaves its space, or behind that
 abbrev pub StopsAlive : Standing → Standing → ℕ → Option (List NamedFile) → Option (List ℕ) → Option (List ℕ) → Stop → Type 0
 StopsAlive old new pid holds before after stop = StopsLeaving old new pid holds before after stop ⊎ StopsOnceLeft old new pid holds before after stop
 

@@ -4,6 +4,7 @@ pub mod Leaving
 pub mod Copying
 pub mod Making
 pub mod Sizing
+pub mod Starting
 pub mod Waiting
 pub mod Reading
 pub mod Writing

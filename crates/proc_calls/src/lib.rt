@@ -13,6 +13,7 @@ mod making;
 mod reading;
 mod replying;
 mod sizing;
+mod starting;
 mod writing;
 
 pub use children::{getpid, wait};
@@ -23,4 +24,5 @@ pub use making::vfork;
 pub use reading::read_by_call;
 pub use replying::Called;
 pub use sizing::brk;
+pub use starting::start_image;
 pub use writing::write;

@@ -1,0 +1,115 @@
+-- What becomes of the machine where a process starts another image, and where it stops.
+use Rattle.std.specs.Prelude.{◌≡◌, ◌⊎◌, ℕ, ◌*◌, nat_lt, Bool, true, false, List, [], ◌∷◌, length, Option, Some, Result, Ok, is_ok}
+use Rattle.io_edge.specs.FileHolding.{NamedFile}
+use Rattle.vm_facts.specs.declared.regs.Regs.{Regs}
+use Rattle.vm_facts.specs.declared.page.Page.TheVariants.{Text}
+use Rattle.vm_facts.specs.declared.stop.Stop.{Stop}
+use Rattle.aout_image.specs.declared.Image.{Image}
+use Rattle.aout_image.specs.Image.{text_pages_of, data_pages_of}
+use Rattle.swap_book.specs.declared.Owner.TheVariants as owners
+use Rattle.swap_book.specs.Holdings.{Holdings}
+use Rattle.swap_book.specs.Placing.{Wanted, place_all}
+use Rattle.flat_state.specs.declared.change.Change.TheVariants.{Exec}
+use Rattle.flat_model.specs.declared.calls.SystemCall.TheVariants.{Execve}
+use Rattle.page_model.specs.Placement.{Placement, slots_of, sharers}
+use Rattle.page_model.specs.Place.{facts_numbered}
+use Rattle.kernel_model.specs.Asks.{image_asked}
+use Rattle.machine_state.specs.Machine.{Standing}
+use Rattle.machine_state.specs.Sourced.{ImageNamed, named_at}
+use Rattle.machine_state.specs.Applying.{facts_named}
+use Rattle.machine_state.specs.Conditions.{KeepsFlat}
+use Rattle.machine_state.specs.Wants.{found_for}
+use Rattle.machine_state.specs.declared.pieces.Want.{Want}
+use Rattle.proc_calls.specs.Answered.{Answered, StopsBefore}
+use Rattle.proc_calls.specs.Leaving.{HasLeft, StopsAlive}
+use Rattle.proc_calls.specs.Making.{with_pieces, without_pieces, IsRefused}
+
+-- The pieces.
+
+-- the text of each image has as many pages as its header tells
+abbrev pub TextsStand : Standing → Type 0
+TextsStand m = (image : ℕ) (n : ImageNamed) → named_at m.images image ≡ Some n → length (slots_of m.kernel.place (Text image 0)) ≡ text_pages_of n.facts
+
+-- the pieces of the next space, in which an image starts
+abbrev pub image_wanted : Standing → ℕ → List Wanted
+image_wanted m image = image_asked m.kernel.place m.kernel.next_sid image (facts_numbered (facts_named m.images) image)
+
+-- the holdings once they are found
+abbrev pub image_found : ℕ → Standing → Result Holdings ℕ
+image_found image m = place_all m.params.swap_blocks m.kernel.holdings (image_wanted m image)
+
+-- the holdings once the pieces are found that are asked for so
+abbrev pub wants_found : List Want → Standing → Result Holdings ℕ
+wants_found wants m = found_for m.params.swap_blocks m.kernel.holdings wants
+
+-- some space shares an image's text
+abbrev pub is_shared : Placement → ℕ → Bool
+is_shared p image = nat_lt 0 (sharers p image)
+
+-- what an image wants in a space: its text, its data, and one page of stack
+abbrev pub three_wants : ℕ → ℕ → Image → List Want
+three_wants sid image facts =
+    record { owner = owners.Text image; blocks = 2 * text_pages_of facts }
+    ∷ record { owner = owners.Data sid; blocks = 2 * data_pages_of facts }
+    ∷ record { owner = owners.Stack sid; blocks = 2 } ∷ []
+
+-- this is what the image of this number wants in the next space
+pub record AreNextWants (m : Standing) (image : ℕ) (wants : List Want) : Type 0 where
+  pub named : ImageNamed
+  pub is : named_at m.images image ≡ Some named
+  pub are : wants ≡ three_wants m.kernel.next_sid image named.facts
+
+-- What becomes of the machine.
+
+-- a process left its space, and then pieces were found
+pub record LeavesFor (pieces : Standing → Result Holdings ℕ) (old new : Standing) (pid : ℕ) (holds : Option (List NamedFile)) (before after : Option (List ℕ)) : Type 0 where
+  pub between : Standing
+  pub left : HasLeft old between pid holds before after
+  pub found : Holdings
+  pub finds : pieces between ≡ Ok found
+  pub step : new ≡ with_pieces between found
+
+-- an entry says that they find no place, and leaves the flat states as they are
+pub record StaysWithout (old new : Standing) (pid : ℕ) (before after : Option (List ℕ)) : Type 0 where
+  pub step : new ≡ without_pieces old pid
+  pub keeps : KeepsFlat old.kernel new.kernel
+  pub image : after ≡ before
+
+-- by whether they find their places
+abbrev pub FindsBy : Bool → (Standing → Result Holdings ℕ) → Standing → Standing → ℕ → Option (List NamedFile) → Option (List ℕ) → Option (List ℕ) → Type 0
+FindsBy true pieces old new pid holds before after = LeavesFor pieces old new pid holds before after
+FindsBy false pieces old new pid holds before after = StaysWithout old new pid before after
+
+-- Pieces are looked for, and where they find their places the process leaves its space before they are found.
+pub record Finds (pieces : Standing → Result Holdings ℕ) (fits : Bool) (old new : Standing) (pid : ℕ) (holds : Option (List NamedFile)) (before after : Option (List ℕ)) : Type 0 where
+  pub answer : fits ≡ is_ok (pieces old)
+  pub finds : FindsBy fits pieces old new pid holds before after
+
+-- once the process left its space and the pieces of the image were found, the call answers with the change
+pub record HasStarted (old new : Standing) (pid : ℕ) (after : Regs) (image : ℕ) (top : List ℕ) (holds : Option (List NamedFile)) (before behind : Option (List ℕ)) : Type 0 where
+  pub asked : Standing
+  pub finds : LeavesFor (image_found image) old asked pid holds before behind
+  pub answer : Answered asked new pid Execve after (Exec image top)
+
+-- by whether the pieces of the image find their places: else that is an entry, and then the call fails
+abbrev pub StartsBy : Bool → Standing → Standing → ℕ → Regs → Regs → ℕ → List ℕ → Option (List NamedFile) → Option (List ℕ) → Option (List ℕ) → Type 0
+StartsBy true old new pid regs after image top holds before behind = HasStarted old new pid after image top holds before behind
+StartsBy false old new pid regs after image top holds before behind = IsRefused old new pid Execve regs × (behind ≡ before)
+
+abbrev pub Starts : Standing → Standing → ℕ → Regs → Regs → ℕ → List ℕ → Option (List NamedFile) → Option (List ℕ) → Option (List ℕ) → Type 0
+Starts old new pid regs after image top holds before behind = StartsBy (is_ok (image_found image old)) old new pid regs after image top holds before behind
+
+-- Where the machine stops.
+
+-- as it was, or as the process leaves its space, or behind that
+abbrev pub StopsFinding : Standing → Standing → ℕ → Option (List NamedFile) → Option (List ℕ) → Option (List ℕ) → Stop → Type 0
+StopsFinding old new pid holds before after stop = (StopsBefore old new stop × (after ≡ before)) ⊎ StopsAlive old new pid holds before after stop
+
+-- behind the entry that says that the pieces of the image find no place
+pub record StopsWithout (old new : Standing) (pid image : ℕ) (before after : Option (List ℕ)) (stop : Stop) : Type 0 where
+  pub none : is_ok (image_found image old) ≡ false
+  pub stops : StopsBefore (without_pieces old pid) new stop
+  pub image_same : after ≡ before
+
+abbrev pub StopsStarting : Standing → Standing → ℕ → ℕ → Option (List NamedFile) → Option (List ℕ) → Option (List ℕ) → Stop → Type 0
+StopsStarting old new pid image holds before after stop = StopsFinding old new pid holds before after stop ⊎ StopsWithout old new pid image before after stop

@@ -1,0 +1,149 @@
+//! Starts of images.
+ghost use Rattle.std.specs.Prelude.{◌≡◌, ◌<◌, ◌≤◌, true, false, length, IfOk, OnOk, IfErr, Ok};
+ghost use Rattle.kernel_model.specs.Unit.{has_lender, lender_among};
+ghost use Rattle.machine_state.specs.Done.{CountsPages, CountsReads, CountsWrites};
+ghost use Rattle.machine_state.specs.Files.{AreFiles};
+ghost use Rattle.machine_state.specs.Wants.{CanAsk};
+ghost use Rattle.vfork_pass.specs.Passed.{HasGivenBack};
+ghost use Rattle.proc_calls.specs.Callers.{IsCaller};
+ghost use Rattle.proc_calls.specs.Starting.{TextsStand, image_found, wants_found, is_shared, AreNextWants, Finds, Starts, StopsFinding, StopsStarting};
+
+use crate::ending::leave_space;
+use crate::replying::{Called, fail, reply};
+use flat_model::{ENOMEM, SystemCall};
+use flat_state::Change;
+use io_edge::{Files, SwapDev};
+use machine_state::{Machine, Want, image_wants};
+use vm_facts::{Bytes, Regs, Stop};
+
+// Pieces are found for the next image of a process. Where they find their places the process leaves its space first, since
+// no transfer completes while found pieces wait for their entry.
+fn find_pieces<F: Files, D: SwapDev>(
+    m: &mut Machine,
+    files: &mut F,
+    swap: &mut D,
+    pid: u32,
+    wants: &[Want],
+) -> Result<bool, Stop>
+    requires calls { IsCaller m.old pid }
+    requires area { m.old.params.swap_blocks ≤ D.blocks swap.old }
+    requires files { AreFiles m.old.images (F.holds files.old) }
+    requires can { CanAsk m.old.kernel.holdings wants.now }
+    ensures finds { IfOk result (λ fits. Finds (wants_found wants.now) fits m.old m.new pid (F.holds files.old) (D.image swap.old) (D.image swap.new)) }
+    ensures given { result ≡ Ok true → has_lender m.old.kernel.processes pid ≡ true → HasGivenBack m.old.kernel m.new.kernel pid (lender_among m.old.kernel.processes pid) }
+    ensures stops { IfErr result (StopsFinding m.old m.new pid (F.holds files.old) (D.image swap.old) (D.image swap.new)) }
+    ensures files_lead { F.leads files.old files.new }
+    ensures swap_leads { D.leads swap.old swap.new }
+    ensures holds { F.holds files.new ≡ F.holds files.old }
+    ensures blocks { D.blocks swap.new ≡ D.blocks swap.old }
+    ensures open_faults { F.open_faults files.new ≡ F.open_faults files.old }
+    ensures page_faults { CountsPages result (F.page_faults files.old) (F.page_faults files.new) }
+    ensures read_faults { CountsReads result (D.read_faults swap.old) (D.read_faults swap.new) }
+    ensures write_faults { CountsWrites result (D.write_faults swap.old) (D.write_faults swap.new) }
+{
+    if !m.fits(wants)? {
+        return m.ask(pid, wants);
+    }
+    leave_space(m, files, swap, pid)?;
+    m.ask(pid, wants)
+}
+
+// Whether some space shares an image's text.
+fn is_shared(m: &Machine, image: u32) -> bool
+    requires { m.now.kernel.stopped ≡ false }
+    ensures { result ≡ is_shared m.now.kernel.place image }
+{
+    m.sound();
+    m.sharer(image).is_some()
+}
+
+// What an image wants in the next space.
+fn next_wants(m: &Machine, image: u32) -> [Want; 3]
+    requires running { m.now.kernel.stopped ≡ false }
+    requires above { 0 < image }
+    requires within { image ≤ length m.now.images }
+    ensures { AreNextWants m.now image result }
+{
+    m.sound();
+    let facts = m.images()[image as usize - 1].facts;
+    image_wants(&facts, image, m.next_numbers().1)
+}
+
+// The pieces of the next space are found, in which an image starts.
+fn find_space<F: Files, D: SwapDev>(
+    m: &mut Machine,
+    files: &mut F,
+    swap: &mut D,
+    pid: u32,
+    image: u32,
+) -> Result<bool, Stop>
+    requires calls { IsCaller m.old pid }
+    requires area { m.old.params.swap_blocks ≤ D.blocks swap.old }
+    requires files { AreFiles m.old.images (F.holds files.old) }
+    requires texts { TextsStand m.old }
+    requires above { 0 < image }
+    requires within { image ≤ length m.old.images }
+    ensures finds { IfOk result (λ fits. Finds (image_found image) fits m.old m.new pid (F.holds files.old) (D.image swap.old) (D.image swap.new)) }
+    ensures given { result ≡ Ok true → has_lender m.old.kernel.processes pid ≡ true → HasGivenBack m.old.kernel m.new.kernel pid (lender_among m.old.kernel.processes pid) }
+    ensures stops { IfErr result (StopsFinding m.old m.new pid (F.holds files.old) (D.image swap.old) (D.image swap.new)) }
+    ensures files_lead { F.leads files.old files.new }
+    ensures swap_leads { D.leads swap.old swap.new }
+    ensures holds { F.holds files.new ≡ F.holds files.old }
+    ensures blocks { D.blocks swap.new ≡ D.blocks swap.old }
+    ensures open_faults { F.open_faults files.new ≡ F.open_faults files.old }
+    ensures page_faults { CountsPages result (F.page_faults files.old) (F.page_faults files.new) }
+    ensures read_faults { CountsReads result (D.read_faults swap.old) (D.read_faults swap.new) }
+    ensures write_faults { CountsWrites result (D.write_faults swap.old) (D.write_faults swap.new) }
+{
+    m.sound();
+    let [text, data, stack] = next_wants(m, image);
+    if is_shared(m, image) {
+        find_pieces(m, files, swap, pid, &[data, stack])
+    } else {
+        find_pieces(m, files, swap, pid, &[text, data, stack])
+    }
+}
+
+/// A process starts an image, with these registers and this stack page 0, which is due then. Where the pieces of swap find no
+/// place the call fails instead, with the registers that the process has.
+pub fn start_image<F: Files, D: SwapDev>(
+    m: &mut Machine,
+    files: &mut F,
+    swap: &mut D,
+    pid: u32,
+    regs: &Regs,
+    after: &Regs,
+    image: u32,
+    top: Bytes,
+) -> Result<Called, Stop>
+    requires calls { IsCaller m.old pid }
+    requires area { m.old.params.swap_blocks ≤ D.blocks swap.old }
+    requires files { AreFiles m.old.images (F.holds files.old) }
+    requires texts { TextsStand m.old }
+    requires above { 0 < image }
+    requires within { image ≤ length m.old.images }
+    requires page { length top ≡ 1024 }
+    ensures ready { IfOk result (λ called. called ≡ Called.Ready) }
+    ensures starts { OnOk result (Starts m.old m.new pid regs.now after.now image top (F.holds files.old) (D.image swap.old) (D.image swap.new)) }
+    ensures stops { IfErr result (StopsStarting m.old m.new pid image (F.holds files.old) (D.image swap.old) (D.image swap.new)) }
+    ensures files_lead { F.leads files.old files.new }
+    ensures swap_leads { D.leads swap.old swap.new }
+    ensures holds { F.holds files.new ≡ F.holds files.old }
+    ensures blocks { D.blocks swap.new ≡ D.blocks swap.old }
+    ensures open_faults { F.open_faults files.new ≡ F.open_faults files.old }
+    ensures page_faults { CountsPages result (F.page_faults files.old) (F.page_faults files.new) }
+    ensures read_faults { CountsReads result (D.read_faults swap.old) (D.read_faults swap.new) }
+    ensures write_faults { CountsWrites result (D.write_faults swap.old) (D.write_faults swap.new) }
+{
+    if find_space(m, files, swap, pid, image)? {
+        reply(
+            m,
+            pid,
+            SystemCall::Execve,
+            after,
+            Change::Exec { image, top },
+        )
+    } else {
+        fail(m, pid, SystemCall::Execve, regs, ENOMEM)
+    }
+}
