@@ -5,12 +5,14 @@ use Rattle.io_edge.specs.FileHolding.{NamedFile}
 use Rattle.vm_facts.specs.declared.regs.Regs.{Regs}
 use Rattle.vm_facts.specs.declared.stop.Stop.{Stop}
 use Rattle.vm_facts.specs.declared.stop.Stop.TheVariants as stops
+use Rattle.user_vax.specs.declared.refused.Refused.{Refused}
 use Rattle.swap_book.specs.Holdings.{Holdings}
 use Rattle.swap_book.specs.Placing.{place_all}
 use Rattle.flat_state.specs.declared.change.Change.TheVariants.{Exec, Keep}
 use Rattle.flat_model.specs.Calls.{no_memory, replied}
 use Rattle.flat_model.specs.Step.{call_entry}
-use Rattle.flat_model.specs.declared.calls.Reply.TheVariants.{Fails}
+use Rattle.flat_model.specs.declared.calls.Reply.{Reply}
+use Rattle.flat_model.specs.declared.calls.Reply.TheVariants.{Fails, Does}
 use Rattle.flat_model.specs.declared.calls.SystemCall.TheVariants.{Execve}
 use Rattle.page_model.specs.Pages.{numbered}
 use Rattle.page_model.specs.Swapper.{is_settled}
@@ -29,11 +31,12 @@ use Rattle.machine_state.specs.Applying.{CanApply, MayAct}
 use Rattle.machine_state.specs.Done.{sources}
 use Rattle.vfork_pass.specs.Passed.{HasGivenBack}
 use Rattle.proc_calls.specs.declared.replying.Called.{Called}
+use Rattle.proc_calls.specs.declared.replying.Called.TheVariants as calls
 use Rattle.proc_calls.specs.Callers.{proc_in, space_held, IsCaller}
 use Rattle.proc_calls.specs.Answered.{Answered, Replied, StopsBefore}
 use Rattle.proc_calls.specs.Leaving.{HasSettled, HasLeftBy}
 use Rattle.proc_calls.specs.Making.{with_pieces}
-use Rattle.proc_calls.specs.Starting.{image_wanted, image_found, LeavesFor, StaysWithout, FindsBy, Finds, StartsBy, Starts, StopsStarting}
+use Rattle.proc_calls.specs.Starting.{image_wanted, image_found, LeavesFor, StaysWithout, FindsBy, Finds, StartsBy, Starts, ExecComes, StopsStarting}
 use Rattle.proc_calls.proofs.Callers.{caller_lives}
 use Rattle.proc_calls.proofs.Leaving.{GoesOn, settled_goes, space_stays, lender_lives}
 
@@ -168,6 +171,14 @@ fail_ok (Ok called) fits m asked new pid image regs after top holds i j e f a =
       },
       s.image,
     )
+
+pub exec_ok : (r : Result Called Stop) (old m new : Standing) (pid image : ℕ) (regs after : Regs) (top : List ℕ) (asked : Result Reply Refused)
+    (holds : Option (List NamedFile)) (i j : Option (List ℕ)) → m ≡ old → asked ≡ Ok (Does after (Exec image top)) → IfOk r (λ called. called ≡ calls.Ready)
+    → OnOk r (Starts m new pid regs after image top holds i j) → IfOk r (λ called. ExecComes old new pid regs asked holds i j called)
+exec_ok (Err stop) old m new pid image regs after top asked holds i j same e ready s = tt
+exec_ok (Ok called) old m new pid image regs after top asked holds i j same e ready s =
+    subst (λ (a : Result Reply Refused). ExecComes old new pid regs a holds i j called) (sym e)
+    (ready, subst (λ (x : Standing). Starts x new pid regs after image top holds i j) same s)
 
 -- Where it stops.
 

@@ -6,6 +6,7 @@ pub mod Breaks
 pub mod Starts
 pub mod Spaces
 pub mod Begins
+pub mod Execs
 pub mod Names
 pub mod Crowded
 pub mod Copies

@@ -2,9 +2,12 @@
 use Rattle.std.specs.Prelude.{◌≡◌, ℕ, suc, ◌+◌, ◌-◌, ◌^◌, ◌<◌, ◌≤◌, Bool, true, false, List, [], ◌∷◌, length, Option, Some, None, Result, Ok, Err, string_bytes, bytes_eq, slice_get}
 use Rattle.user_vax.specs.declared.refused.Refused.{Refused}
 use Rattle.flat_state.specs.Flat.{NamedImage}
+use Rattle.flat_state.specs.declared.change.Change.TheVariants.{Exec}
 use Rattle.user_vax.specs.Program.{Program, ◌>>=◌}
 use Rattle.flat_model.specs.declared.calls.Reply.{Reply}
+use Rattle.flat_model.specs.declared.calls.Reply.TheVariants.{Fails, Does}
 use Rattle.flat_model.specs.Calls.{path_image, string_from, string_limit, execve_of}
+use Rattle.machine_state.specs.Sourced.{ImageNamed}
 use Rattle.machine_state.specs.declared.named.Named.{Named}
 
 -- how a computation was refused, if it was
@@ -18,6 +21,13 @@ AreShown [] [] = Unit {0}
 AreShown [] (s ∷ shown) = ⊥
 AreShown (n ∷ images) [] = ⊥
 AreShown (n ∷ images) (s ∷ shown) = (n.name ≡ string_bytes s.name) × (n.image.facts ≡ s.facts) × AreShown images shown
+
+-- so are these, by what the machine shows of them
+abbrev pub AreNamed : List NamedImage → List ImageNamed → Type 0
+AreNamed [] [] = Unit {0}
+AreNamed [] (s ∷ named) = ⊥
+AreNamed (n ∷ images) [] = ⊥
+AreNamed (n ∷ images) (s ∷ named) = (n.name ≡ s.name) × (n.image.facts ≡ s.facts) × AreNamed images named
 
 abbrev pub number_by : Bool → ℕ → Option ℕ → Option ℕ
 number_by true number more = Some number
@@ -55,3 +65,9 @@ EntriesFit shown = (place : ℕ) (s : Named) → slice_get shown place ≡ Some 
 -- the image of the path at an address, and then its arguments
 abbrev pub execve_from : List NamedImage → ℕ → ℕ → Program Reply
 execve_from images path argv = string_from string_limit path >>= λ name. execve_of argv (path_image images name)
+
+-- a reply that starts an image, whose number is so, with a whole stack page, or fails
+abbrev pub StartsAs : (ℕ → Type 0) → Reply → Type 0
+StartsAs P (Fails error) = Unit {0}
+StartsAs P (Does regs (Exec image top)) = P image × (length top ≡ 1024)
+StartsAs P _ = ⊥

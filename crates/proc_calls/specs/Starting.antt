@@ -1,15 +1,21 @@
 -- What becomes of the machine where a process starts another image, and where it stops.
-use Rattle.std.specs.Prelude.{◌≡◌, ◌⊎◌, ℕ, ◌*◌, nat_lt, Bool, true, false, List, [], ◌∷◌, length, Option, Some, Result, Ok, is_ok}
+use Rattle.std.specs.Prelude.{◌≡◌, ◌⊎◌, ℕ, ◌*◌, ◌<◌, ◌≤◌, nat_lt, Bool, true, false, List, [], ◌∷◌, length, Option, Some, Result, Ok, Err, is_ok}
 use Rattle.io_edge.specs.FileHolding.{NamedFile}
 use Rattle.vm_facts.specs.declared.regs.Regs.{Regs}
 use Rattle.vm_facts.specs.declared.page.Page.TheVariants.{Text}
 use Rattle.vm_facts.specs.declared.stop.Stop.{Stop}
+use Rattle.user_vax.specs.Program.{run}
+use Rattle.user_vax.specs.declared.refused.Refused.{Refused}
 use Rattle.aout_image.specs.declared.Image.{Image}
 use Rattle.aout_image.specs.Image.{text_pages_of, data_pages_of}
 use Rattle.swap_book.specs.declared.Owner.TheVariants as owners
 use Rattle.swap_book.specs.Holdings.{Holdings}
 use Rattle.swap_book.specs.Placing.{Wanted, place_all}
+use Rattle.flat_state.specs.Flat.{NamedImage}
 use Rattle.flat_state.specs.declared.change.Change.TheVariants.{Exec}
+use Rattle.flat_model.specs.Calls.{execve_reply}
+use Rattle.flat_model.specs.declared.calls.Reply.{Reply}
+use Rattle.flat_model.specs.declared.calls.Reply.TheVariants.{Does}
 use Rattle.flat_model.specs.declared.calls.SystemCall.TheVariants.{Execve}
 use Rattle.page_model.specs.Placement.{Placement, slots_of, sharers}
 use Rattle.page_model.specs.Place.{facts_numbered}
@@ -19,8 +25,12 @@ use Rattle.machine_state.specs.Sourced.{ImageNamed, named_at}
 use Rattle.machine_state.specs.Applying.{facts_named}
 use Rattle.machine_state.specs.Conditions.{KeepsFlat}
 use Rattle.machine_state.specs.Wants.{found_for}
+use Rattle.machine_state.specs.UserMemory.{kernel_answers}
 use Rattle.machine_state.specs.declared.pieces.Want.{Want}
-use Rattle.proc_calls.specs.Answered.{Answered, StopsBefore}
+use Rattle.proc_calls.specs.Callers.{space_held}
+use Rattle.proc_calls.specs.declared.replying.Called.{Called}
+use Rattle.proc_calls.specs.declared.replying.Called.TheVariants as calls
+use Rattle.proc_calls.specs.Answered.{Answered, Comes, StopsBefore}
 use Rattle.proc_calls.specs.Leaving.{HasLeft, StopsAlive}
 use Rattle.proc_calls.specs.Making.{with_pieces, without_pieces, IsRefused}
 
@@ -29,6 +39,10 @@ use Rattle.proc_calls.specs.Making.{with_pieces, without_pieces, IsRefused}
 -- the text of each image has as many pages as its header tells
 abbrev pub TextsStand : Standing → Type 0
 TextsStand m = (image : ℕ) (n : ImageNamed) → named_at m.images image ≡ Some n → length (slots_of m.kernel.place (Text image 0)) ≡ text_pages_of n.facts
+
+-- a number of one of the images, which count from 1
+abbrev pub IsImageOf : Standing → ℕ → Type 0
+IsImageOf m image = (0 < image) × (image ≤ length m.images)
 
 -- the pieces of the next space, in which an image starts
 abbrev pub image_wanted : Standing → ℕ → List Wanted
@@ -99,6 +113,17 @@ StartsBy false old new pid regs after image top holds before behind = IsRefused 
 abbrev pub Starts : Standing → Standing → ℕ → Regs → Regs → ℕ → List ℕ → Option (List NamedFile) → Option (List ℕ) → Option (List ℕ) → Type 0
 Starts old new pid regs after image top holds before behind = StartsBy (is_ok (image_found image old)) old new pid regs after image top holds before behind
 
+-- what an execve of a process comes to by what its memory has, with these images
+abbrev pub execve_read : List NamedImage → Standing → ℕ → Regs → Result Reply Refused
+execve_read known m pid regs = run (kernel_answers m.kernel (space_held m.kernel pid)) (execve_reply known regs)
+
+-- What becomes of the machine by that.
+abbrev pub ExecComes : Standing → Standing → ℕ → Regs → Result Reply Refused → Option (List NamedFile) → Option (List ℕ) → Option (List ℕ) → Called → Type 0
+ExecComes old new pid regs (Ok (Does after (Exec image top))) holds before behind called =
+    (called ≡ calls.Ready) × Starts old new pid regs after image top holds before behind
+ExecComes old new pid regs (Ok reply) holds before behind called = Comes old new pid Execve regs (Ok reply) called × (behind ≡ before)
+ExecComes old new pid regs (Err refused) holds before behind called = Comes old new pid Execve regs (Err refused) called × (behind ≡ before)
+
 -- Where the machine stops.
 
 -- as it was, or as the process leaves its space, or behind that
@@ -113,3 +138,9 @@ pub record StopsWithout (old new : Standing) (pid image : ℕ) (before after : O
 
 abbrev pub StopsStarting : Standing → Standing → ℕ → ℕ → Option (List NamedFile) → Option (List ℕ) → Option (List ℕ) → Stop → Type 0
 StopsStarting old new pid image holds before after stop = StopsFinding old new pid holds before after stop ⊎ StopsWithout old new pid image before after stop
+
+-- by what the reads come to
+abbrev pub StopsExec : Standing → Standing → ℕ → Result Reply Refused → Option (List NamedFile) → Option (List ℕ) → Option (List ℕ) → Stop → Type 0
+StopsExec old new pid (Ok (Does after (Exec image top))) holds before behind stop = StopsStarting old new pid image holds before behind stop
+StopsExec old new pid (Ok reply) holds before behind stop = StopsBefore old new stop × (behind ≡ before)
+StopsExec old new pid (Err refused) holds before behind stop = StopsBefore old new stop × (behind ≡ before)

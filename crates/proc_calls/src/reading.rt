@@ -1,11 +1,10 @@
 // What the calls read, over any memory.
-ghost use Rattle.std.specs.Prelude.{◌≡◌, ◌-◌, ◌≤◌, List, length, Some, IfSome, IfOk, string_bytes, bytes_eq, slice_get};
+ghost use Rattle.std.specs.Prelude.{◌≡◌, ◌+◌, ◌^◌, ◌<◌, ◌≤◌, List, length, Some, IfSome, IfOk, string_bytes, bytes_eq};
 ghost use Rattle.user_vax.specs.Program.{run};
 ghost use Rattle.flat_state.specs.Flat.{NamedImage, FlatState, Process};
 ghost use Rattle.flat_state.specs.Space.{Space};
 ghost use Rattle.flat_model.specs.Calls.{string_limit, string_from, execve_of, execve_reply, reply_of};
-ghost use Rattle.machine_state.specs.declared.named.Named.{Named as Shown};
-ghost use Rattle.proc_calls.specs.Reading.{refusal_of, AreShown, number_from, IsPathImage, IsAmong, EntriesFit, execve_from};
+ghost use Rattle.proc_calls.specs.Reading.{refusal_of, AreShown, number_from, IsPathImage, IsAmong, EntriesFit, StartsAs, execve_from};
 
 use flat_model::{
     Asked, E2BIG, ENOENT, Reply, SystemCall, argument, arguments_at, start_page, start_regs,
@@ -14,7 +13,7 @@ use flat_model::{
 use flat_state::Change;
 use machine_state::Named;
 use std::alloc::Global;
-use vm_facts::{Memory, NoMemory, Regs};
+use vm_facts::{Bytes, Memory, NoMemory, Regs};
 
 // Whether an image has this name.
 fn is_named(named: &Named, name: &[u8]) -> bool
@@ -37,6 +36,20 @@ fn numbered(images: &[Named], name: &[u8]) -> Option<u32>
     None
 }
 
+// The number of the image of a path that was read.
+#[tactic(auto, using(crate::proofs::Names::image_is))]
+pub fn image_at(images: &[Named], path: Asked<Option<Bytes>>) -> Asked<Option<u32>>
+    requires { length images.now ≤ 16 }
+    ensures image { (known : List NamedImage) → AreShown known images.now → IsPathImage known images.now path result }
+    ensures within { IfOk result (λ number. IfSome number (IsAmong images.now)) }
+{
+    match path {
+        Err(refused) => Err(refused),
+        Ok(None) => Ok(None),
+        Ok(Some(name)) => Ok(numbered(images, name.as_slice())),
+    }
+}
+
 // The number of the image of the path at an address.
 #[tactic(auto, using(user_vax::proofs::Runs::run_bind, crate::proofs::Names::image_is))]
 fn path_image<M: Memory>(
@@ -49,36 +62,28 @@ fn path_image<M: Memory>(
     ensures image { (known : List NamedImage) → AreShown known images.now → IfOk result (λ asked. IsPathImage known images.now (run (M.answers memory.now) (string_from string_limit path)) asked) }
     ensures within { IfOk result (λ asked. IfOk asked (λ number. IfSome number (IsAmong images.now))) }
 {
-    match string_from(alloc, memory, path)? {
-        Err(refused) => Ok(Err(refused)),
-        Ok(None) => Ok(Ok(None)),
-        Ok(Some(name)) => Ok(Ok(numbered(images, name.as_slice()))),
-    }
+    Ok(image_at(images, string_from(alloc, memory, path)?))
 }
 
-// The image of this number, with the arguments at an address.
+// The image of this number with this first instruction, with the arguments at an address.
 #[tactic(auto, using(user_vax::proofs::Runs::run_bind))]
-fn start_image<M: Memory>(
+pub fn start_of<M: Memory>(
     alloc: Global,
-    images: &[Named],
     memory: &M,
     image: u32,
+    entry: u32,
     argv: u32,
 ) -> Result<Asked<Reply>, NoMemory>
-    requires among { IsAmong images.now image }
-    requires entries { EntriesFit images.now }
-    ensures { (known : NamedImage) (s : Shown) → slice_get images.now (image - 1) ≡ Some s → known.image.facts ≡ s.facts → IfOk result (λ asked. asked ≡ run (M.answers memory.now) (execve_of argv (Some (image, known)))) }
+    requires { entry + 2 < 2 ^ 32 }
+    ensures value { (known : NamedImage) → known.image.facts.entry ≡ entry → IfOk result (λ asked. asked ≡ run (M.answers memory.now) (execve_of argv (Some (image, known)))) }
+    ensures starts { IfOk result (λ asked. IfOk asked (StartsAs (λ number. number ≡ image))) }
 {
     match arguments_at(alloc, memory, argv)? {
         Err(refused) => Ok(Err(refused)),
         Ok(None) => Ok(Ok(Reply::Fails(E2BIG))),
         Ok(Some(arguments)) => {
-            let facts = &images[image as usize - 1].facts;
             let top = start_page(alloc, &arguments)?;
-            Ok(Ok(Reply::Does(
-                start_regs(facts.entry, &arguments),
-                Change::Exec { image, top },
-            )))
+            Ok(Ok(Reply::Does(start_regs(entry, &arguments), Change::Exec { image, top })))
         }
     }
 }
@@ -98,7 +103,10 @@ fn execve_at<M: Memory>(
     match path_image(alloc, images, memory, path)? {
         Err(refused) => Ok(Err(refused)),
         Ok(None) => Ok(Ok(Reply::Fails(ENOENT))),
-        Ok(Some(image)) => start_image(alloc, images, memory, image, argv),
+        Ok(Some(image)) => {
+            let entry = images[image as usize - 1].facts.entry;
+            start_of(alloc, memory, image, entry, argv)
+        }
     }
 }
 

@@ -1,7 +1,9 @@
-use Rattle.std.proofs.Common.{◌≡◌, ℕ, Option, Some, None, Result, Ok, Err, refl, sym, subst}
+use Rattle.std.proofs.Common.{◌≡◌, ℕ, Option, Some, None, Result, Ok, Err, refl, sym, ap, ◌∙◌, ◌-◌, subst}
 use Rattle.user_vax.specs.declared.refused.Refused.{Refused}
+use Rattle.aout_image.specs.declared.Image.{Image}
+use Rattle.machine_state.specs.declared.named.Named.{Named}
 use Rattle.flat_model.specs.declared.calls.Reply.TheVariants.{Fails}
-use Rattle.proc_calls.proofs.Names.{ExecveBy, execve_is, started}
+use Rattle.proc_calls.proofs.Names.{ExecveBy, execve_is, got, started}
 use Rattle.proc_calls.proofs.reading.execve_at.Goals as goal
 
 pub returns-in-Err : goal.returns-in-Err
@@ -21,5 +23,7 @@ returns-in-Ok-None g c = λ known shown.
 pub returns-in-Ok-Some : goal.returns-in-Ok-Some
 returns-in-Ok-Some g c = λ known shown.
     let e : c.in_ok-refused.field-0 ≡ Ok (Some c.in-Ok-Some.image) = cc in
-    started (g.M.Memory.answers c.args.memory.now) known c.args.images.now c.args.path c.args.argv c.in-Ok-Some.image c.in_ok-refused.field-0 c.start_image.result e
-    (c.in_ok-refused.ensures.image known shown) c.start_image.ensures
+    started (g.M.Memory.answers c.args.memory.now) known c.args.images.now c.args.path c.args.argv c.in-Ok-Some.image c.in_ok-refused.field-0 c.start_of.result e
+    (c.in_ok-refused.ensures.image known shown)
+    (λ x s at facts. c.start_of.ensures.value x
+    (ap (λ (f : Image). f.entry) (facts ∙ ap (λ (n : Named). n.facts) (sym (got c.args.images.now (c.in-Ok-Some.image - 1) c.index-images-image.result s at)))))
