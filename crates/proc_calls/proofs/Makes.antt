@@ -13,11 +13,12 @@ use Rattle.swap_book.specs.declared.Held.{Held}
 use Rattle.swap_book.specs.Owners.{pieces_of, u_pieces}
 use Rattle.swap_book.specs.Holdings.{Holdings, of_owner, lengths}
 use Rattle.swap_book.specs.Placing.{Wanted, wanted, more_pieces, place_all}
+use Rattle.flat_state.specs.declared.change.Change.{Change}
 use Rattle.flat_state.specs.declared.change.Change.TheVariants.{Keep, Lend}
 use Rattle.flat_model.specs.declared.calls.Reply.TheVariants.{Fails}
 use Rattle.flat_model.specs.declared.calls.SystemCall.{SystemCall}
 use Rattle.flat_model.specs.declared.calls.SystemCall.TheVariants.{Vfork}
-use Rattle.flat_model.specs.Calls.{try_again, no_memory, replied, replied_both}
+use Rattle.flat_model.specs.Calls.{no_memory, replied, replied_both}
 use Rattle.flat_model.specs.Step.{call_entry}
 use Rattle.page_model.specs.Pages.{numbered}
 use Rattle.page_model.specs.Ownership.{u_blocks}
@@ -29,7 +30,7 @@ use Rattle.kernel_model.specs.Asks.{asked}
 use Rattle.kernel_laws.proofs.Flat.Numbered.{has_number, absent_none, below_absent, pushed_new, pushed_found}
 use Rattle.kernel_laws.proofs.Machine.Processes.{with_at, with_not}
 use Rattle.machine_state.specs.declared.pieces.Want.{Want}
-use Rattle.machine_state.specs.Wants.{CanAsk, wanted_of, found_for, fits_for}
+use Rattle.machine_state.specs.Wants.{wanted_of, found_for, fits_for}
 use Rattle.machine_state.specs.Calls.{life_in}
 use Rattle.machine_state.specs.Machine.{Standing, processes_of}
 use Rattle.machine_state.specs.Alike.{AreRecords}
@@ -42,7 +43,7 @@ use Rattle.vfork_pass.specs.Passed.{IsHolder, HasLent}
 use Rattle.proc_calls.specs.Callers.{proc_in, IsCaller}
 use Rattle.proc_calls.specs.declared.replying.Called.{Called}
 use Rattle.proc_calls.specs.Answered.{Answered, Replied}
-use Rattle.proc_calls.specs.Making.{is_below_limit, finds_pieces, with_pieces, without_pieces, HasLentSpace, VforkedBy, Vforked}
+use Rattle.proc_calls.specs.Making.{is_below_limit, finds_pieces, with_pieces, without_pieces, HasChild, MakesChildBy, MakesChild, HasLentSpace, Vforked}
 use Rattle.proc_calls.proofs.Callers.{caller_lives}
 use Rattle.proc_calls.proofs.Crowded.{crowd}
 
@@ -60,16 +61,13 @@ pub no_u_page : (size : ℕ) (k : Kernel) (hs : Holdings) → Sound size (record
 no_u_page size k hs s n = s.owner.blocks.u_held k.next_pid ∙ ap (λ (b : Bool). u_pieces (u_blocks b)) (ap lives_in (no_child k n))
 
 -- an owner that holds nothing wants all its pieces
-all_pieces : (hs : Holdings) (owner : Owner) (blocks : ℕ) → lengths owner hs ≡ [] → more_pieces hs owner blocks ≡ wanted owner (pieces_of owner blocks)
+pub all_pieces : (hs : Holdings) (owner : Owner) (blocks : ℕ) → lengths owner hs ≡ [] → more_pieces hs owner blocks ≡ wanted owner (pieces_of owner blocks)
 all_pieces hs owner blocks e =
     let none : length (of_owner owner hs) ≡ 0 = sym (length-map (of_owner owner hs) (λ (h : Held). h.length)) ∙ ap (λ (ns : List ℕ). length ns) e in
     ap (λ (n : ℕ). wanted owner (drop n (pieces_of owner blocks))) none
 
 abbrev pub u_want : ℕ → Want
 u_want child = record { owner = owners.U child; blocks = 2 }
-
-pub can_ask_u : (hs : Holdings) (child : ℕ) → CanAsk hs (u_want child ∷ [])
-can_ask_u hs child = record { differ = (tt, tt); each = (refl, tt) }
 
 pub u_asked : (hs : Holdings) (child : ℕ) → lengths (owners.U child) hs ≡ [] → wanted_of hs (u_want child ∷ []) ≡ wanted (owners.U child) (u_pieces 2)
 u_asked hs child e = append-nil (more_pieces hs (owners.U child) 2) ∙ all_pieces hs (owners.U child) 2 e
@@ -94,17 +92,17 @@ can_vfork m pid call regs hs c few e = record {
 -- Behind the entry the process holds its space, and the child is there and has none.
 
 module _ (images : List Image) (k : Kernel) (pid : ℕ) (regs : Regs) (e : Entry) where
-  abbrev child : ℕ
-  child = k.next_pid
+  abbrev next : ℕ
+  next = k.next_pid
 
   abbrev pub behind : Kernel
-  behind = change_step images k pid regs e (Lend child)
+  behind = change_step images k pid regs e (Lend next)
 
   abbrev with_child : Proc → List Proc
-  with_child p = with_proc k.processes (record p { regs = regs }) ++ child_proc (record p { regs = regs }) child New ∷ []
+  with_child p = with_proc k.processes (record p { regs = regs }) ++ child_proc (record p { regs = regs }) next New ∷ []
 
   come : (p : Proc) → proc_in k pid ≡ Some p → behind.processes ≡ with_child p
-  come p f = ap (λ (o : Option Proc). (change_if images k regs e (Lend child) o).processes) f
+  come p f = ap (λ (o : Option Proc). (change_if images k regs e (Lend next) o).processes) f
 
   its_number : (p : Proc) → proc_in k pid ≡ Some p → p.pid ≡ pid
   its_number p f = has_number pid_of pid k.processes p f
@@ -113,22 +111,22 @@ module _ (images : List Image) (k : Kernel) (pid : ℕ) (regs : Regs) (e : Entry
   parent_there p f =
       let there : numbered pid_of p.pid k.processes ≡ Some p = ap (λ (n : ℕ). numbered pid_of n k.processes) (its_number p f) ∙ f in
       ap (λ (ps : List Proc). numbered pid_of pid ps) (come p f)
-      ∙ pushed_found pid_of pid (with_proc k.processes (record p { regs = regs })) (child_proc (record p { regs = regs }) child New) (record p { regs = regs })
+      ∙ pushed_found pid_of pid (with_proc k.processes (record p { regs = regs })) (child_proc (record p { regs = regs }) next New) (record p { regs = regs })
       (ap (λ (n : ℕ). numbered pid_of n (with_proc k.processes (record p { regs = regs }))) (sym (its_number p f)) ∙ with_at k.processes (record p { regs = regs }) p there)
 
-  child_there : (p : Proc) → proc_in k pid ≡ Some p → proc_in k child ≡ None → proc_in behind child ≡ Some (child_proc (record p { regs = regs }) child New)
+  child_there : (p : Proc) → proc_in k pid ≡ Some p → proc_in k next ≡ None → proc_in behind next ≡ Some (child_proc (record p { regs = regs }) next New)
   child_there p f none =
-      let other : child ≢ p.pid = λ i. absurd (let z : Some p ≡ None = sym f ∙ ap (proc_in k) (sym (i ∙ its_number p f)) ∙ none in cc) in
-      ap (λ (ps : List Proc). numbered pid_of child ps) (come p f)
-      ∙ pushed_new pid_of child (with_proc k.processes (record p { regs = regs })) (child_proc (record p { regs = regs }) child New)
-      (with_not k.processes (record p { regs = regs }) child other ∙ none) refl
+      let other : next ≢ p.pid = λ i. absurd (let z : Some p ≡ None = sym f ∙ ap (proc_in k) (sym (i ∙ its_number p f)) ∙ none in cc) in
+      ap (λ (ps : List Proc). numbered pid_of next ps) (come p f)
+      ∙ pushed_new pid_of next (with_proc k.processes (record p { regs = regs })) (child_proc (record p { regs = regs }) next New)
+      (with_not k.processes (record p { regs = regs }) next other ∙ none) refl
 
   pub record IsBehind : Type 0 where
     pub holds : IsHolder (life_in behind pid)
-    pub there : lives behind.processes child ≡ true
-    pub fresh : life_in behind child ≡ New
+    pub there : lives behind.processes next ≡ true
+    pub fresh : life_in behind next ≡ New
 
-  behind_by : (sid : ℕ) (o : Option Proc) → proc_in k pid ≡ o → life_of_proc o ≡ HoldsSpace sid → proc_in k child ≡ None → IsBehind
+  behind_by : (sid : ℕ) (o : Option Proc) → proc_in k pid ≡ o → life_of_proc o ≡ HoldsSpace sid → proc_in k next ≡ None → IsBehind
   behind_by sid None f h none = absurd cc
   behind_by sid (Some p) f h none = record {
     holds = subst IsHolder (sym (ap life_of_proc (parent_there p f) ∙ h)) tt;
@@ -173,67 +171,77 @@ u_pieces_asked m pid whole s n =
     u_asked m.kernel.holdings m.kernel.next_pid
     (no_u_page m.params.swap_blocks m.kernel m.kernel.holdings (subst (λ (hs : Holdings). Sound m.params.swap_blocks (record m.kernel { holdings = hs })) whole s) n)
 
--- what an answer of `ask` says of the pieces, with the number of the child as it was told
-pub u_found : (m : Standing) (pid child : ℕ) (w : Want) (hs : Holdings) → w ≡ u_want child → child ≡ m.kernel.next_pid → m.before ≡ m.kernel.holdings
+-- so they are where the number of the child was told
+pub vfork_asks : (m : Standing) (pid child : ℕ) (w : Want) → w ≡ u_want child → child ≡ m.kernel.next_pid → m.before ≡ m.kernel.holdings
     → Sound m.params.swap_blocks (record m.kernel { holdings = m.before }) → Numbered m.kernel
-    → found_for m.params.swap_blocks m.kernel.holdings (w ∷ []) ≡ Ok hs
-    → place_all m.params.swap_blocks m.kernel.holdings (asked (facts_named m.images) m.kernel pid (Lend m.kernel.next_pid)) ≡ Ok hs
-u_found m pid child w hs wants is whole s n e =
-    ap (λ (ws : List Wanted). place_all m.params.swap_blocks m.kernel.holdings ws) (sym (u_pieces_asked m pid whole s n))
-    ∙ ap (λ (x : Want). found_for m.params.swap_blocks m.kernel.holdings (x ∷ [])) (ap u_want (sym is) ∙ sym wants) ∙ e
+    → wanted_of m.kernel.holdings (w ∷ []) ≡ asked (facts_named m.images) m.kernel pid (Lend child)
+vfork_asks m pid child w wants named whole s n =
+    ap (λ (x : Want). wanted_of m.kernel.holdings (x ∷ [])) (wants ∙ ap u_want named) ∙ u_pieces_asked m pid whole s n
+    ∙ ap (λ (i : ℕ). asked (facts_named m.images) m.kernel pid (Lend i)) (sym named)
 
-pub u_fits : (m : Standing) (pid child : ℕ) (w : Want) (fits : Bool) → w ≡ u_want child → child ≡ m.kernel.next_pid → m.before ≡ m.kernel.holdings
-    → Sound m.params.swap_blocks (record m.kernel { holdings = m.before }) → Numbered m.kernel
-    → fits ≡ fits_for m.params.swap_blocks m.kernel.holdings (w ∷ []) → finds_pieces m pid (Lend m.kernel.next_pid) ≡ fits
-u_fits m pid child w fits wants is whole s n e =
-    sym (e ∙ ap (λ (x : Want). fits_for m.params.swap_blocks m.kernel.holdings (x ∷ [])) (wants ∙ ap u_want is)
-    ∙ ap (λ (ws : List Wanted). is_ok (place_all m.params.swap_blocks m.kernel.holdings ws)) (u_pieces_asked m pid whole s n))
+-- What an answer of `ask` says of the pieces that a change asks for.
+
+pub asked_found : (m : Standing) (pid : ℕ) (change : Change) (ws : List Want) (hs : Holdings) → wanted_of m.kernel.holdings ws ≡ asked (facts_named m.images) m.kernel pid change
+    → found_for m.params.swap_blocks m.kernel.holdings ws ≡ Ok hs
+    → place_all m.params.swap_blocks m.kernel.holdings (asked (facts_named m.images) m.kernel pid change) ≡ Ok hs
+asked_found m pid change ws hs asks e = ap (λ (xs : List Wanted). place_all m.params.swap_blocks m.kernel.holdings xs) (sym asks) ∙ e
+
+pub asked_fits : (m : Standing) (pid : ℕ) (change : Change) (ws : List Want) (fits : Bool) → wanted_of m.kernel.holdings ws ≡ asked (facts_named m.images) m.kernel pid change
+    → fits ≡ fits_for m.params.swap_blocks m.kernel.holdings ws → finds_pieces m pid change ≡ fits
+asked_fits m pid change ws fits asks e = ap (λ (xs : List Wanted). is_ok (place_all m.params.swap_blocks m.kernel.holdings xs)) (sym asks) ∙ sym e
 
 -- The call.
 
-abbrev vforked_as : Standing → Standing → ℕ → Regs → Bool → Bool → Type 0
-vforked_as old new pid regs fewer finds = VforkedBy fewer finds old new pid regs
+module _ (old new : Standing) (pid : ℕ) (call : SystemCall) (regs : Regs) (change : Change) (Then : Type 0) where
+  abbrev made_as : Bool → Bool → Type 0
+  made_as fewer finds = MakesChildBy fewer finds old new pid call regs Then
 
-pub full_ok : (r : Result Called Stop) (old new : Standing) (pid : ℕ) (regs : Regs) → is_below_limit old.kernel ≡ false
-    → IfOk r (Replied old new pid Vfork regs (Fails try_again)) → OnOk r (Vforked old new pid regs)
-full_ok (Ok called) old new pid regs few h =
-    subst (λ (b : Bool). vforked_as old new pid regs b (finds_pieces old pid (Lend old.kernel.next_pid))) (sym few) h.1
-full_ok (Err stop) old new pid regs few h = tt
+  pub no_place : (between : Standing) → between ≡ without_pieces old pid → KeepsFlat old.kernel between.kernel → is_below_limit old.kernel ≡ true → finds_pieces old pid change ≡ false
+      → Answered between new pid call (replied regs true no_memory) Keep → MakesChild old new pid call regs change Then
+  no_place between is keeps few none answer =
+      subst (λ (b : Bool). made_as b (finds_pieces old pid change)) (sym few)
+      (subst (made_as true) (sym none) (record {
+        keeps = subst (λ (s : Standing). KeepsFlat old.kernel s.kernel) is keeps;
+        answer = subst (λ (s : Standing). Answered s new pid call (replied regs true no_memory) Keep) is answer;
+      }))
 
-pub refused_ok : (r : Result Called Stop) (old between new : Standing) (pid : ℕ) (regs : Regs) → between ≡ without_pieces old pid → KeepsFlat old.kernel between.kernel
-    → is_below_limit old.kernel ≡ true → finds_pieces old pid (Lend old.kernel.next_pid) ≡ false
+  pub goes_on : is_below_limit old.kernel ≡ true → finds_pieces old pid change ≡ true → Then → MakesChild old new pid call regs change Then
+  goes_on few finds then = subst (λ (b : Bool). made_as b (finds_pieces old pid change)) (sym few) (subst (made_as true) (sym finds) then)
+
+pub has_child : (old asks new : Standing) (pid child : ℕ) (call : SystemCall) (regs after : Regs) (change : Change) (hs : Holdings) → asks ≡ with_pieces old hs
+    → after ≡ replied_both regs child 0 → place_all old.params.swap_blocks old.kernel.holdings (asked (facts_named old.images) old.kernel pid change) ≡ Ok hs
+    → Answered asks new pid call after change → HasChild old new pid call regs child change
+has_child old asks new pid child call regs after change hs is reply found answer = record {
+  found = hs;
+  pieces = found;
+  answer = subst (λ (s : Standing). Answered s new pid call (replied_both regs child 0) change) is (subst (λ (x : Regs). Answered asks new pid call x change) reply answer);
+}
+
+abbrev lends_as : Standing → Standing → ℕ → Regs → ℕ → Type 0
+lends_as old new pid regs child = MakesChild old new pid Vfork regs (Lend child) (HasLentSpace old new pid regs child)
+
+pub refused_ok : (r : Result Called Stop) (old between new : Standing) (pid child : ℕ) (regs : Regs) → between ≡ without_pieces old pid → KeepsFlat old.kernel between.kernel
+    → child ≡ old.kernel.next_pid → is_below_limit old.kernel ≡ true → finds_pieces old pid (Lend child) ≡ false
     → IfOk r (Replied between new pid Vfork regs (Fails no_memory)) → OnOk r (Vforked old new pid regs)
-refused_ok (Ok called) old between new pid regs is keeps few none h =
-    subst (λ (b : Bool). vforked_as old new pid regs b (finds_pieces old pid (Lend old.kernel.next_pid))) (sym few)
-    (subst (vforked_as old new pid regs true) (sym none) (record {
-      keeps = subst (λ (s : Standing). KeepsFlat old.kernel s.kernel) is keeps;
-      answer = subst (λ (s : Standing). Answered s new pid Vfork (replied regs true no_memory) Keep) is h.1;
-    }))
-refused_ok (Err stop) old between new pid regs is keeps few none h = tt
+refused_ok (Ok called) old between new pid child regs is keeps named few none h =
+    subst (lends_as old new pid regs) named
+    (no_place old new pid Vfork regs (Lend child) (HasLentSpace old new pid regs child) between is keeps few none h.1)
+refused_ok (Err stop) old between new pid child regs is keeps named few none h = tt
 
-pub lent_ok : (old asks between new : Standing) (pid child : ℕ) (regs after : Regs) (hs : Holdings) → asks ≡ with_pieces old hs → child ≡ old.kernel.next_pid
-    → after ≡ replied_both regs child 0 → is_below_limit old.kernel ≡ true
-    → place_all old.params.swap_blocks old.kernel.holdings (asked (facts_named old.images) old.kernel pid (Lend old.kernel.next_pid)) ≡ Ok hs
-    → Answered asks between pid Vfork after (Lend child) → new ≡ record between { kernel = pass_step between.kernel pid child }
+pub lent_ok : (old between new : Standing) (pid child : ℕ) (regs : Regs) → child ≡ old.kernel.next_pid → is_below_limit old.kernel ≡ true
+    → HasChild old between pid Vfork regs child (Lend child) → new ≡ record between { kernel = pass_step between.kernel pid child }
     → HasLent between.kernel new.kernel pid child → Vforked old new pid regs
-lent_ok old asks between new pid child regs after hs is named reply few found answer passed lent =
-    subst (λ (b : Bool). vforked_as old new pid regs b (finds_pieces old pid (Lend old.kernel.next_pid))) (sym few)
-    (subst (vforked_as old new pid regs true) (sym (ap (λ (r : Result Holdings ℕ). is_ok r) found))
-    (subst (λ (n : ℕ). HasLentSpace old new pid regs n) named (record {
-      found = hs;
-      pieces = ap (λ (n : ℕ). place_all old.params.swap_blocks old.kernel.holdings (asked (facts_named old.images) old.kernel pid (Lend n))) named ∙ found;
-      between = between;
-      answer = subst (λ (s : Standing). Answered s between pid Vfork (replied_both regs child 0) (Lend child)) is
-          (subst (λ (x : Regs). Answered asks between pid Vfork x (Lend child)) reply answer);
-      passed = passed;
-      lent = lent;
-    })))
+lent_ok old between new pid child regs named few made passed lent =
+    subst (lends_as old new pid regs) named
+    (goes_on old new pid Vfork regs (Lend child) (HasLentSpace old new pid regs child) few (ap (λ (r : Result Holdings ℕ). is_ok r) made.pieces)
+    (record { between = between; made = made; passed = passed; lent = lent }))
 
 pub may_apply : (m asks : Standing) (pid child : ℕ) (call : SystemCall) (regs : Regs) (hs : Holdings) → asks ≡ with_pieces m hs → child ≡ m.kernel.next_pid
     → is_below_limit m.kernel ≡ true → IsCaller m pid
-    → place_all m.params.swap_blocks m.kernel.holdings (asked (facts_named m.images) m.kernel pid (Lend m.kernel.next_pid)) ≡ Ok hs
+    → place_all m.params.swap_blocks m.kernel.holdings (asked (facts_named m.images) m.kernel pid (Lend child)) ≡ Ok hs
     → CanApply asks pid (call_entry pid call regs) (Lend child)
 may_apply m asks pid child call regs hs is named few c found =
     subst (λ (n : ℕ). CanApply asks pid (call_entry pid call regs) (Lend n)) (sym named)
     (subst (λ (s : Standing). CanApply s pid (call_entry pid call regs) (Lend m.kernel.next_pid)) (sym is)
-    (can_vfork m pid call regs hs c (ltb-true (length m.kernel.processes) 64 few) found))
+    (can_vfork m pid call regs hs c (ltb-true (length m.kernel.processes) 64 few)
+    (ap (λ (n : ℕ). place_all m.params.swap_blocks m.kernel.holdings (asked (facts_named m.images) m.kernel pid (Lend n))) (sym named) ∙ found)))

@@ -42,24 +42,30 @@ pub record IsRefused (old new : Standing) (pid : ℕ) (call : SystemCall) (regs 
   pub keeps : KeepsFlat old.kernel (note_step old.kernel (Refused pid))
   pub answer : Answered (without_pieces old pid) new pid call (replied regs true no_memory) Keep
 
--- The pieces of the child's u page were found, the call replies with the child's number, and the space passes to the child
--- at once: `Answered` says what the machine stands for behind both.
-pub record HasLentSpace (old new : Standing) (pid : ℕ) (regs : Regs) (child : ℕ) : Type 0 where
+-- the pieces of the child were found, and the call tells the process the child's number
+pub record HasChild (old new : Standing) (pid : ℕ) (call : SystemCall) (regs : Regs) (child : ℕ) (change : Change) : Type 0 where
   pub found : Holdings
-  pub pieces : place_all old.params.swap_blocks old.kernel.holdings (asked (facts_named old.images) old.kernel pid (Lend child)) ≡ Ok found
+  pub pieces : place_all old.params.swap_blocks old.kernel.holdings (asked (facts_named old.images) old.kernel pid change) ≡ Ok found
+  pub answer : Answered (with_pieces old found) new pid call (replied_both regs child 0) change
+
+-- by whether there are fewer processes than may be, and whether the pieces find their places, the call fails, or this is so
+abbrev pub MakesChildBy : Bool → Bool → Standing → Standing → ℕ → SystemCall → Regs → Type 0 → Type 0
+MakesChildBy false finds old new pid call regs Then = Answered old new pid call (replied regs true try_again) Keep
+MakesChildBy true false old new pid call regs Then = IsRefused old new pid call regs
+MakesChildBy true true old new pid call regs Then = Then
+
+abbrev pub MakesChild : Standing → Standing → ℕ → SystemCall → Regs → Change → Type 0 → Type 0
+MakesChild old new pid call regs change Then = MakesChildBy (is_below_limit old.kernel) (finds_pieces old pid change) old new pid call regs Then
+
+-- the child is there, and the space passes to it at once: `Answered` says what the machine stands for behind both
+pub record HasLentSpace (old new : Standing) (pid : ℕ) (regs : Regs) (child : ℕ) : Type 0 where
   pub between : Standing
-  pub answer : Answered (with_pieces old found) between pid Vfork (replied_both regs child 0) (Lend child)
+  pub made : HasChild old between pid Vfork regs child (Lend child)
   pub passed : new ≡ record between { kernel = pass_step between.kernel pid child }
   pub lent : HasLent between.kernel new.kernel pid child
 
--- by whether there are fewer processes than may be, and whether the pieces find their places
-abbrev pub VforkedBy : Bool → Bool → Standing → Standing → ℕ → Regs → Type 0
-VforkedBy false finds old new pid regs = Answered old new pid Vfork (replied regs true try_again) Keep
-VforkedBy true false old new pid regs = IsRefused old new pid Vfork regs
-VforkedBy true true old new pid regs = HasLentSpace old new pid regs old.kernel.next_pid
-
 abbrev pub Vforked : Standing → Standing → ℕ → Regs → Type 0
-Vforked old new pid regs = VforkedBy (is_below_limit old.kernel) (finds_pieces old pid (Lend old.kernel.next_pid)) old new pid regs
+Vforked old new pid regs = MakesChild old new pid Vfork regs (Lend old.kernel.next_pid) (HasLentSpace old new pid regs old.kernel.next_pid)
 
 -- The machine stops as it was, or behind the entry that says that pieces find no place. The journal was full only where it
 -- was at its bound there.

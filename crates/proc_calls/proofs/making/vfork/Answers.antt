@@ -1,26 +1,34 @@
-use Rattle.std.proofs.Common.{◌≡◌, Bool, true, false, sym, ap, ◌∙◌}
+use Rattle.std.proofs.Common.{◌≡◌, Bool, true, false, [], ◌∷◌, sym, ap, ◌∙◌}
 use Rattle.std.specs.Prelude.{Ok}
+use Rattle.flat_state.specs.declared.change.Change.TheVariants.{Lend}
 use Rattle.flat_model.specs.declared.calls.SystemCall.TheVariants.{Vfork}
 use Rattle.flat_model.specs.Step.{call_entry}
-use Rattle.proc_calls.proofs.Makes.{u_found, u_fits, behind_found, refused_ok, lent_ok, may_apply}
+use Rattle.proc_calls.proofs.Makes.{vfork_asks, asked_found, asked_fits, behind_found, refused_ok, has_child, lent_ok, may_apply}
 use Rattle.proc_calls.proofs.making.vfork.Goals as goal
 
 pub returns-then-not-branch-clause-vforked : goal.returns-then-not-branch-clause-vforked
 returns-then-not-branch-clause-vforked g c =
-    refused_ok c.fail-then-not-branch.result c.args.m.now c.ask.new.self c.fail-then-not-branch.new.m c.args.pid c.args.regs.now
-    (c.in_ok-ask.ensures.refused (ap (λ (b : Bool). Ok b) c.if-not-branch.true)) (c.in_ok-ask.ensures.keeps (ap (λ (b : Bool). Ok b) c.if-not-branch.true))
+    let child = c.next_numbers-child.result.0 in
+    let no = ap (λ (b : Bool). Ok b) c.if-not-branch.true in
+    let asks =
+    vfork_asks c.args.m.now c.args.pid child c.u_want.result c.u_want.ensures c.next_numbers-child.ensures.process c.requires.calls.whole
+    c.sound.ensures.sound c.sound.ensures.numbered in
+    refused_ok c.fail-then-not-branch.result c.args.m.now c.ask.new.self c.fail-then-not-branch.new.m c.args.pid child c.args.regs.now
+    (c.in_ok-ask.ensures.refused no) (c.in_ok-ask.ensures.keeps no) c.next_numbers-child.ensures.process
     (sym c.is_below_limit.ensures ∙ c.if-not-is_below_limit.false)
-    (u_fits c.args.m.now c.args.pid c.next_numbers-child.result.0 c.u_want.result c.in_ok-ask.field-0 c.u_want.ensures c.next_numbers-child.ensures.process
-    c.requires.calls.whole c.sound.ensures.sound c.sound.ensures.numbered c.in_ok-ask.ensures.answer ∙ c.if-not-branch.true)
+    (asked_fits c.args.m.now c.args.pid (Lend child) (c.u_want.result ∷ []) c.in_ok-ask.field-0 asks c.in_ok-ask.ensures.answer ∙ c.if-not-branch.true)
     c.fail-then-not-branch.ensures.replied
 
 pub reply-requires-clause-can : goal.reply-requires-clause-can
 reply-requires-clause-can g c =
     let found = c.in_ok-ask.ensures.found (ap (λ (b : Bool). Ok b) c.if-not-branch.false) in
-    may_apply c.args.m.now c.ask.new.self c.args.pid c.next_numbers-child.result.0 Vfork c.replied_both-after.result found.0 found.2 c.next_numbers-child.ensures.process
+    let child = c.next_numbers-child.result.0 in
+    let asks =
+    vfork_asks c.args.m.now c.args.pid child c.u_want.result c.u_want.ensures c.next_numbers-child.ensures.process c.requires.calls.whole
+    c.sound.ensures.sound c.sound.ensures.numbered in
+    may_apply c.args.m.now c.ask.new.self c.args.pid child Vfork c.replied_both-after.result found.0 found.2 c.next_numbers-child.ensures.process
     (sym c.is_below_limit.ensures ∙ c.if-not-is_below_limit.false) c.requires.calls
-    (u_found c.args.m.now c.args.pid c.next_numbers-child.result.0 c.u_want.result found.0 c.u_want.ensures c.next_numbers-child.ensures.process
-    c.requires.calls.whole c.sound.ensures.sound c.sound.ensures.numbered found.1)
+    (asked_found c.args.m.now c.args.pid (Lend child) (c.u_want.result ∷ []) found.0 asks found.1)
 
 pub lend-requires-clause-holds : goal.lend-requires-clause-holds
 lend-requires-clause-holds g c =
@@ -43,8 +51,12 @@ lend-requires-clause-fresh g c =
 pub returns-clause-vforked : goal.returns-clause-vforked
 returns-clause-vforked g c =
     let found = c.in_ok-ask.ensures.found (ap (λ (b : Bool). Ok b) c.if-not-branch.false) in
-    lent_ok c.args.m.now c.ask.new.self c.reply.new.m c.lend.new.m c.args.pid c.next_numbers-child.result.0 c.args.regs.now c.replied_both-after.result found.0 found.2
-    c.next_numbers-child.ensures.process c.replied_both-after.ensures (sym c.is_below_limit.ensures ∙ c.if-not-is_below_limit.false)
-    (u_found c.args.m.now c.args.pid c.next_numbers-child.result.0 c.u_want.result found.0 c.u_want.ensures c.next_numbers-child.ensures.process
-    c.requires.calls.whole c.sound.ensures.sound c.sound.ensures.numbered found.1)
-    c.in_ok-reply.ensures.answered c.lend.ensures.step c.lend.ensures.lent
+    let child = c.next_numbers-child.result.0 in
+    let asks =
+    vfork_asks c.args.m.now c.args.pid child c.u_want.result c.u_want.ensures c.next_numbers-child.ensures.process c.requires.calls.whole
+    c.sound.ensures.sound c.sound.ensures.numbered in
+    lent_ok c.args.m.now c.reply.new.m c.lend.new.m c.args.pid child c.args.regs.now
+    c.next_numbers-child.ensures.process (sym c.is_below_limit.ensures ∙ c.if-not-is_below_limit.false)
+    (has_child c.args.m.now c.ask.new.self c.reply.new.m c.args.pid child Vfork c.args.regs.now c.replied_both-after.result (Lend child) found.0 found.2 c.replied_both-after.ensures
+    (asked_found c.args.m.now c.args.pid (Lend child) (c.u_want.result ∷ []) found.0 asks found.1) c.in_ok-reply.ensures.answered)
+    c.lend.ensures.step c.lend.ensures.lent
