@@ -21,13 +21,13 @@ use Rattle.machine_state.specs.Calls.{first_due}
 use Rattle.machine_state.specs.Conditions.{KeepsFlat}
 use Rattle.machine_state.specs.Done.{KeepsThrough}
 use Rattle.paging_units.specs.LastMoves.{last_moves}
-use Rattle.paging_units.specs.Made.{SameBeside}
+use Rattle.paging_units.specs.Made.{ground, SameBeside}
 use Rattle.paging_units.specs.Stops.{StopsAt}
 use Rattle.paging_units.proofs.Units.{made_same, makes_whole}
 use Rattle.paging_units.proofs.Keeping.{made_shaped, keeps_flat, keeps_both}
-use Rattle.clock_hands.specs.Forced.{Forced}
+use Rattle.clock_hands.specs.Forced.{Forced, StopsForcing}
 use Rattle.fault_fill.specs.Answers.{ServesNow}
-use Rattle.proc_calls.specs.Copying.{in_space, AreCopiesFrom, IsCopyFirst, CopiesPage, StopsPage, StopsBehind, GoesOn, CopiesAll, StopsCopying}
+use Rattle.proc_calls.specs.Copying.{in_space, AreCopiesFrom, IsCopyFirst, CopiesPage, StopsPage, StopsBehind, GoesOn, CopiesAll, HasCopied, StopsCopying}
 use Rattle.proc_calls.proofs.Copies.{Stay, stay_both, serves_stay, forces_stay, can_serve, filled_frames, last_copy, first_gone}
 
 -- One page.
@@ -40,14 +40,15 @@ pub record IsOn (s : Standing) : Type 0 where
 pub served_on : (parent : Page) (old served : Standing) (holds : Option (List NamedFile)) (i h : Option (List ℕ)) → IsOn old
     → ServesNow (parent ∷ []) parent old served holds i h → IsOn served
 served_on parent old served holds i h o s = record {
-  running = (let a : SameBeside old.kernel served.kernel = made_same (parent ∷ []) s.0.units old.kernel served.kernel i h s.0.makes.made in a.stopped) ∙ o.running;
-  whole = makes_whole (parent ∷ []) s.0.units old served i h s.0.makes o.whole;
+  running = (let a : SameBeside old.kernel served.kernel = made_same (ground old holds (parent ∷ [])) s.0.units old.kernel served.kernel i h s.0.makes.made in a.stopped) ∙ o.running;
+  whole = makes_whole (ground old holds (parent ∷ [])) s.0.units old served i h s.0.makes o.whole;
 }
 
-pub forced_on : (parent : Page) (served roomy : Standing) (h j : Option (List ℕ)) → IsOn served → Forced (parent ∷ []) served roomy h j → IsOn roomy
-forced_on parent served roomy h j o f = record {
-  running = (let a : SameBeside served.kernel roomy.kernel = made_same (parent ∷ []) f.units served.kernel roomy.kernel h j f.makes.made in a.stopped) ∙ o.running;
-  whole = makes_whole (parent ∷ []) f.units served roomy h j f.makes o.whole;
+pub forced_on : (parent : Page) (served roomy : Standing) (holds : Option (List NamedFile)) (h j : Option (List ℕ)) → IsOn served
+    → Forced (parent ∷ []) served roomy holds h j → IsOn roomy
+forced_on parent served roomy holds h j o f = record {
+  running = (let a : SameBeside served.kernel roomy.kernel = made_same (ground served holds (parent ∷ [])) f.units served.kernel roomy.kernel h j f.makes.made in a.stopped) ∙ o.running;
+  whole = makes_whole (ground served holds (parent ∷ [])) f.units served roomy h j f.makes o.whole;
 }
 
 pub served_stay : (child parent : Page) (old served : Standing) (holds : Option (List NamedFile)) (i h : Option (List ℕ)) → OwnsFrames old.kernel.place
@@ -56,9 +57,9 @@ pub served_stay : (child parent : Page) (old served : Standing) (holds : Option 
 served_stay child parent old served holds i h o d f s =
     serves_stay s.0.units old.kernel.place served.kernel.place (parent ∷ []) parent o (can_serve old.kernel.place child parent d f) s.0.leads
 
-pub forced_stay : (parent : Page) (old served roomy : Standing) (h j : Option (List ℕ)) → Stay old.kernel.place served.kernel.place
-    → Forced (parent ∷ []) served roomy h j → Stay old.kernel.place roomy.kernel.place
-forced_stay parent old served roomy h j s f =
+pub forced_stay : (parent : Page) (old served roomy : Standing) (holds : Option (List NamedFile)) (h j : Option (List ℕ)) → Stay old.kernel.place served.kernel.place
+    → Forced (parent ∷ []) served roomy holds h j → Stay old.kernel.place roomy.kernel.place
+forced_stay parent old served roomy holds h j s f =
     stay_both old.kernel.place served.kernel.place roomy.kernel.place s
     (forces_stay f.units served.kernel.place roomy.kernel.place (parent ∷ []) s.owner f.forces)
 
@@ -69,8 +70,18 @@ pub copied_as : (roomy new : Standing) (child : Page) → new.kernel ≡ copy_st
     → new ≡ copied_from roomy child
 copied_as roomy new child step rest = rest ∙ ap (λ (k : Kernel). let s : Standing = record roomy { kernel = k; room = None } in s) step
 
+-- A frame is forced, or the machine stops at that, over the files as they were before.
+
+same_files : (parent : Page) (served roomy : Standing) (holds later : Option (List NamedFile)) (h j : Option (List ℕ)) → later ≡ holds
+    → Forced (parent ∷ []) served roomy later h j → Forced (parent ∷ []) served roomy holds h j
+same_files parent served roomy holds later h j e f = subst (λ (x : Option (List NamedFile)). Forced (parent ∷ []) served roomy x h j) e f
+
+pub forcing_stops : (parent : Page) (served new : Standing) (stop : Stop) (holds later : Option (List NamedFile)) (h j : Option (List ℕ)) → later ≡ holds
+    → StopsForcing (parent ∷ []) served stop new later h j → StopsForcing (parent ∷ []) served stop new holds h j
+forcing_stops parent served new stop holds later h j e f = subst (λ (x : Option (List NamedFile)). StopsForcing (parent ∷ []) served stop new x h j) e f
+
 pub copied_by : {A : Type 0} (r : Result A Stop) (child parent : Page) (old served roomy new : Standing) (holds later : Option (List NamedFile))
-    (i h j : Option (List ℕ)) → later ≡ holds → ServesNow (parent ∷ []) parent old served holds i h → Forced (parent ∷ []) served roomy h j
+    (i h j : Option (List ℕ)) → later ≡ holds → ServesNow (parent ∷ []) parent old served holds i h → Forced (parent ∷ []) served roomy later h j
     → KeepsThrough served roomy later h j → OnOk r (new.kernel ≡ copy_step roomy.kernel child) → OnOk r (new ≡ record roomy { kernel = new.kernel; room = None })
     → OnOk r (KeepsFlat roomy.kernel new.kernel) → IfErr r (λ stop. StopsAt (entries.Copy child) roomy.kernel j stop new j)
     → MatchResult r (λ x. CopiesPage child parent old new holds i j) (StopsPage child parent old new holds i j)
@@ -79,20 +90,20 @@ copied_by (Ok x) child parent old served roomy new holds later i h j e s f keeps
   behind = h;
   serves = s;
   roomy = roomy;
-  forces = f;
+  forces = same_files parent served roomy holds later h j e f;
   copies = copied_as roomy new child step rest;
-  keeps = keeps_both old served new holds later i h j s.0.makes.beside.images (made_shaped (parent ∷ []) s.0.units old.kernel served.kernel i h s.0.makes.made) e s.0.keeps
-      (keeps_both served roomy new later later h j j f.makes.beside.images (made_shaped (parent ∷ []) f.units served.kernel roomy.kernel h j f.makes.made) refl keeps
+  keeps = keeps_both old served new holds later i h j s.0.makes.beside.images (made_shaped (ground old holds (parent ∷ [])) s.0.units old.kernel served.kernel i h s.0.makes.made) e s.0.keeps
+      (keeps_both served roomy new later later h j j f.makes.beside.images (made_shaped (ground served later (parent ∷ [])) f.units served.kernel roomy.kernel h j f.makes.made) refl keeps
       (keeps_flat roomy new later j flat));
 }
 copied_by (Err stop) child parent old served roomy new holds later i h j e s f keeps step rest flat stops =
-    inr (record { served = served; behind = h; serves = s; stops = inr (roomy, f, stops) })
+    inr (record { served = served; behind = h; serves = s; stops = inr (roomy, same_files parent served roomy holds later h j e f, stops) })
 
-pub goes_on : {A : Type 0} (r : Result A Stop) (child parent : Page) (old served roomy new : Standing) (holds : Option (List NamedFile)) (i h j : Option (List ℕ))
-    → IsOn roomy → Stay old.kernel.place roomy.kernel.place → ServesNow (parent ∷ []) parent old served holds i h → Forced (parent ∷ []) served roomy h j
+pub goes_on : {A : Type 0} (r : Result A Stop) (child parent : Page) (old served roomy new : Standing) (holds later : Option (List NamedFile)) (i h j : Option (List ℕ))
+    → IsOn roomy → Stay old.kernel.place roomy.kernel.place → ServesNow (parent ∷ []) parent old served holds i h → Forced (parent ∷ []) served roomy later h j
     → OnOk r (new.kernel ≡ copy_step roomy.kernel child) → OnOk r (new ≡ record roomy { kernel = new.kernel; room = None }) → OnOk r (GoesOn child old new)
-goes_on (Err stop) child parent old served roomy new holds i h j o stay s f step rest = tt
-goes_on (Ok x) child parent old served roomy new holds i h j o stay s f step rest =
+goes_on (Err stop) child parent old served roomy new holds later i h j o stay s f step rest = tt
+goes_on (Ok x) child parent old served roomy new holds later i h j o stay s f step rest =
     let is : new ≡ copied_from roomy child = copied_as roomy new child step rest in
     record {
       params = ap (λ (n : Standing). n.params) is ∙ f.makes.beside.params ∙ s.0.makes.beside.params;
@@ -122,10 +133,6 @@ first_of sid (CopyOf q parent ∷ ds) child a e =
       rest = a.1;
     }
 
-pub none_due : (ds : List Due) → first_due ds ≡ None → ds ≡ []
-none_due [] e = refl
-none_due (d ∷ ds) e = absurd cc
-
 pub list_first : (p : Placement) (sid : ℕ) (child parent : Page) → parent ≡ in_space sid child → (f : FirstOf sid p.due child)
     → p.due ≡ CopyOf child parent ∷ f.others
 list_first p sid child parent e f = f.first ∙ ap (λ (q : Page). CopyOf child q ∷ f.others) (sym e)
@@ -136,9 +143,6 @@ copy_first p sid child parent e f = record { others = f.others; first = f.first 
 -- behind the copy the others are due
 pub others_due : (p r : Placement) (sid : ℕ) (child : Page) (f : FirstOf sid p.due child) → r.due ≡ due_after p.due child → r.due ≡ f.others
 others_due p r sid child f e = e ∙ ap (λ (ds : List Due). due_after ds child) f.first ∙ first_gone child (in_space sid child) f.others
-
-pub copies_none : (ds : List Due) (s : Standing) (holds : Option (List NamedFile)) (i : Option (List ℕ)) → ds ≡ [] → CopiesAll ds s s holds i i
-copies_none ds s holds i e = subst (λ (xs : List Due). CopiesAll xs s s holds i i) (sym e) (refl, refl)
 
 pub stops_first : (ds others : List Due) (child parent : Page) (old new : Standing) (holds : Option (List NamedFile)) (i j : Option (List ℕ)) (stop : Stop)
     → ds ≡ CopyOf child parent ∷ others → StopsPage child parent old new holds i j stop → StopsCopying ds old new holds i j stop
@@ -161,6 +165,19 @@ copies_more (Err stop) ds others dues child parent old next new holds later i h 
       subst (λ (xs : List Due). StopsCopying xs next new holds h j stop) d
           (subst (λ (x : Option (List NamedFile)). StopsCopying dues next new x h j stop) same more),
     ))
+
+-- the machine goes on behind them
+pub copied_on : {A : Type 0} (r : Result A Stop) (child : Page) (old next new : Standing) → GoesOn child old next → OnOk r (HasCopied next new) → OnOk r (HasCopied old new)
+copied_on (Ok x) child old next new g h = record {
+  params = h.params ∙ g.params;
+  images = h.images ∙ g.images;
+  running = h.running;
+  whole = h.whole;
+  due = h.due;
+  frames = h.frames ∙ g.frames;
+  low = let l = h.low in let z = g.last in omega (arith, l, z);
+}
+copied_on (Err stop) child old next new g h = tt
 
 -- fewer are due
 pub fewer_due : (p r : Placement) (sid : ℕ) (child : Page) → FirstOf sid p.due child → r.due ≡ due_after p.due child → length r.due < length p.due

@@ -1,5 +1,5 @@
 -- The pages of a child are copied, each from its parent's page.
-use Rattle.std.specs.Prelude.{◌≡◌, ◌⊎◌, ℕ, true, false, List, [], ◌∷◌, length, Option, None}
+use Rattle.std.specs.Prelude.{◌≡◌, ◌⊎◌, ℕ, ◌≤◌, true, false, List, [], ◌∷◌, length, Option, None}
 use Rattle.vm_facts.specs.declared.page.Page.{Page}
 use Rattle.vm_facts.specs.declared.page.Page.TheVariants.{Data, Stack, Text}
 use Rattle.vm_facts.specs.declared.entry.Entry.TheVariants.{Copy}
@@ -40,7 +40,7 @@ pub record CopiesPage (child parent : Page) (old new : Standing) (holds : Option
   pub behind : Option (List ℕ)
   pub serves : ServesNow (parent ∷ []) parent old served holds before behind
   pub roomy : Standing
-  pub forces : Forced (parent ∷ []) served roomy behind after
+  pub forces : Forced (parent ∷ []) served roomy holds behind after
   pub copies : new ≡ record roomy { kernel = copy_step roomy.kernel child; room = None }
   pub keeps : KeepsThrough old new holds before after
 
@@ -49,13 +49,13 @@ pub record StopsBehind (child parent : Page) (old new : Standing) (holds : Optio
   pub served : Standing
   pub behind : Option (List ℕ)
   pub serves : ServesNow (parent ∷ []) parent old served holds before behind
-  pub stops : StopsForcing (parent ∷ []) served stop new behind after
-      ⊎ ((roomy : Standing) × Forced (parent ∷ []) served roomy behind after × StopsAt (Copy child) roomy.kernel after stop new after)
+  pub stops : StopsForcing (parent ∷ []) served stop new holds behind after
+      ⊎ ((roomy : Standing) × Forced (parent ∷ []) served roomy holds behind after × StopsAt (Copy child) roomy.kernel after stop new after)
 
 -- or before
 abbrev pub StopsPage : Page → Page → Standing → Standing → Option (List NamedFile) → Option (List ℕ) → Option (List ℕ) → Stop → Type 0
 StopsPage child parent old new holds before after stop =
-    StopsServing true (parent ∷ []) parent old new before after stop ⊎ StopsBehind child parent old new holds before after stop
+    StopsServing true (parent ∷ []) parent old new holds before after stop ⊎ StopsBehind child parent old new holds before after stop
 
 -- a machine from which a page was copied goes on: it runs, the page isn't due, and there are as many frames as before
 pub record GoesOn (child : Page) (old new : Standing) : Type 0 where
@@ -73,6 +73,17 @@ CopiesAll [] old new holds before after = (new ≡ old) × (after ≡ before)
 CopiesAll (Start q ∷ ds) old new holds before after = ⊥
 CopiesAll (CopyOf child parent ∷ ds) old new holds before after =
     (next : Standing) × (between : Option (List ℕ)) × CopiesPage child parent old next holds before between × CopiesAll ds next new holds between after
+
+-- Behind the copies the machine goes on: it runs, no page is due, there are as many frames as before, and the last entry counts
+-- no more moves of the hands.
+pub record HasCopied (old new : Standing) : Type 0 where
+  pub params : new.params ≡ old.params
+  pub images : new.images ≡ old.images
+  pub running : new.kernel.stopped ≡ false
+  pub whole : new.before ≡ new.kernel.holdings
+  pub due : new.kernel.place.due ≡ []
+  pub frames : length new.kernel.place.holds ≡ length old.kernel.place.holds
+  pub low : last_moves new.kernel.journal ≤ last_moves old.kernel.journal
 
 -- the machine stops at one of them
 abbrev pub StopsCopying : List Due → Standing → Standing → Option (List NamedFile) → Option (List ℕ) → Option (List ℕ) → Stop → Type 0

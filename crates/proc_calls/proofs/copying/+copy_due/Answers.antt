@@ -2,7 +2,7 @@ use Rattle.std.proofs.Common.{◌<◌, length, sym, ◌∙◌, subst, arith}
 use Rattle.std.proofs.lemmas.Result.{err_from_is_err_and}
 use Rattle.proc_calls.specs.Copying.{AreCopiesFrom, IsCopyFirst, GoesOn}
 use Rattle.proc_calls.proofs.Copies.{room_for}
-use Rattle.proc_calls.proofs.CopiedPages.{FirstOf, first_of, copy_first, list_first, others_due, stops_first, copies_more, fewer_due, area_next, files_next}
+use Rattle.proc_calls.proofs.CopiedPages.{FirstOf, first_of, copy_first, list_first, others_due, stops_first, copies_more, copied_on, fewer_due, area_next, files_next}
 use Rattle.proc_calls.proofs.copying.+copy_due.Goals as goal
 
 pub copy_page-requires-clause-room : goal.copy_page-requires-clause-room
@@ -51,6 +51,9 @@ copy_due-requires g t c κs out =
         ),
       ),
     )
+
+pub returns-clause-on : goal.returns-clause-on
+returns-clause-on g t c = copied_on c.copy_due.result c.in-Some.child c.args.m.now c.copy_page.new.m c.copy_due.new.m c.in_ok-copy_page.ensures.on c.copy_due.ensures.on
 
 pub returns-clause-copied : goal.returns-clause-copied
 returns-clause-copied g t c =

@@ -1,11 +1,13 @@
-use Rattle.std.proofs.Common.{inl, inr, [], ◌∷◌, refl}
+use Rattle.std.proofs.Common.{inl, inr, ℕ, [], ◌∷◌, refl, sym, ◌∙◌, subst}
 use Rattle.std.proofs.lemmas.Result.{err_from_is_err_and}
 use Rattle.vm_facts.specs.declared.entry.Entry.TheVariants as entries
 use Rattle.page_laws.proofs.Ends.Hands.{room_still}
 use Rattle.paging_units.proofs.Stopping.{call_stops, plain_full}
+use Rattle.machine_state.specs.Done.{CountsPages, CountsReads, CountsWrites}
 use Rattle.fault_fill.specs.Answers.{ServesNow}
+use Rattle.fault_fill.proofs.Leading.{pages_stay, reads_stay, writes_stay}
 use Rattle.proc_calls.proofs.Copies.{can_serve, can_copy, first_stays}
-use Rattle.proc_calls.proofs.CopiedPages.{IsOn, served_on, forced_on, served_stay, forced_stay, copied_by, goes_on}
+use Rattle.proc_calls.proofs.CopiedPages.{IsOn, served_on, forced_on, served_stay, forced_stay, forcing_stops, copied_by, goes_on}
 use Rattle.proc_calls.proofs.copying.copy_page.Goals as goal
 
 pub serve_page_now-requires-clause-can : goal.serve_page_now-requires-clause-can
@@ -44,7 +46,9 @@ returns-in_err-make_room-clause-copied g c =
       served = c.serve_page_now.new.m;
       behind = g.D.SwapDev.image c.serve_page_now.new.swap;
       serves = (c.in_ok-serve_page_now.ensures.served.0.serves, c.in_ok-serve_page_now.ensures.served.1);
-      stops = inl c.in_err-make_room.ensures.stopped;
+      stops = inl (forcing_stops c.args.parent c.serve_page_now.new.m c.make_room.new.m c.in_err-make_room.field-0.0 (g.F.Files.holds c.args.files.now)
+          (g.F.Files.holds c.serve_page_now.new.files) (g.D.SwapDev.image c.serve_page_now.new.swap) (g.D.SwapDev.image c.make_room.new.swap)
+          c.in_ok-serve_page_now.ensures.holds c.in_err-make_room.ensures.stopped);
     }))
 
 pub sound-requires-2 : goal.sound-requires-2
@@ -52,7 +56,8 @@ sound-requires-2 g c =
     let o : IsOn c.serve_page_now.new.m = served_on c.args.parent c.args.m.now c.serve_page_now.new.m (g.F.Files.holds c.args.files.now)
     (g.D.SwapDev.image c.args.swap.now) (g.D.SwapDev.image c.serve_page_now.new.swap) (record { running = c.requires.running; whole = c.requires.whole })
     (c.in_ok-serve_page_now.ensures.served.0.serves, c.in_ok-serve_page_now.ensures.served.1) in
-    (forced_on c.args.parent c.serve_page_now.new.m c.make_room.new.m (g.D.SwapDev.image c.serve_page_now.new.swap) (g.D.SwapDev.image c.make_room.new.swap) o
+    (forced_on c.args.parent c.serve_page_now.new.m c.make_room.new.m (g.F.Files.holds c.serve_page_now.new.files)
+    (g.D.SwapDev.image c.serve_page_now.new.swap) (g.D.SwapDev.image c.make_room.new.swap) o
     c.in_ok-make_room.ensures.forced).running
 
 pub copy-requires-clause-running : goal.copy-requires-clause-running
@@ -60,7 +65,8 @@ copy-requires-clause-running g c =
     let o : IsOn c.serve_page_now.new.m = served_on c.args.parent c.args.m.now c.serve_page_now.new.m (g.F.Files.holds c.args.files.now)
     (g.D.SwapDev.image c.args.swap.now) (g.D.SwapDev.image c.serve_page_now.new.swap) (record { running = c.requires.running; whole = c.requires.whole })
     (c.in_ok-serve_page_now.ensures.served.0.serves, c.in_ok-serve_page_now.ensures.served.1) in
-    (forced_on c.args.parent c.serve_page_now.new.m c.make_room.new.m (g.D.SwapDev.image c.serve_page_now.new.swap) (g.D.SwapDev.image c.make_room.new.swap) o
+    (forced_on c.args.parent c.serve_page_now.new.m c.make_room.new.m (g.F.Files.holds c.serve_page_now.new.files)
+    (g.D.SwapDev.image c.serve_page_now.new.swap) (g.D.SwapDev.image c.make_room.new.swap) o
     c.in_ok-make_room.ensures.forced).running
 
 pub copy-requires-clause-whole : goal.copy-requires-clause-whole
@@ -68,7 +74,8 @@ copy-requires-clause-whole g c =
     let o : IsOn c.serve_page_now.new.m = served_on c.args.parent c.args.m.now c.serve_page_now.new.m (g.F.Files.holds c.args.files.now)
     (g.D.SwapDev.image c.args.swap.now) (g.D.SwapDev.image c.serve_page_now.new.swap) (record { running = c.requires.running; whole = c.requires.whole })
     (c.in_ok-serve_page_now.ensures.served.0.serves, c.in_ok-serve_page_now.ensures.served.1) in
-    (forced_on c.args.parent c.serve_page_now.new.m c.make_room.new.m (g.D.SwapDev.image c.serve_page_now.new.swap) (g.D.SwapDev.image c.make_room.new.swap) o
+    (forced_on c.args.parent c.serve_page_now.new.m c.make_room.new.m (g.F.Files.holds c.serve_page_now.new.files)
+    (g.D.SwapDev.image c.serve_page_now.new.swap) (g.D.SwapDev.image c.make_room.new.swap) o
     c.in_ok-make_room.ensures.forced).whole
 
 pub copy-requires-clause-can : goal.copy-requires-clause-can
@@ -80,7 +87,7 @@ copy-requires-clause-can g c =
     (c.in_ok-serve_page_now.ensures.served.0.serves, c.in_ok-serve_page_now.ensures.served.1) in
     let stay = served_stay c.args.child c.args.parent c.args.m.now served (g.F.Files.holds c.args.files.now)
     (g.D.SwapDev.image c.args.swap.now) h c.sound.ensures.sound.owner.frames c.sound.ensures.due c.requires.first serves in
-    let both = forced_stay c.args.parent c.args.m.now served roomy h (g.D.SwapDev.image c.make_room.new.swap) stay c.in_ok-make_room.ensures.forced in
+    let both = forced_stay c.args.parent c.args.m.now served roomy (g.F.Files.holds c.serve_page_now.new.files) h (g.D.SwapDev.image c.make_room.new.swap) stay c.in_ok-make_room.ensures.forced in
     can_copy served.kernel.place roomy.kernel.place c.args.child c.args.parent c.sound-2.ensures.due
     (first_stays c.args.m.now.kernel.place roomy.kernel.place c.args.child c.args.parent both.due c.requires.first)
     c.in_ok-make_room.ensures.spares serves.1 c.in_ok-make_room.ensures.forced.free
@@ -107,8 +114,26 @@ returns-clause-on g c =
     let serves : ServesNow (c.args.parent ∷ []) c.args.parent c.args.m.now served holds i h =
     (c.in_ok-serve_page_now.ensures.served.0.serves, c.in_ok-serve_page_now.ensures.served.1) in
     let stay = served_stay c.args.child c.args.parent c.args.m.now served holds i h c.sound.ensures.sound.owner.frames c.sound.ensures.due c.requires.first serves in
-    let both = forced_stay c.args.parent c.args.m.now served roomy h j stay c.in_ok-make_room.ensures.forced in
-    let on = forced_on c.args.parent served roomy h j
+    let both = forced_stay c.args.parent c.args.m.now served roomy (g.F.Files.holds c.serve_page_now.new.files) h j stay c.in_ok-make_room.ensures.forced in
+    let on = forced_on c.args.parent served roomy (g.F.Files.holds c.serve_page_now.new.files) h j
     (served_on c.args.parent c.args.m.now served holds i h (record { running = c.requires.running; whole = c.requires.whole }) serves) c.in_ok-make_room.ensures.forced in
-    goes_on c.copy.result c.args.child c.args.parent c.args.m.now served roomy c.copy.new.self holds i h j on both serves c.in_ok-make_room.ensures.forced
+    goes_on c.copy.result c.args.child c.args.parent c.args.m.now served roomy c.copy.new.self holds (g.F.Files.holds c.serve_page_now.new.files) i h j on both serves c.in_ok-make_room.ensures.forced
     c.copy.ensures.step c.copy.ensures.rest
+
+pub returns-clause-page_faults : goal.returns-clause-page_faults
+returns-clause-page_faults g c =
+    let before = g.F.Files.page_faults c.args.files.now in
+    subst (λ (n : ℕ). CountsPages c.copy.result before n) (sym (c.in_ok-make_room.ensures.page_faults ∙ c.in_ok-serve_page_now.ensures.page_faults))
+    (pages_stay before c.copy.result c.copy.ensures.cause)
+
+pub returns-clause-read_faults : goal.returns-clause-read_faults
+returns-clause-read_faults g c =
+    let before = g.D.SwapDev.read_faults c.args.swap.now in
+    subst (λ (n : ℕ). CountsReads c.copy.result before n) (sym (c.in_ok-make_room.ensures.read_faults ∙ c.in_ok-serve_page_now.ensures.read_faults))
+    (reads_stay before c.copy.result c.copy.ensures.cause)
+
+pub returns-clause-write_faults : goal.returns-clause-write_faults
+returns-clause-write_faults g c =
+    let before = g.D.SwapDev.write_faults c.args.swap.now in
+    subst (λ (n : ℕ). CountsWrites c.copy.result before n) (sym (c.in_ok-make_room.ensures.write_faults ∙ c.in_ok-serve_page_now.ensures.write_faults))
+    (writes_stay before c.copy.result c.copy.ensures.cause)
