@@ -9,6 +9,7 @@ pub mod Begins
 pub mod Execs
 pub mod Names
 pub mod Crowded
+pub mod Forks
 pub mod Copies
 pub mod CopiedPages
 pub mod Makes

@@ -2,6 +2,7 @@ pub mod Answered
 pub mod Callers
 pub mod Leaving
 pub mod Copying
+pub mod Forking
 pub mod Making
 pub mod Sizing
 pub mod Starting

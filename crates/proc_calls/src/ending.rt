@@ -33,7 +33,7 @@ fn is_borrower(m: &Machine, pid: u32) -> bool
 }
 
 // The number of the space that a process holds.
-fn space_held(m: &Machine, pid: u32) -> u32
+pub fn space_held(m: &Machine, pid: u32) -> u32
     requires running { m.now.kernel.stopped ≡ false }
     requires lends { CanLend m.now.kernel pid }
     ensures { result ≡ space_held m.now.kernel pid }

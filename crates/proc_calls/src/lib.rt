@@ -22,7 +22,7 @@ pub use copying::copy_due;
 pub use ending::{exit, kill, leave_space};
 pub use executing::execve;
 pub use laws::break_is_flat;
-pub use making::vfork;
+pub use making::{fork, vfork};
 pub use reading::read_by_call;
 pub use replying::Called;
 pub use sizing::brk;

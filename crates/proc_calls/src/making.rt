@@ -1,9 +1,18 @@
 //! Calls that make processes.
-ghost use Rattle.std.specs.Prelude.{◌≡◌, false, IfOk, OnOk};
+ghost use Rattle.std.specs.Prelude.{◌≡◌, ◌≤◌, ◌∷◌, [], false, IfOk, IfErr, OnOk};
+ghost use Rattle.vm_facts.specs.declared.page.Page.{Page};
 ghost use Rattle.swap_book.specs.declared.Owner.TheVariants.{U as UOf};
-ghost use Rattle.proc_calls.specs.Callers.{IsCaller};
+ghost use Rattle.page_model.specs.Rank.{HasRoom};
+ghost use Rattle.kernel_model.specs.Asks.{HasSpace};
+ghost use Rattle.machine_state.specs.Done.{CountsPages, CountsReads, CountsWrites};
+ghost use Rattle.machine_state.specs.Files.{AreFiles};
+ghost use Rattle.proc_calls.specs.Callers.{space_held, IsCaller};
+ghost use Rattle.proc_calls.specs.Copying.{HasCopied};
+ghost use Rattle.proc_calls.specs.Forking.{fork_wants, ForkAnswered, Forked, StopsForking};
 ghost use Rattle.proc_calls.specs.Making.{is_below_limit, Vforked, StopsMakingBy};
 
+use crate::copying::copy_due;
+use crate::ending::space_held;
 use crate::replying::{Called, fail, replied_both, reply};
 use flat_model::{EAGAIN, ENOMEM, PROCESS_LIMIT, SystemCall};
 use flat_state::Change;
@@ -58,4 +67,80 @@ pub fn vfork<F: Files, D: SwapDev>(
     reply(m, pid, SystemCall::Vfork, &after, Change::Lend { child })?;
     lend(m, pid, child);
     Ok(Called::Ready)
+}
+
+// What a child wants that copies a space.
+fn fork_wants(m: &Machine, parent: u32) -> [Want; 3]
+    requires running { m.now.kernel.stopped ≡ false }
+    requires there { HasSpace m.now.kernel.place parent }
+    ensures { result ≡ fork_wants m.now.kernel parent }
+{
+    let (child, sid) = m.next_numbers();
+    let _core = m.core();
+    let Some(space) = m.space(parent) else {
+        unreachable!()
+    };
+    let data = Want {
+        owner: Owner::Data(sid),
+        blocks: 2 * space.data_pages(),
+    };
+    let stack = Want {
+        owner: Owner::Stack(sid),
+        blocks: 2 * space.stack_pages(),
+    };
+    [data, stack, u_want(child)]
+}
+
+// A fork before its copies.
+fn enter_fork(m: &mut Machine, pid: u32, parent: u32, regs: &Regs) -> Result<Called, Stop>
+    requires calls { IsCaller m.old pid }
+    requires held { parent ≡ space_held m.old.kernel pid }
+    ensures ready { IfOk result (λ called. called ≡ Called.Ready) }
+    ensures answer { OnOk result (ForkAnswered m.old m.new pid regs.now) }
+    ensures stop { StopsMakingBy m.old m.new pid result }
+{
+    if !is_below_limit(m) {
+        return fail(m, pid, SystemCall::Fork, regs, EAGAIN);
+    }
+    let child = m.next_numbers().0;
+    m.sound();
+    let wants = fork_wants(m, parent);
+    if !m.ask(pid, &wants)? {
+        return fail(m, pid, SystemCall::Fork, regs, ENOMEM);
+    }
+    let after = replied_both(regs, child, 0);
+    reply(m, pid, SystemCall::Fork, &after, Change::Fork { child })
+}
+
+/// A child gets a space of its own, with a copy of each page that the process has filled. A page that it hasn't filled is filled
+/// in the child as it would have been in the process. The child's number is the call's reply, before the first page is copied.
+/// EAGAIN comes where there are 64 processes, zombies counted, and ENOMEM where the child's pieces of swap find no place.
+pub fn fork<F: Files, D: SwapDev>(
+    m: &mut Machine,
+    files: &mut F,
+    swap: &mut D,
+    pid: u32,
+    regs: &Regs,
+) -> Result<Called, Stop>
+    requires calls { IsCaller m.old pid }
+    requires area { m.old.params.swap_blocks ≤ D.blocks swap.old }
+    requires files { AreFiles m.old.images (F.holds files.old) }
+    requires room { (page : Page) → HasRoom m.old.kernel.place (page ∷ []) }
+    ensures ready { IfOk result (λ called. called ≡ Called.Ready) }
+    ensures forked { OnOk result (Forked m.old m.new pid regs.now (F.holds files.old) (D.image swap.old) (D.image swap.new)) }
+    ensures on { OnOk result (HasCopied m.old m.new) }
+    ensures stop { IfErr result (StopsForking m.old m.new pid regs.now (F.holds files.old) (D.image swap.old) (D.image swap.new)) }
+    ensures files_lead { F.leads files.old files.new }
+    ensures swap_leads { D.leads swap.old swap.new }
+    ensures holds { F.holds files.new ≡ F.holds files.old }
+    ensures blocks { D.blocks swap.new ≡ D.blocks swap.old }
+    ensures open_faults { F.open_faults files.new ≡ F.open_faults files.old }
+    ensures page_faults { CountsPages result (F.page_faults files.old) (F.page_faults files.new) }
+    ensures read_faults { CountsReads result (D.read_faults swap.old) (D.read_faults swap.new) }
+    ensures write_faults { CountsWrites result (D.write_faults swap.old) (D.write_faults swap.new) }
+{
+    let parent = space_held(m, pid);
+    let called = enter_fork(m, pid, parent, regs)?;
+    copy_due(m, files, swap, parent)?;
+    Ok(called)
 }
