@@ -7,6 +7,7 @@ pub mod Starts
 pub mod Spaces
 pub mod Begins
 pub mod Execs
+pub mod Fills
 pub mod Names
 pub mod Crowded
 pub mod Forks

@@ -6,6 +6,7 @@ pub mod Forking
 pub mod Making
 pub mod Sizing
 pub mod Starting
+pub mod Filling
 pub mod Waiting
 pub mod Reading
 pub mod Writing

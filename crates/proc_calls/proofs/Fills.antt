@@ -1,0 +1,72 @@
+-- A new stack page is filled: what the fill asks, and what is so behind it.
+use Rattle.std.proofs.Common.{◌≡◌, ℕ, inr, Bool, false, cond, List, [], ◌∷◌, Option, Some, refl, sym, ap, ◌∙◌, subst}
+use Rattle.std.specs.Prelude.{Result, Ok, Err, OnOk, IfErr, MatchResult, None}
+use Rattle.vm_facts.specs.declared.page.Page.{Page}
+use Rattle.vm_facts.specs.declared.entry.Entry.{Entry}
+use Rattle.vm_facts.specs.declared.entry.Entry.TheVariants as entries
+use Rattle.vm_facts.specs.declared.stop.Stop.{Stop}
+use Rattle.io_edge.specs.FileHolding.{NamedFile}
+use Rattle.flat_state.proofs.PageNames.{same_page_self}
+use Rattle.page_model.specs.Placement.{Placement, Due, Start, due_at}
+use Rattle.page_model.specs.Serve.{Forces, force}
+use Rattle.page_model.specs.Ownership.{OwnsFrames}
+use Rattle.page_model.specs.Dues.{IsDue, DueStand}
+use Rattle.page_laws.proofs.Moves.Stays.{Stays, force_stays}
+use Rattle.page_laws.proofs.Ownership.Serve.{force_owner}
+use Rattle.kernel_model.specs.Kernel.{Kernel, zero_step}
+use Rattle.machine_state.specs.Machine.{Standing}
+use Rattle.machine_state.specs.Due.{IsFirstStart}
+use Rattle.machine_state.specs.Conditions.{CanZero, KeepsFlat}
+use Rattle.machine_state.specs.Done.{KeepsThrough}
+use Rattle.paging_units.specs.Made.{SameBeside, ground}
+use Rattle.paging_units.specs.Stops.{StopsAt}
+use Rattle.paging_units.proofs.Units.{made_same, makes_whole}
+use Rattle.paging_units.proofs.Keeping.{made_shaped, keeps_flat, keeps_both}
+use Rattle.clock_hands.specs.Forced.{Forced}
+use Rattle.proc_calls.specs.Filling.{IsStartFirst, FillsStart, StopsStart}
+
+-- what is due stays as a frame is forced
+due_stays : (us : List Entry) (p r : Placement) (locked : List Page) → OwnsFrames p → Forces us p locked r → r.due ≡ p.due
+due_stays [] p r locked o s = ap (λ (x : Placement). x.due) (sym s)
+due_stays (e ∷ us) p r locked o s =
+    due_stays us (force p locked) r locked (force_owner p locked o) s.2 ∙ (let t : Stays p (force p locked) = force_stays p locked o in t.due)
+
+start_at : (page : Page) (ds : List Due) → due_at (Start page ∷ ds) page ≡ Some (Start page)
+start_at page ds = ap (λ (b : Bool). cond b (Some (Start page)) (due_at ds page)) (same_page_self page)
+
+pub forced_runs : (locked : List Page) (old roomy : Standing) (holds : Option (List NamedFile)) (i j : Option (List ℕ)) → Forced locked old roomy holds i j
+    → old.kernel.stopped ≡ false → roomy.kernel.stopped ≡ false
+forced_runs locked old roomy holds i j f r =
+    (let a : SameBeside old.kernel roomy.kernel = made_same (ground old holds locked) f.units old.kernel roomy.kernel i j f.makes.made in a.stopped) ∙ r
+
+pub forced_whole : (locked : List Page) (old roomy : Standing) (holds : Option (List NamedFile)) (i j : Option (List ℕ)) → Forced locked old roomy holds i j
+    → old.before ≡ old.kernel.holdings → roomy.before ≡ roomy.kernel.holdings
+forced_whole locked old roomy holds i j f w = makes_whole (ground old holds locked) f.units old roomy i j f.makes w
+
+pub can_fill : (page : Page) (old roomy : Standing) (holds : Option (List NamedFile)) (i j : Option (List ℕ)) → OwnsFrames old.kernel.place → DueStand roomy.kernel.place
+    → IsStartFirst old.kernel.place page → Forced [] old roomy holds i j → CanZero roomy.kernel.place page
+can_fill page old roomy holds i j o d s f =
+    let e : roomy.kernel.place.due ≡ Start page ∷ s.others = due_stays f.units old.kernel.place roomy.kernel.place [] o f.forces ∙ s.first in
+    let due : IsDue roomy.kernel.place page (Start page) = d page (Start page) (ap (λ (ds : List Due). due_at ds page) e ∙ start_at page s.others) in
+    record {
+      writable = due.writable;
+      there = due.there;
+      unfilled = due.unfilled;
+      zeros = due.zeros;
+      first = subst (λ (ds : List Due). IsFirstStart ds page) (sym e) refl;
+      frame = f.free;
+    }
+
+pub filled_by : {A : Type 0} (r : Result A Stop) (page : Page) (old roomy new : Standing) (holds later : Option (List NamedFile)) (i j : Option (List ℕ)) → later ≡ holds
+    → Forced [] old roomy holds i j → KeepsThrough old roomy holds i j → OnOk r (new.kernel ≡ zero_step roomy.kernel page)
+    → OnOk r (new ≡ record roomy { kernel = new.kernel; room = None }) → OnOk r (KeepsFlat roomy.kernel new.kernel)
+    → IfErr r (λ stop. StopsAt (entries.Zero page) roomy.kernel j stop new j)
+    → MatchResult r (λ x. FillsStart page old new holds i j) (StopsStart page old new holds i j)
+filled_by (Ok x) page old roomy new holds later i j e f keeps step rest flat stops = record {
+  roomy = roomy;
+  forces = f;
+  fills = rest ∙ ap (λ (k : Kernel). let s : Standing = record roomy { kernel = k; room = None } in s) step;
+  keeps = keeps_both old roomy new holds later i j j f.makes.beside.images (made_shaped (ground old holds []) f.units old.kernel roomy.kernel i j f.makes.made) e keeps
+      (keeps_flat roomy new later j flat);
+}
+filled_by (Err stop) page old roomy new holds later i j e f keeps step rest flat stops = inr (roomy, f, stops)

@@ -1,0 +1,44 @@
+//! The fill of a new stack page.
+ghost use Rattle.std.specs.Prelude.{◌≡◌, ◌≤◌, [], false, OnOk, MatchResult};
+ghost use Rattle.page_model.specs.Rank.{HasRoom};
+ghost use Rattle.machine_state.specs.Done.{CountsPages, CountsReads, CountsWrites};
+ghost use Rattle.machine_state.specs.Files.{AreFiles};
+ghost use Rattle.paging_units.specs.LastMoves.{last_moves};
+ghost use Rattle.proc_calls.specs.Filling.{IsStartFirst, FillsStart, StopsStart};
+
+use clock_hands::make_room;
+use io_edge::{Files, SwapDev};
+use machine_state::Machine;
+use vm_facts::{Page, Stop};
+
+/// The new stack page that is due first is filled with its bytes. A frame is forced for it where none is free, and nothing is
+/// locked meanwhile.
+pub fn fill_start<F: Files, D: SwapDev>(
+    m: &mut Machine,
+    files: &mut F,
+    swap: &mut D,
+    page: Page,
+) -> Result<(), Stop>
+    requires running { m.old.kernel.stopped ≡ false }
+    requires whole { m.old.before ≡ m.old.kernel.holdings }
+    requires area { m.old.params.swap_blocks ≤ D.blocks swap.old }
+    requires files { AreFiles m.old.images (F.holds files.old) }
+    requires first { IsStartFirst m.old.kernel.place page }
+    requires room { HasRoom m.old.kernel.place [] }
+    requires low { last_moves m.old.kernel.journal ≤ 1000000 }
+    ensures filled { MatchResult result (λ u. FillsStart page m.old m.new (F.holds files.old) (D.image swap.old) (D.image swap.new))
+        (StopsStart page m.old m.new (F.holds files.old) (D.image swap.old) (D.image swap.new)) }
+    ensures files_lead { F.leads files.old files.new }
+    ensures swap_leads { D.leads swap.old swap.new }
+    ensures holds { F.holds files.new ≡ F.holds files.old }
+    ensures blocks { D.blocks swap.new ≡ D.blocks swap.old }
+    ensures open_faults { F.open_faults files.new ≡ F.open_faults files.old }
+    ensures page_faults { CountsPages result (F.page_faults files.old) (F.page_faults files.new) }
+    ensures read_faults { CountsReads result (D.read_faults swap.old) (D.read_faults swap.new) }
+    ensures write_faults { CountsWrites result (D.write_faults swap.old) (D.write_faults swap.new) }
+{
+    m.sound();
+    make_room(m, files, swap, &[])?;
+    m.sound();
+    m.fill_zero(page)
+}
