@@ -1,1 +1,2 @@
 pub mod SmallMachine
+pub mod Readiness

@@ -85,7 +85,7 @@ have_files (x ∷ []) facts at files some long =
     )
 have_files (x ∷ y ∷ more) facts at files some long = absurd (let k = ap length facts in omega (arith, k))
 
-shown_files : (images : List Named) → map (λ (n : ImageNamed). n.file) (map image_shown images) ≡ map (λ (n : Named). n.file) images
+pub shown_files : (images : List Named) → map (λ (n : ImageNamed). n.file) (map image_shown images) ≡ map (λ (n : Named). n.file) images
 shown_files [] = refl
 shown_files (x ∷ xs) = ap (λ (ys : List ℕ). x.file ∷ ys) (shown_files xs)
 

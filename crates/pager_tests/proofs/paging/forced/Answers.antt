@@ -1,0 +1,14 @@
+use Rattle.std.proofs.Common.{Some, OnOk, map, subst}
+use Rattle.io_edge.specs.FileHolding.{named_file}
+use Rattle.pager_tests.specs.Ready.{IsReady}
+use Rattle.pager_tests.proofs.Readiness.{forced_ready}
+use Rattle.pager_tests.proofs.paging.forced.Goals as goal
+
+pub returns : goal.returns
+returns g c =
+    let call = c.make_room in
+    let later = Some (map named_file call.new.files.store.files.items) in
+    let more = call.new.swap.store.blocks in
+    subst (λ r. OnOk r (IsReady call.new.m later more)) c.expect.ensures (forced_ready call.result c.args.m.now call.new.m (Some c.args.swap.now.store.image.items)
+    (Some call.new.swap.store.image.items) (Some (map named_file c.args.files.now.store.files.items)) later c.args.swap.now.store.blocks more call.ensures.forced call.ensures.holds
+    call.ensures.blocks c.requires)
