@@ -1,2 +1,3 @@
 pub mod SmallMachine
 pub mod Readiness
+pub mod CallersSeen
