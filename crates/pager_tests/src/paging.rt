@@ -24,7 +24,7 @@ use std::process::Abort;
 use std::test::Fail;
 use vm_facts::{Entry, Page, PageState, Params, Stop};
 
-pub fn data(v: u32) -> Page {
+pub(crate) fn data(v: u32) -> Page {
     Page::Data { sid: 1, v }
 }
 
@@ -33,7 +33,7 @@ fn text(v: u32) -> Page {
 }
 
 // A page of text, and 112 pages of data, all zeros.
-pub fn of_zeros() -> Image
+pub(crate) fn of_zeros() -> Image
     ensures sound { IsSound result }
     ensures short { file_length_of result ≤ 32768 }
 {
@@ -61,7 +61,7 @@ fn of_file() -> Image
 }
 
 // Two pages of text, and one of data.
-pub fn of_two_text_pages() -> Image
+pub(crate) fn of_two_text_pages() -> Image
     ensures sound { IsSound result }
     ensures short { file_length_of result ≤ 32768 }
 {
@@ -124,7 +124,7 @@ fn fill_stack(rt: &impl Abort, m: &mut Machine)
 }
 
 // The file of that image, all zeros.
-pub fn file(rt: &impl Abort, alloc: Global) -> MemFiles
+pub(crate) fn file(rt: &impl Abort, alloc: Global) -> MemFiles
     ensures { (images : List ImageNamed) → ((files : List NamedFile) → 0 < length files → 32768 ≤ length (bytes_at files 0) → HaveFiles images files)
         → AreFiles images (⟦<MemFiles as Files>⟧.holds result) }
 {
@@ -136,7 +136,7 @@ pub fn file(rt: &impl Abort, alloc: Global) -> MemFiles
 }
 
 // A swap device as large as that machine's area, of whose writes these fail.
-pub fn area(rt: &impl Abort, alloc: Global, fail_writes: Vec<u64>) -> MemSwap
+pub(crate) fn area(rt: &impl Abort, alloc: Global, fail_writes: Vec<u64>) -> MemSwap
     ensures { ⟦<MemSwap as SwapDev>⟧.blocks result ≡ 260 }
 {
     MemSwap::new(alloc, 260, Vec::new(alloc), fail_writes).expect(rt, "memory for a device")
@@ -208,7 +208,13 @@ fn serve(
 }
 
 // The same, where it comes to that.
-pub fn bring(rt: &impl Abort, m: &mut Machine, files: &mut MemFiles, swap: &mut MemSwap, page: Page)
+pub(crate) fn bring(
+    rt: &impl Abort,
+    m: &mut Machine,
+    files: &mut MemFiles,
+    swap: &mut MemSwap,
+    page: Page,
+)
     requires { IsReady m.old (⟦<MemFiles as Files>⟧.holds files.old) (⟦<MemSwap as SwapDev>⟧.blocks swap.old) }
     ensures { IsReady m.new (⟦<MemFiles as Files>⟧.holds files.new) (⟦<MemSwap as SwapDev>⟧.blocks swap.new) }
 {
@@ -216,7 +222,7 @@ pub fn bring(rt: &impl Abort, m: &mut Machine, files: &mut MemFiles, swap: &mut 
 }
 
 // Moves the hands, and answers how often.
-pub fn moved(
+pub(crate) fn moved(
     rt: &impl Abort,
     m: &mut Machine,
     files: &mut MemFiles,
@@ -241,7 +247,7 @@ fn landed(rt: &impl Abort, m: &mut Machine, files: &mut MemFiles, swap: &mut Mem
 }
 
 // A machine in which the first process began, whose page of the stack took a frame.
-pub fn with_stack(
+pub(crate) fn with_stack(
     rt: &impl Abort,
     alloc: Global,
     _files: &MemFiles,
@@ -278,7 +284,7 @@ fn bring_data(
 }
 
 // A machine in which the stack, the text and so many pages of data, all zeros, came in.
-pub fn filled(
+pub(crate) fn filled(
     rt: &impl Abort,
     alloc: Global,
     files: &mut MemFiles,
@@ -339,7 +345,7 @@ fn forced(rt: &impl Abort, m: &mut Machine, files: &mut MemFiles, swap: &mut Mem
 }
 
 // The lines of a machine in which the stack, the text and so many pages of data, all zeros, came in.
-pub fn lines_of_filled(alloc: Global, count: u32) -> Result<String, AllocError> {
+pub(crate) fn lines_of_filled(alloc: Global, count: u32) -> Result<String, AllocError> {
     let mut lines = String::from_str(alloc, "Z s 1 0\nG x 1 0 0 1\nD\n")?;
     for v in 0..count {
         lines.push_str(format!(in alloc; "Z d 1 {v}\n")?.as_str())?;
@@ -360,7 +366,7 @@ fn lines_of_reads(alloc: Global) -> Result<String, AllocError> {
 }
 
 // That the journal has these lines, and behind them those.
-pub fn see_lines(
+pub(crate) fn see_lines(
     rt: &impl Abort,
     alloc: Global,
     m: &Machine,
