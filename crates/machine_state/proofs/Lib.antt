@@ -4,6 +4,7 @@ pub mod Same
 pub mod Shows
 pub mod Finds
 pub mod Held
+pub mod TextLengths
 pub mod Arrives
 pub mod Evicts
 pub mod Fills

@@ -11,6 +11,7 @@ pub mod Sourced
 pub mod Known
 pub mod Steps
 pub mod Machine
+pub mod Texts
 pub mod Moves
 pub mod Launches
 pub mod Joined

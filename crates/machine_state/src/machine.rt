@@ -8,6 +8,7 @@ ghost use Rattle.kernel_model.specs.Numbers.{Numbered};
 ghost use Rattle.kernel_model.specs.Sound.{Sound};
 ghost use Rattle.machine_state.specs.Machine.{image_shown};
 ghost use Rattle.machine_state.specs.Sourced.{AreNames};
+ghost use Rattle.machine_state.specs.Texts.{TextsStand};
 ghost use Rattle.page_model.specs.Swapper.{is_settled};
 ghost use Rattle.machine_state.specs.Settled.{SettledBy, IsSameBeside, StopsSettling};
 ghost use Rattle.machine_state.specs.Files.{AreFiles};
@@ -101,7 +102,7 @@ impl Machine {
     }
 
     /// What is so of each machine that runs, with the holdings before the pieces that were found last. Its images are those that
-    /// it was made with: at most 16, and each as a header may be.
+    /// it was made with: at most 16, each as a header may be, and the text of each has as many pages as its header tells.
     pub fn sound(&self)
         requires { self.now.kernel.stopped ≡ false }
         ensures sound { Sound self.now.params.swap_blocks (record self.now.kernel { holdings = self.now.before }) }
@@ -110,6 +111,7 @@ impl Machine {
         ensures frames { length self.now.kernel.place.holds ≤ 4096 }
         ensures few_images { length self.now.images ≤ 16 }
         ensures images { AreSound (map (λ image. image.facts) self.now.images) }
+        ensures texts { TextsStand self.now }
     {
         let _ = &self.stopped;
     }

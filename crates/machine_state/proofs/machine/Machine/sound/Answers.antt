@@ -5,7 +5,9 @@ use Rattle.machine_state.specs.declared.named.Named.{Named}
 use Rattle.machine_state.specs.New.{AreSound}
 use Rattle.machine_state.specs.Sourced.{ImageNamed}
 use Rattle.machine_state.specs.Machine.{Standing, lists_of, kernel_by, before_of}
+use Rattle.machine_state.specs.Texts.{TextsStand}
 use Rattle.machine_state.proofs.Held.{holds_length}
+use Rattle.machine_state.proofs.TextLengths.{texts_stand}
 use Rattle.machine_state.proofs.FirstBegins.{images_length, shown_facts}
 use Rattle.machine_state.proofs.Standings.{stands_now}
 use Rattle.machine_state.proofs.machine.Machine.sound.Goals as goal
@@ -40,3 +42,8 @@ returns-clause-images c =
     let now = stands_now m c.args.self.now c.self.invariant c.self.view_is c.requires in
     subst (λ (s : Standing). AreSound (map (λ (n : ImageNamed). n.facts) s.images)) c.self.view_is
     (subst AreSound (sym (shown_facts m.tables.images.items)) now.stands.runs.tied.sound)
+
+pub returns-clause-texts : goal.returns-clause-texts
+returns-clause-texts c =
+    let m = c.self.inside in
+    subst TextsStand c.self.view_is (texts_stand m.tables)
