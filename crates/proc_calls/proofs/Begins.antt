@@ -2,6 +2,8 @@
 use Rattle.std.proofs.Common.{◌≡◌, ◌⊎◌, ◌<◌, ◌≤◌, ℕ, Bool, true, false, List, length, Option, refl, sym, ap, ◌∙◌, subst, inl, inr}
 use Rattle.std.specs.Prelude.{Result, Ok, Err, IfOk, OnOk, OnErr, IfErr}
 use Rattle.io_edge.specs.FileHolding.{NamedFile}
+use Rattle.vm_facts.specs.declared.page.Page.{Page}
+use Rattle.vm_facts.specs.declared.page.Page.TheVariants.{Stack}
 use Rattle.vm_facts.specs.declared.regs.Regs.{Regs}
 use Rattle.vm_facts.specs.declared.stop.Stop.{Stop}
 use Rattle.vm_facts.specs.declared.stop.Stop.TheVariants as stops
@@ -34,9 +36,10 @@ use Rattle.proc_calls.specs.declared.replying.Called.{Called}
 use Rattle.proc_calls.specs.declared.replying.Called.TheVariants as calls
 use Rattle.proc_calls.specs.Callers.{proc_in, space_held, IsCaller}
 use Rattle.proc_calls.specs.Answered.{Answered, Replied, StopsBefore}
+use Rattle.proc_calls.specs.Filling.{FillsStart, StopsStart}
 use Rattle.proc_calls.specs.Leaving.{HasSettled, HasLeftBy}
 use Rattle.proc_calls.specs.Making.{with_pieces}
-use Rattle.proc_calls.specs.Starting.{image_wanted, image_found, LeavesFor, StaysWithout, FindsBy, Finds, StartsBy, Starts, ExecComes, StopsStarting}
+use Rattle.proc_calls.specs.Starting.{image_wanted, image_found, LeavesFor, StaysWithout, FindsBy, Finds, StartsBy, Starts, ExecComes, StopsImage, StopsExec}
 use Rattle.proc_calls.proofs.Callers.{caller_lives}
 use Rattle.proc_calls.proofs.Leaving.{GoesOn, settled_goes, space_stays, lender_lives}
 
@@ -150,13 +153,16 @@ pub found_of : (fits b : Bool) (m n : Standing) (pid image : ℕ) (holds : Optio
     → Finds (image_found image) fits m n pid holds before after → FindsBy b (image_found image) m n pid holds before after
 found_of fits b m n pid image holds before after e f = subst (λ (x : Bool). FindsBy x (image_found image) m n pid holds before after) e f.finds
 
-pub start_ok : (r : Result Called Stop) (fits : Bool) (m asked new : Standing) (pid image : ℕ) (regs after : Regs) (top : List ℕ) (holds : Option (List NamedFile)) (i j : Option (List ℕ))
-    → fits ≡ true → Finds (image_found image) fits m asked pid holds i j → OnOk r (Answered asked new pid Execve after (Exec image top))
-    → OnOk r (Starts m new pid regs after image top holds i j)
-start_ok (Err stop) fits m asked new pid image regs after top holds i j e f a = tt
-start_ok (Ok called) fits m asked new pid image regs after top holds i j e f a =
-    subst (λ (b : Bool). StartsBy b m new pid regs after image top holds i j) (sym e ∙ f.answer)
-    (record { asked = asked; finds = found_of fits true m asked pid image holds i j e f; answer = a })
+pub start_filled : (fits : Bool) (m asked between new : Standing) (pid image : ℕ) (regs after : Regs) (top : List ℕ) (page : Page) (holds : Option (List NamedFile)) (i told j : Option (List ℕ))
+    → fits ≡ true → page ≡ Stack m.kernel.next_sid 0 → Finds (image_found image) fits m asked pid holds i told → Answered asked between pid Execve after (Exec image top)
+    → FillsStart page between new holds told j → Starts m new pid regs after image top holds i j
+start_filled fits m asked between new pid image regs after top page holds i told j e is f a fills =
+    subst (λ (b : Bool). StartsBy b m new pid regs after image top holds i j) (sym e ∙ f.answer) (record {
+      between = between;
+      told = told;
+      started = record { asked = asked; finds = found_of fits true m asked pid image holds i told e f; answer = a };
+      fills = subst (λ (q : Page). FillsStart q between new holds told j) is fills;
+    })
 
 pub fail_ok : (r : Result Called Stop) (fits : Bool) (m asked new : Standing) (pid image : ℕ) (regs after : Regs) (top : List ℕ) (holds : Option (List NamedFile)) (i j : Option (List ℕ))
     → fits ≡ false → Finds (image_found image) fits m asked pid holds i j → IfOk r (Replied asked new pid Execve regs (Fails no_memory))
@@ -185,7 +191,7 @@ exec_ok (Ok called) old m new pid image regs after top asked holds i j same e re
 same_stop : (s t : Stop) → (let r : Result Called Stop = Err s in r) ≡ Err t → s ≡ t
 same_stop s t e = cc
 
-stops_before : (old new : Standing) (stop : Stop) → HasStopped old new → ((let r : Result Called Stop = Err stop in r) ≡ Err stops.JournalFull) ⊎ ((let r : Result Called Stop = Err stop in r) ≡ Err stops.NoMemory)
+pub stops_before : (old new : Standing) (stop : Stop) → HasStopped old new → ((let r : Result Called Stop = Err stop in r) ≡ Err stops.JournalFull) ⊎ ((let r : Result Called Stop = Err stop in r) ≡ Err stops.NoMemory)
     → ((let r : Result Called Stop = Err stop in r) ≡ Err stops.JournalFull → old.params.journal ≤ length old.kernel.journal) → StopsBefore old new stop
 stops_before old new stop s c f = record {
   stopped = s;
@@ -204,28 +210,46 @@ before_found b new hs stop s = record {
   full = s.full;
 }
 
-pub reply_stops : (r : Result Called Stop) (fits : Bool) (m asked new : Standing) (pid image : ℕ) (holds : Option (List NamedFile)) (i j : Option (List ℕ))
-    → fits ≡ true → Finds (image_found image) fits m asked pid holds i j → OnErr r (HasStopped asked new)
-    → OnErr r ((r ≡ Err stops.JournalFull) ⊎ (r ≡ Err stops.NoMemory)) → (r ≡ Err stops.JournalFull → asked.params.journal ≤ length asked.kernel.journal)
-    → IfErr r (StopsStarting m new pid image holds i j)
-reply_stops (Ok called) fits m asked new pid image holds i j e f s c full = tt
-reply_stops (Err stop) fits m asked new pid image holds i j e f s c full =
+pub reply_stops : (stop : Stop) (fits : Bool) (m asked new : Standing) (pid image : ℕ) (after : Regs) (top : List ℕ) (holds : Option (List NamedFile)) (i j : Option (List ℕ))
+    → fits ≡ true → Finds (image_found image) fits m asked pid holds i j → StopsBefore asked new stop → StopsImage m new pid after image top holds i j stop
+reply_stops stop fits m asked new pid image after top holds i j e f s =
     let l : LeavesFor (image_found image) m asked pid holds i j = found_of fits true m asked pid image holds i j e f in
-    inl (inr (inr (record {
-      between = l.between;
-      left = l.left;
-      stops = before_found l.between new l.found stop (subst (λ (x : Standing). StopsBefore x new stop) l.step (stops_before asked new stop s c full));
-    })))
+    inl (inl (inr (
+      sym f.answer ∙ e,
+      inr (record {
+        between = l.between;
+        left = l.left;
+        stops = before_found l.between new l.found stop (subst (λ (x : Standing). StopsBefore x new stop) l.step s);
+      }),
+    )))
 
-pub fail_stops : (r : Result Called Stop) (fits : Bool) (m asked new : Standing) (pid image : ℕ) (holds : Option (List NamedFile)) (i j : Option (List ℕ))
+pub fill_stops : (stop : Stop) (fits : Bool) (m asked between new : Standing) (pid image : ℕ) (after : Regs) (top : List ℕ) (page : Page) (holds later : Option (List NamedFile)) (i told j : Option (List ℕ))
+    → later ≡ holds → fits ≡ true → page ≡ Stack m.kernel.next_sid 0 → Finds (image_found image) fits m asked pid holds i told
+    → Answered asked between pid Execve after (Exec image top) → StopsStart page between new later told j stop → StopsImage m new pid after image top holds i j stop
+fill_stops stop fits m asked between new pid image after top page holds later i told j same e is f a s =
+    inr (record {
+      between = between;
+      told = told;
+      started = record { asked = asked; finds = found_of fits true m asked pid image holds i told e f; answer = a };
+      stops = subst (λ (q : Page). StopsStart q between new holds told j stop) is (subst (λ (h : Option (List NamedFile)). StopsStart page between new h told j stop) same s);
+    })
+
+pub fail_stops : (r : Result Called Stop) (fits : Bool) (m asked new : Standing) (pid image : ℕ) (after : Regs) (top : List ℕ) (holds : Option (List NamedFile)) (i j : Option (List ℕ))
     → fits ≡ false → Finds (image_found image) fits m asked pid holds i j → OnErr r (HasStopped asked new)
     → OnErr r ((r ≡ Err stops.JournalFull) ⊎ (r ≡ Err stops.NoMemory)) → (r ≡ Err stops.JournalFull → asked.params.journal ≤ length asked.kernel.journal)
-    → IfErr r (StopsStarting m new pid image holds i j)
-fail_stops (Ok called) fits m asked new pid image holds i j e f s c full = tt
-fail_stops (Err stop) fits m asked new pid image holds i j e f s c full =
+    → IfErr r (StopsImage m new pid after image top holds i j)
+fail_stops (Ok called) fits m asked new pid image after top holds i j e f s c full = tt
+fail_stops (Err stop) fits m asked new pid image after top holds i j e f s c full =
     let w : StaysWithout m asked pid i j = found_of fits false m asked pid image holds i j e f in
-    inr (record {
+    inl (inr (record {
       none = sym f.answer ∙ e;
       stops = subst (λ (x : Standing). StopsBefore x new stop) w.step (stops_before asked new stop s c full);
       image_same = w.image;
-    })
+    }))
+
+pub exec_stops : (r : Result Called Stop) (old m new : Standing) (pid image : ℕ) (after : Regs) (top : List ℕ) (asked : Result Reply Refused) (holds : Option (List NamedFile)) (i j : Option (List ℕ))
+    → m ≡ old → asked ≡ Ok (Does after (Exec image top)) → IfErr r (StopsImage m new pid after image top holds i j) → IfErr r (StopsExec old new pid asked holds i j)
+exec_stops (Ok called) old m new pid image after top asked holds i j same e s = tt
+exec_stops (Err stop) old m new pid image after top asked holds i j same e s =
+    subst (λ (a : Result Reply Refused). StopsExec old new pid a holds i j stop) (sym e)
+    (subst (λ (x : Standing). StopsImage x new pid after image top holds i j stop) same s)

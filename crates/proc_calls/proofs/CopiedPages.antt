@@ -3,13 +3,11 @@ use Rattle.std.proofs.Common.{◌≡◌, inl, inr, ℕ, suc, ◌<◌, ◌≤◌,
 use Rattle.std.specs.Prelude.{Result, Ok, Err, OnOk, IfErr, MatchResult}
 use Rattle.std.proofs.lemmas.Option.{same_Some}
 use Rattle.vm_facts.specs.declared.page.Page.{Page}
-use Rattle.vm_facts.specs.declared.entry.Entry.{Entry}
 use Rattle.vm_facts.specs.declared.entry.Entry.TheVariants as entries
 use Rattle.vm_facts.specs.declared.stop.Stop.{Stop}
 use Rattle.io_edge.specs.FileHolding.{NamedFile}
-use Rattle.flat_state.specs.Journal.{append}
 use Rattle.page_model.specs.Placement.{Placement, Due, Start, CopyOf}
-use Rattle.page_model.specs.Place.{due_after, filled}
+use Rattle.page_model.specs.Place.{due_after}
 use Rattle.page_model.specs.Ownership.{OwnsFrames}
 use Rattle.page_model.specs.Dues.{DueStand}
 use Rattle.kernel_model.specs.Kernel.{Kernel, copy_step}
@@ -27,7 +25,7 @@ use Rattle.paging_units.proofs.Units.{made_same, makes_whole}
 use Rattle.paging_units.proofs.Keeping.{made_shaped, keeps_flat, keeps_both}
 use Rattle.clock_hands.specs.Forced.{Forced, StopsForcing}
 use Rattle.fault_fill.specs.Answers.{ServesNow}
-use Rattle.proc_calls.specs.Copying.{in_space, AreCopiesFrom, IsCopyFirst, CopiesPage, StopsPage, StopsBehind, GoesOn, CopiesAll, HasCopied, StopsCopying}
+use Rattle.proc_calls.specs.Copying.{in_space, AreCopiesFrom, IsCopyFirst, CopiesPage, StopsPage, GoesOn, CopiesAll, HasCopied, StopsCopying}
 use Rattle.proc_calls.proofs.Copies.{Stay, stay_both, serves_stay, forces_stay, can_serve, filled_frames, last_copy, first_gone}
 
 -- One page.

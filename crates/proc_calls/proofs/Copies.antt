@@ -1,24 +1,22 @@
 -- A page of a child is copied: what its steps ask, and what is so behind them.
-use Rattle.std.proofs.Common.{◌≡◌, ◌≢◌, inl, inr, ℕ, zero, suc, ◌+◌, ◌/◌, ◌<◌, ◌≤◌, Bool, true, false, ◌||◌, cond, List, [], ◌∷◌, length, Option, Some, None, refl, sym, ap, ◌∙◌, subst, arith}
-use Rattle.std.specs.Prelude.{Result, Ok, Err}
+use Rattle.std.proofs.Common.{◌≡◌, ◌≢◌, inl, inr, ℕ, ◌<◌, Bool, true, false, ◌||◌, cond, List, [], ◌∷◌, length, Option, Some, None, refl, sym, ap, ◌∙◌, subst}
 use Rattle.std.proofs.lemmas.Bool.{cases_lt}
 use Rattle.std.proofs.lemmas.List.{get_or_past}
-use Rattle.std.proofs.lemmas.Option.{same_Some, none-some}
 use Rattle.vm_facts.specs.declared.page.Page.{Page}
 use Rattle.vm_facts.specs.declared.page.Page.TheVariants.{Data, Stack, Text}
 use Rattle.vm_facts.specs.declared.page.PageState.{PageState}
 use Rattle.vm_facts.specs.declared.page.PageState.TheVariants.{Unfilled, Valid, Invalid, Coming, Going, OnSwap}
 use Rattle.vm_facts.specs.declared.entry.Entry.{Entry}
 use Rattle.vm_facts.specs.declared.entry.Entry.TheVariants as entries
-use Rattle.flat_state.specs.PageNames.{number_of, same_page, is_among}
+use Rattle.flat_state.specs.PageNames.{number_of, is_among}
 use Rattle.flat_state.specs.Journal.{append}
 use Rattle.flat_state.proofs.PageNames.{same_page_self}
 use Rattle.page_model.specs.Pages.{Filling, Slot, no_slot, is_valid}
-use Rattle.page_model.specs.Placement.{Placement, Due, Start, CopyOf, due_page, due_at, state_of, filling_of, slot_of, slots_of, IsThere}
+use Rattle.page_model.specs.Placement.{Placement, Due, CopyOf, due_at, state_of, filling_of, slots_of, IsThere}
 use Rattle.page_model.specs.Place.{due_after, filled}
 use Rattle.page_model.specs.Serve.{Serves, serve_step, Forces, force}
 use Rattle.page_model.specs.Conditions.{IsShared, Spares}
-use Rattle.page_model.specs.Dues.{HasSource, IsDue, DueStand, NotDue}
+use Rattle.page_model.specs.Dues.{IsDue, DueStand, NotDue}
 use Rattle.page_model.specs.PageBytes.{IsWritable}
 use Rattle.page_model.specs.Ownership.{OwnsFrames}
 use Rattle.page_model.specs.Rank.{HasRoom}

@@ -1,5 +1,5 @@
 -- The processes that are shown are as many as there are records.
-use Rattle.std.proofs.Common.{◌≡◌, ◌≢◌, inl, inr, ℕ, zero, suc, ◌+◌, ◌-◌, ◌<◌, ◌≤◌, List, [], ◌∷◌, length, Option, Some, None, refl, sym, ap, ◌∙◌, subst, arith}
+use Rattle.std.proofs.Common.{◌≡◌, ◌≢◌, inl, inr, ℕ, zero, suc, ◌+◌, ◌-◌, ◌<◌, ◌≤◌, List, [], ◌∷◌, length, Option, Some, None, refl, sym, ap, ◌∙◌, arith}
 use Rattle.std.specs.Prelude.{filter_map}
 use Rattle.std.specs.List.{range_with_len}
 use Rattle.std.proofs.lemmas.Bool.{cases_eq}
@@ -7,7 +7,7 @@ use Rattle.proc_table.specs.declared.process.Proc.{Proc as Record}
 use Rattle.proc_table.specs.Records.{find, ArePidsApart}
 use Rattle.kernel_model.specs.Kernel.{Proc}
 use Rattle.machine_state.specs.Machine.{proc_shown, proc_of, processes_of}
-use Rattle.machine_state.proofs.Records.{keeps_none, keeps_some, found_pid, find_hit, find_miss}
+use Rattle.machine_state.proofs.Records.{keeps_none, keeps_some, find_hit, find_miss}
 
 -- over numbers at which two functions are one, they find as many
 same_over : {A : Type 0} (g h : ℕ → Option A) (a k : ℕ) → ((m : ℕ) → a ≤ m → g m ≡ h m) → filter_map g (range_with_len a k) ≡ filter_map h (range_with_len a k)

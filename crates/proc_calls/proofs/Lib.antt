@@ -5,6 +5,7 @@ pub mod Sizes
 pub mod Breaks
 pub mod Starts
 pub mod Spaces
+pub mod StackPages
 pub mod Begins
 pub mod Execs
 pub mod Fills

@@ -1,11 +1,12 @@
 -- What a call that makes a process asks of the machine, and what is so behind its entry.
-use Rattle.std.proofs.Common.{◌≡◌, ◌≢◌, ℕ, ◌<◌, nat_lt, Bool, true, false, List, [], ◌∷◌, ◌++◌, length, drop, map, Option, Some, None, refl, sym, ap, ◌∙◌, subst}
-use Rattle.std.specs.Prelude.{Result, Ok, Err, IfOk, OnOk, is_ok}
+use Rattle.std.proofs.Common.{◌≡◌, ◌≢◌, ◌⊎◌, ◌↔◌, inl, inr, ℕ, ◌<◌, ◌≤◌, nat_lt, Bool, true, false, List, [], ◌∷◌, ◌++◌, length, drop, map, Option, Some, None, refl, sym, ap, ◌∙◌, subst}
+use Rattle.std.specs.Prelude.{Result, Ok, Err, IfOk, OnOk, OnErr, is_ok}
 use Rattle.std.proofs.lemmas.Bool.{ltb-true}
 use Rattle.std.proofs.lemmas.List.{append-nil, length-map}
 use Rattle.vm_facts.specs.declared.regs.Regs.{Regs}
 use Rattle.vm_facts.specs.declared.entry.Entry.{Entry}
 use Rattle.vm_facts.specs.declared.stop.Stop.{Stop}
+use Rattle.vm_facts.specs.declared.stop.Stop.TheVariants as stops
 use Rattle.aout_image.specs.declared.Image.{Image}
 use Rattle.swap_book.specs.declared.Owner.{Owner}
 use Rattle.swap_book.specs.declared.Owner.TheVariants as owners
@@ -35,7 +36,7 @@ use Rattle.machine_state.specs.Calls.{life_in}
 use Rattle.machine_state.specs.Machine.{Standing, processes_of}
 use Rattle.machine_state.specs.Alike.{AreRecords}
 use Rattle.machine_state.specs.Applying.{CanApply, MayAct, facts_named}
-use Rattle.machine_state.specs.Conditions.{KeepsFlat}
+use Rattle.machine_state.specs.Conditions.{HasStopped, KeepsFlat}
 use Rattle.machine_state.specs.UserMemory.{CanLend}
 use Rattle.machine_state.proofs.Lives.{pid_of}
 use Rattle.proc_table.specs.declared.process.Proc.{Proc as Record}
@@ -43,7 +44,7 @@ use Rattle.vfork_pass.specs.Passed.{IsHolder, HasLent}
 use Rattle.proc_calls.specs.Callers.{proc_in, IsCaller}
 use Rattle.proc_calls.specs.declared.replying.Called.{Called}
 use Rattle.proc_calls.specs.Answered.{Answered, Replied}
-use Rattle.proc_calls.specs.Making.{is_below_limit, finds_pieces, with_pieces, without_pieces, HasChild, MakesChildBy, MakesChild, HasLentSpace, Vforked}
+use Rattle.proc_calls.specs.Making.{is_below_limit, finds_pieces, with_pieces, without_pieces, HasChild, MakesChildBy, MakesChild, HasLentSpace, Vforked, StopsMakingBy}
 use Rattle.proc_calls.proofs.Callers.{caller_lives}
 use Rattle.proc_calls.proofs.Crowded.{crowd}
 
@@ -227,6 +228,23 @@ refused_ok (Ok called) old between new pid child regs is keeps named few none h 
     subst (lends_as old new pid regs) named
     (no_place old new pid Vfork regs (Lend child) (HasLentSpace old new pid regs child) between is keeps few none h.1)
 refused_ok (Err stop) old between new pid child regs is keeps named few none h = tt
+
+same_stop : (s t : Stop) → (let r : Result Called Stop = Err s in r) ≡ Err t → s ≡ t
+same_stop s t e = cc
+
+-- the machine stops behind the entry that says so
+pub stops_refused : (r : Result Called Stop) (old between new : Standing) (pid child : ℕ) (change : ℕ → Change) → between ≡ without_pieces old pid → child ≡ old.kernel.next_pid
+    → is_below_limit old.kernel ≡ true → finds_pieces old pid (change child) ≡ false → OnErr r (HasStopped between new)
+    → OnErr r ((r ≡ Err stops.JournalFull) ⊎ (r ≡ Err stops.NoMemory)) → ((r ≡ Err stops.JournalFull) ↔ (between.params.journal ≤ length between.kernel.journal))
+    → StopsMakingBy old new pid (change old.kernel.next_pid) r
+stops_refused (Ok called) old between new pid child change is named few none stopped cause full = tt
+stops_refused (Err stop) old between new pid child change is named few none stopped cause full = record {
+  between = between;
+  reached = inr (record { below = few; none = subst (λ (n : ℕ). finds_pieces old pid (change n) ≡ false) named none; refused = is });
+  stopped = stopped;
+  cause = elim cause [ inl e ↦ inl (same_stop stop stops.JournalFull e) | inr e ↦ inr (same_stop stop stops.NoMemory e) ];
+  full = λ e. full.0 (ap (λ (s : Stop). let r : Result Called Stop = Err s in r) e);
+}
 
 pub lent_ok : (old between new : Standing) (pid child : ℕ) (regs : Regs) → child ≡ old.kernel.next_pid → is_below_limit old.kernel ≡ true
     → HasChild old between pid Vfork regs child (Lend child) → new ≡ record between { kernel = pass_step between.kernel pid child }

@@ -1,6 +1,6 @@
 -- The pieces of the next space, in which an image starts.
 use Rattle.std.proofs.Common.{◌≡◌, ◌≢◌, inl, inr, ℕ, zero, suc, ◌+◌, ◌-◌, ◌*◌, ◌<◌, ◌≤◌, ◌==◌, Bool, true, false, List, [], ◌∷◌, ◌++◌, length, refl, sym, ap, ◌∙◌, subst, arith}
-use Rattle.std.specs.Prelude.{slice_index_or, Result, Ok, Err, IfOk, is_ok, is_some, nat_lt, cond, map, drop, slice_get, Option, Some, None}
+use Rattle.std.specs.Prelude.{slice_index_or, Result, Ok, Err, IfOk, IfErr, is_ok, is_some, nat_lt, cond, map, drop, slice_get, Option, Some, None}
 use Rattle.std.proofs.lemmas.Bool.{cases_eq, eq-eqb, ne_eqb, lt-ltb, ltb-true, ltb-false}
 use Rattle.std.proofs.lemmas.List.{append-nil, length-map}
 use Rattle.std.proofs.lemmas.Option.{same_Some}
@@ -38,7 +38,8 @@ use Rattle.machine_state.specs.Sourced.{ImageNamed, named_at}
 use Rattle.machine_state.specs.Applying.{facts_named}
 use Rattle.machine_state.specs.Sharing.{IsSharer}
 use Rattle.machine_state.specs.Wants.{CanAsk, wanted_of}
-use Rattle.proc_calls.specs.Starting.{TextsStand, image_wanted, image_found, wants_found, FindsBy, Finds, is_shared, three_wants, AreNextWants}
+use Rattle.machine_state.specs.Texts.{TextsStand}
+use Rattle.proc_calls.specs.Starting.{image_wanted, image_found, wants_found, FindsBy, Finds, StopsFinding, is_shared, three_wants, AreNextWants}
 use Rattle.proc_calls.proofs.Starts.{IsReady, is_ready}
 
 -- Who shares an image's text.
@@ -266,3 +267,13 @@ finds (Ok fits) m n pid image ws holds before after e f = record {
   answer = f.answer ∙ ap (λ (l : List Wanted). is_ok (place_all m.params.swap_blocks m.kernel.holdings l)) e;
   finds = by_wants fits m n pid image ws holds before after e f.finds;
 }
+
+-- where the machine stops as they are looked for, it stops as those of the image are
+pub finding_stops : (r : Result Bool Stop) (m n : Standing) (pid image : ℕ) (ws : List Want) (holds : Option (List NamedFile)) (before after : Option (List ℕ))
+    → wanted_of m.kernel.holdings ws ≡ image_wanted m image → IfErr r (StopsFinding (wants_found ws) m n pid holds before after)
+    → IfErr r (StopsFinding (image_found image) m n pid holds before after)
+finding_stops (Ok fits) m n pid image ws holds before after e h = tt
+finding_stops (Err stop) m n pid image ws holds before after e h = elim h [
+  | inl y ↦ inl y
+  | inr y ↦ inr (sym (ap (λ (l : List Wanted). is_ok (place_all m.params.swap_blocks m.kernel.holdings l)) e) ∙ y.0, y.1)
+]

@@ -9,7 +9,7 @@ use Rattle.swap_book.specs.Holdings.{Holdings}
 use Rattle.page_model.specs.Placement.{Placement, slots_of, sharers, sharers_in}
 use Rattle.page_model.specs.Moves.{done}
 use Rattle.page_laws.proofs.Lists.Pages.{put_sharers}
-use Rattle.page_laws.proofs.Moves.Puts.{KeptByPuts, done_kept}
+use Rattle.page_laws.proofs.Moves.Puts.{KeptByPuts, rest_by_puts, done_kept}
 use Rattle.kernel_laws.proofs.Machine.Shapes.{done_shaped, sizes_kept}
 use Rattle.kernel_model.specs.Kernel.{Kernel, done_step}
 use Rattle.kernel_model.specs.Unit.{has_lender}
@@ -32,9 +32,10 @@ pub record StaysFor (k l : Kernel) : Type 0 where
   pub number : l.next_sid ≡ k.next_sid
   pub sharing : (image : ℕ) → sharers l.place image ≡ sharers k.place image
   pub texts : (image : ℕ) → length (slots_of l.place (Text image 0)) ≡ length (slots_of k.place (Text image 0))
+  pub frames : length l.place.holds ≡ length k.place.holds
 
 stays_for : (k : Kernel) → StaysFor k k
-stays_for k = record { holdings = refl; stopped = refl; number = refl; sharing = λ i. refl; texts = λ i. refl }
+stays_for k = record { holdings = refl; stopped = refl; number = refl; sharing = λ i. refl; texts = λ i. refl; frames = refl }
 
 abbrev ShareAlike : Placement → Placement → Type 0
 ShareAlike p q = (image : ℕ) → sharers q image ≡ sharers p image
@@ -53,6 +54,7 @@ done_stays k read = record {
   number = refl;
   sharing = done_kept sharing_by_puts k.place;
   texts = λ i. sizes_kept k.place (done k.place) (done_shaped k.place) (Text i 0);
+  frames = let rest = done_kept rest_by_puts k.place in rest.count;
 }
 
 both_stay : (k l m : Kernel) → StaysFor k l → StaysFor l m → StaysFor k m
@@ -62,6 +64,7 @@ both_stay k l m a b = record {
   number = b.number ∙ a.number;
   sharing = λ i. b.sharing i ∙ a.sharing i;
   texts = λ i. b.texts i ∙ a.texts i;
+  frames = b.frames ∙ a.frames;
 }
 
 pub ends_stay : (from : Sources) (sid n : ℕ) (old new : Kernel) (before after : Option (List ℕ)) → EndsWhile from sid n old before new after → StaysFor old new
@@ -79,7 +82,7 @@ pub record IsReady (old new : Standing) : Type 0 where
 
 ready_by : (lent : Bool) (m n : Standing) (pid : ℕ) (holds : Option (List NamedFile)) (before after : Option (List ℕ)) → HasLeftBy lent m n pid holds before after → IsReady m n
 ready_by true m n pid holds before after h = subst (IsReady m) (sym h.step) (record {
-  kernel = record { holdings = refl; stopped = refl; number = refl; sharing = λ i. refl; texts = λ i. refl };
+  kernel = record { holdings = refl; stopped = refl; number = refl; sharing = λ i. refl; texts = λ i. refl; frames = refl };
   params = refl;
   images = refl;
   before = refl;

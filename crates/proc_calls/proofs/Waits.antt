@@ -32,7 +32,7 @@ find_no c x xs e = rw e refl
 find_yes : {A : Type 0} (c : A → Bool) (x : A) (xs : List A) → c x ≡ true → find c (x ∷ xs) ≡ Some x
 find_yes c x xs e = rw e refl
 
-none_over : {A : Type 0} (c : A → Bool) (g : ℕ → Option A) (ns : List ℕ) → ((n : ℕ) (x : A) → g n ≡ Some x → c x ≡ false) → find c (filter_map g ns) ≡ None
+pub none_over : {A : Type 0} (c : A → Bool) (g : ℕ → Option A) (ns : List ℕ) → ((n : ℕ) (x : A) → g n ≡ Some x → c x ≡ false) → find c (filter_map g ns) ≡ None
 none_over c g [] h = refl
 none_over {A = A} c g (n ∷ ns) h = go (g n) refl (none_over c g ns h)
   where
@@ -40,7 +40,7 @@ none_over {A = A} c g (n ∷ ns) h = go (g n) refl (none_over c g ns h)
     go None e more = ap (find c) (keeps_none g n ns e) ∙ more
     go (Some x) e more = ap (find c) (keeps_some g n ns x e) ∙ find_no c x (filter_map g ns) (h n x e) ∙ more
 
-first_over : {A : Type 0} (c : A → Bool) (g : ℕ → Option A) (len a n : ℕ) (x : A) → a ≤ n → n < a + len → g n ≡ Some x → c x ≡ true
+pub first_over : {A : Type 0} (c : A → Bool) (g : ℕ → Option A) (len a n : ℕ) (x : A) → a ≤ n → n < a + len → g n ≡ Some x → c x ≡ true
     → ((m : ℕ) (y : A) → m < n → g m ≡ Some y → c y ≡ false) → find c (filter_map g (range_with_len a len)) ≡ Some x
 first_over c g zero a n x l u e t h = absurd (omega arith)
 first_over {A = A} c g (suc len) a n x l u e t h = elim (cases_eq a n) [

@@ -46,4 +46,6 @@ pub record StopsBehindFork (old new : Standing) (pid : ℕ) (regs : Regs) (holds
 
 -- or it stops where the call would answer, before any device is called
 abbrev pub StopsForking : Standing → Standing → ℕ → Regs → Option (List NamedFile) → Option (List ℕ) → Option (List ℕ) → Stop → Type 0
-StopsForking old new pid regs holds before after stop = (StopsMaking old new pid stop × (after ≡ before)) ⊎ StopsBehindFork old new pid regs holds before after stop
+StopsForking old new pid regs holds before after stop =
+    (StopsMaking old new pid (changes.Fork old.kernel.next_pid) stop × (after ≡ before))
+    ⊎ StopsBehindFork old new pid regs holds before after stop

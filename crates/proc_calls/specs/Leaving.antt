@@ -15,7 +15,7 @@ use Rattle.machine_state.specs.Machine.{Standing}
 use Rattle.machine_state.specs.Settled.{SettledBy, IsSameBeside, StopsSettling}
 use Rattle.machine_state.specs.Done.{sources, KeepsThrough}
 use Rattle.proc_calls.specs.Callers.{space_held, regs_of}
-use Rattle.proc_calls.specs.Answered.{Entered, Comes, StopsBefore}
+use Rattle.proc_calls.specs.Answered.{Entered, Comes, StopsBefore, StopsReading}
 use Rattle.proc_calls.specs.declared.replying.Called.{Called}
 use Rattle.proc_calls.specs.declared.replying.Called.TheVariants as calls
 
@@ -73,7 +73,7 @@ pub record StopsOnceLeft (old new : Standing) (pid : ℕ) (holds : Option (List 
 abbrev pub StopsAlive : Standing → Standing → ℕ → Option (List NamedFile) → Option (List ℕ) → Option (List ℕ) → Stop → Type 0
 StopsAlive old new pid holds before after stop = StopsLeaving old new pid holds before after stop ⊎ StopsOnceLeft old new pid holds before after stop
 
--- an exit stops so, or, where its argument is refused, before the entry that says so
+-- an exit stops so, or where its argument is refused
 abbrev pub StopsExit : Standing → Standing → ℕ → Result Reply Refused → Option (List NamedFile) → Option (List ℕ) → Option (List ℕ) → Stop → Type 0
 StopsExit old new pid (Ok reply) holds before after stop = StopsAlive old new pid holds before after stop
-StopsExit old new pid (Err refused) holds before after stop = StopsBefore old new stop × (after ≡ before)
+StopsExit old new pid (Err refused) holds before after stop = StopsReading old new refused stop × (after ≡ before)

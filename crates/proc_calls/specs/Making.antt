@@ -67,15 +67,20 @@ pub record HasLentSpace (old new : Standing) (pid : ℕ) (regs : Regs) (child : 
 abbrev pub Vforked : Standing → Standing → ℕ → Regs → Type 0
 Vforked old new pid regs = MakesChild old new pid Vfork regs (Lend old.kernel.next_pid) (HasLentSpace old new pid regs old.kernel.next_pid)
 
--- The machine stops as it was, or behind the entry that says that pieces find no place. The journal was full only where it
--- was at its bound there.
-pub record StopsMaking (old new : Standing) (pid : ℕ) (stop : Stop) : Type 0 where
+-- behind the entry that says that the pieces of the change find no place, as is so
+pub record FindsNone (old between : Standing) (pid : ℕ) (change : Change) : Type 0 where
+  pub below : is_below_limit old.kernel ≡ true
+  pub none : finds_pieces old pid change ≡ false
+  pub refused : between ≡ without_pieces old pid
+
+-- The machine stops as it was, or behind that entry. The journal was full only where it was at its bound there.
+pub record StopsMaking (old new : Standing) (pid : ℕ) (change : Change) (stop : Stop) : Type 0 where
   pub between : Standing
-  pub reached : (between ≡ old) ⊎ (between ≡ without_pieces old pid)
+  pub reached : (between ≡ old) ⊎ FindsNone old between pid change
   pub stopped : HasStopped between new
   pub cause : (stop ≡ stops.JournalFull) ⊎ (stop ≡ stops.NoMemory)
   pub full : stop ≡ stops.JournalFull → between.params.journal ≤ length between.kernel.journal
 
-abbrev pub StopsMakingBy : Standing → Standing → ℕ → Result Called Stop → Type 0
-StopsMakingBy old new pid (Ok called) = Unit {0}
-StopsMakingBy old new pid (Err stop) = StopsMaking old new pid stop
+abbrev pub StopsMakingBy : Standing → Standing → ℕ → Change → Result Called Stop → Type 0
+StopsMakingBy old new pid change (Ok called) = Unit {0}
+StopsMakingBy old new pid change (Err stop) = StopsMaking old new pid change stop

@@ -22,7 +22,7 @@ use Rattle.machine_state.specs.Applying.{facts_named}
 use Rattle.machine_state.specs.Settled.{StopsSettling}
 use Rattle.machine_state.specs.UserMemory.{text_len}
 use Rattle.proc_calls.specs.Callers.{space_held}
-use Rattle.proc_calls.specs.Answered.{Replied, Comes, StopsBefore}
+use Rattle.proc_calls.specs.Answered.{Replied, Comes, StopsBefore, StopsReading}
 use Rattle.proc_calls.specs.Leaving.{HasSettled}
 use Rattle.proc_calls.specs.declared.replying.Called.{Called}
 
@@ -143,4 +143,4 @@ StopsMoving old new pid pages holds before after stop =
 -- by what the argument reads as
 abbrev pub StopsBreak : Standing → Standing → ℕ → Result ℕ Refused → Option (List NamedFile) → Option (List ℕ) → Option (List ℕ) → Stop → Type 0
 StopsBreak old new pid (Ok address) holds before after stop = StopsMoving old new pid (pages_to old.kernel pid address) holds before after stop
-StopsBreak old new pid (Err refused) holds before after stop = StopsBefore old new stop × (after ≡ before)
+StopsBreak old new pid (Err refused) holds before after stop = StopsReading old new refused stop × (after ≡ before)

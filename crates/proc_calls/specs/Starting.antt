@@ -2,7 +2,7 @@
 use Rattle.std.specs.Prelude.{◌≡◌, ◌⊎◌, ℕ, ◌*◌, ◌<◌, ◌≤◌, nat_lt, Bool, true, false, List, [], ◌∷◌, length, Option, Some, Result, Ok, Err, is_ok}
 use Rattle.io_edge.specs.FileHolding.{NamedFile}
 use Rattle.vm_facts.specs.declared.regs.Regs.{Regs}
-use Rattle.vm_facts.specs.declared.page.Page.TheVariants.{Text}
+use Rattle.vm_facts.specs.declared.page.Page.TheVariants.{Stack}
 use Rattle.vm_facts.specs.declared.stop.Stop.{Stop}
 use Rattle.user_vax.specs.Program.{run}
 use Rattle.user_vax.specs.declared.refused.Refused.{Refused}
@@ -17,7 +17,7 @@ use Rattle.flat_model.specs.Calls.{execve_reply}
 use Rattle.flat_model.specs.declared.calls.Reply.{Reply}
 use Rattle.flat_model.specs.declared.calls.Reply.TheVariants.{Does}
 use Rattle.flat_model.specs.declared.calls.SystemCall.TheVariants.{Execve}
-use Rattle.page_model.specs.Placement.{Placement, slots_of, sharers}
+use Rattle.page_model.specs.Placement.{Placement, sharers}
 use Rattle.page_model.specs.Place.{facts_numbered}
 use Rattle.kernel_model.specs.Asks.{image_asked}
 use Rattle.machine_state.specs.Machine.{Standing}
@@ -30,15 +30,12 @@ use Rattle.machine_state.specs.declared.pieces.Want.{Want}
 use Rattle.proc_calls.specs.Callers.{space_held}
 use Rattle.proc_calls.specs.declared.replying.Called.{Called}
 use Rattle.proc_calls.specs.declared.replying.Called.TheVariants as calls
-use Rattle.proc_calls.specs.Answered.{Answered, Comes, StopsBefore}
+use Rattle.proc_calls.specs.Answered.{Answered, Comes, StopsBefore, StopsReading}
 use Rattle.proc_calls.specs.Leaving.{HasLeft, StopsAlive}
+use Rattle.proc_calls.specs.Filling.{FillsStart, StopsStart}
 use Rattle.proc_calls.specs.Making.{with_pieces, without_pieces, IsRefused}
 
 -- The pieces.
-
--- the text of each image has as many pages as its header tells
-abbrev pub TextsStand : Standing → Type 0
-TextsStand m = (image : ℕ) (n : ImageNamed) → named_at m.images image ≡ Some n → length (slots_of m.kernel.place (Text image 0)) ≡ text_pages_of n.facts
 
 -- a number of one of the images, which count from 1
 abbrev pub IsImageOf : Standing → ℕ → Type 0
@@ -105,9 +102,16 @@ pub record HasStarted (old new : Standing) (pid : ℕ) (after : Regs) (image : �
   pub finds : LeavesFor (image_found image) old asked pid holds before behind
   pub answer : Answered asked new pid Execve after (Exec image top)
 
+-- and then its stack page 0 is filled
+pub record HasStartedFilled (old new : Standing) (pid : ℕ) (after : Regs) (image : ℕ) (top : List ℕ) (holds : Option (List NamedFile)) (before behind : Option (List ℕ)) : Type 0 where
+  pub between : Standing
+  pub told : Option (List ℕ)
+  pub started : HasStarted old between pid after image top holds before told
+  pub fills : FillsStart (Stack old.kernel.next_sid 0) between new holds told behind
+
 -- by whether the pieces of the image find their places: else that is an entry, and then the call fails
 abbrev pub StartsBy : Bool → Standing → Standing → ℕ → Regs → Regs → ℕ → List ℕ → Option (List NamedFile) → Option (List ℕ) → Option (List ℕ) → Type 0
-StartsBy true old new pid regs after image top holds before behind = HasStarted old new pid after image top holds before behind
+StartsBy true old new pid regs after image top holds before behind = HasStartedFilled old new pid after image top holds before behind
 StartsBy false old new pid regs after image top holds before behind = IsRefused old new pid Execve regs × (behind ≡ before)
 
 abbrev pub Starts : Standing → Standing → ℕ → Regs → Regs → ℕ → List ℕ → Option (List NamedFile) → Option (List ℕ) → Option (List ℕ) → Type 0
@@ -126,9 +130,10 @@ ExecComes old new pid regs (Err refused) holds before behind called = Comes old 
 
 -- Where the machine stops.
 
--- as it was, or as the process leaves its space, or behind that
-abbrev pub StopsFinding : Standing → Standing → ℕ → Option (List NamedFile) → Option (List ℕ) → Option (List ℕ) → Stop → Type 0
-StopsFinding old new pid holds before after stop = (StopsBefore old new stop × (after ≡ before)) ⊎ StopsAlive old new pid holds before after stop
+-- as it was, or where the pieces find their places: as the process leaves its space, or behind that
+abbrev pub StopsFinding : (Standing → Result Holdings ℕ) → Standing → Standing → ℕ → Option (List NamedFile) → Option (List ℕ) → Option (List ℕ) → Stop → Type 0
+StopsFinding pieces old new pid holds before after stop =
+    (StopsBefore old new stop × (after ≡ before)) ⊎ ((is_ok (pieces old) ≡ true) × StopsAlive old new pid holds before after stop)
 
 -- behind the entry that says that the pieces of the image find no place
 pub record StopsWithout (old new : Standing) (pid image : ℕ) (before after : Option (List ℕ)) (stop : Stop) : Type 0 where
@@ -137,10 +142,23 @@ pub record StopsWithout (old new : Standing) (pid image : ℕ) (before after : O
   pub image_same : after ≡ before
 
 abbrev pub StopsStarting : Standing → Standing → ℕ → ℕ → Option (List NamedFile) → Option (List ℕ) → Option (List ℕ) → Stop → Type 0
-StopsStarting old new pid image holds before after stop = StopsFinding old new pid holds before after stop ⊎ StopsWithout old new pid image before after stop
+StopsStarting old new pid image holds before after stop =
+    StopsFinding (image_found image) old new pid holds before after stop ⊎ StopsWithout old new pid image before after stop
+
+-- once the call has answered, as the new stack page is filled
+pub record StopsBehindStart (old new : Standing) (pid : ℕ) (after : Regs) (image : ℕ) (top : List ℕ) (holds : Option (List NamedFile)) (before behind : Option (List ℕ)) (stop : Stop) : Type 0 where
+  pub between : Standing
+  pub told : Option (List ℕ)
+  pub started : HasStarted old between pid after image top holds before told
+  pub stops : StopsStart (Stack old.kernel.next_sid 0) between new holds told behind stop
+
+-- before the call answers, or then
+abbrev pub StopsImage : Standing → Standing → ℕ → Regs → ℕ → List ℕ → Option (List NamedFile) → Option (List ℕ) → Option (List ℕ) → Stop → Type 0
+StopsImage old new pid after image top holds before behind stop =
+    StopsStarting old new pid image holds before behind stop ⊎ StopsBehindStart old new pid after image top holds before behind stop
 
 -- by what the reads come to
 abbrev pub StopsExec : Standing → Standing → ℕ → Result Reply Refused → Option (List NamedFile) → Option (List ℕ) → Option (List ℕ) → Stop → Type 0
-StopsExec old new pid (Ok (Does after (Exec image top))) holds before behind stop = StopsStarting old new pid image holds before behind stop
+StopsExec old new pid (Ok (Does after (Exec image top))) holds before behind stop = StopsImage old new pid after image top holds before behind stop
 StopsExec old new pid (Ok reply) holds before behind stop = StopsBefore old new stop × (behind ≡ before)
-StopsExec old new pid (Err refused) holds before behind stop = StopsBefore old new stop × (behind ≡ before)
+StopsExec old new pid (Err refused) holds before behind stop = StopsReading old new refused stop × (behind ≡ before)

@@ -8,7 +8,7 @@ use Rattle.flat_model.specs.declared.calls.Reply.TheVariants.{Fails, Does, Write
 use Rattle.flat_model.specs.Calls.{write_limit}
 use Rattle.machine_state.specs.Machine.{Standing}
 use Rattle.machine_state.specs.Conditions.{HasStopped}
-use Rattle.proc_calls.specs.Answered.{GoneOut}
+use Rattle.proc_calls.specs.Answered.{GoneOut, StopsReading}
 use Rattle.proc_calls.specs.declared.replying.Called.{Called}
 
 -- an error, or no more bytes than one write may have
@@ -40,3 +40,8 @@ bytes_of _ = []
 abbrev pub StopsBy : Standing → Standing → ℕ → List ℕ → Result Called Stop → Type 0
 StopsBy old new pid bytes (Ok called) = Unit {0}
 StopsBy old new pid bytes (Err stop) = StopsWriting old new pid bytes stop
+
+-- by what it reads
+abbrev pub StopsOut : Standing → Standing → ℕ → Result Reply Refused → Stop → Type 0
+StopsOut old new pid (Ok reply) stop = StopsWriting old new pid (bytes_of (Ok reply)) stop
+StopsOut old new pid (Err refused) stop = StopsReading old new refused stop

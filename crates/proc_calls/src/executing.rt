@@ -3,12 +3,13 @@ ghost use Rattle.std.specs.Prelude.{◌≡◌, ℕ, ◌+◌, ◌^◌, ◌<◌, �
 ghost use Rattle.user_vax.specs.Program.{run};
 ghost use Rattle.flat_state.specs.Flat.{NamedImage};
 ghost use Rattle.flat_model.specs.Calls.{three_arguments, string_limit, string_from, execve_of, execve_reply};
+ghost use Rattle.page_model.specs.Rank.{HasRoom};
 ghost use Rattle.machine_state.specs.Done.{CountsPages, CountsReads, CountsWrites};
 ghost use Rattle.machine_state.specs.Files.{AreFiles};
 ghost use Rattle.machine_state.specs.UserMemory.{CanLend, kernel_answers};
 ghost use Rattle.proc_calls.specs.Callers.{space_held, IsCaller};
 ghost use Rattle.proc_calls.specs.Reading.{AreNamed, StartsAs, execve_from};
-ghost use Rattle.proc_calls.specs.Starting.{TextsStand, IsImageOf, execve_read, ExecComes, StopsExec};
+ghost use Rattle.proc_calls.specs.Starting.{IsImageOf, execve_read, ExecComes, StopsExec};
 
 use crate::reading::{image_at, start_of};
 use crate::replying::{Called, fail, refuse};
@@ -114,7 +115,10 @@ fn read_call(
     }
 }
 
-/// The process starts another image, by the path and the arguments that its memory has. Its new stack page 0 is due then.
+/// The process starts another image, by the path and the arguments that its memory has. Its new stack page 0 is filled behind
+/// the call's entry. ENOENT comes where no image has the path, and where that is too long; E2BIG where an argument is too long, or
+/// there are too many; EFAULT where a byte that is read is refused, whichever comes first; and ENOMEM where the image's pieces of
+/// swap find no place.
 pub fn execve<F: Files, D: SwapDev>(
     alloc: Global,
     m: &mut Machine,
@@ -126,7 +130,7 @@ pub fn execve<F: Files, D: SwapDev>(
     requires calls { IsCaller m.old pid }
     requires area { m.old.params.swap_blocks ≤ D.blocks swap.old }
     requires files { AreFiles m.old.images (F.holds files.old) }
-    requires texts { TextsStand m.old }
+    requires room { HasRoom m.old.kernel.place [] }
     ensures comes { (known : List NamedImage) → AreNamed known m.old.images
         → IfOk result (ExecComes m.old m.new pid regs.now (execve_read known m.old pid regs.now) (F.holds files.old) (D.image swap.old) (D.image swap.new)) }
     ensures stops { (known : List NamedImage) → AreNamed known m.old.images

@@ -3,6 +3,7 @@ ghost use Rattle.std.specs.Prelude.{◌≡◌, ◌≤◌, ◌∷◌, [], false, 
 ghost use Rattle.vm_facts.specs.declared.page.Page.{Page};
 ghost use Rattle.swap_book.specs.declared.Owner.TheVariants.{U as UOf};
 ghost use Rattle.page_model.specs.Rank.{HasRoom};
+ghost use Rattle.flat_state.specs.declared.change.Change.TheVariants.{Fork as ForkOf, Lend as LendOf};
 ghost use Rattle.kernel_model.specs.Asks.{HasSpace};
 ghost use Rattle.machine_state.specs.Done.{CountsPages, CountsReads, CountsWrites};
 ghost use Rattle.machine_state.specs.Files.{AreFiles};
@@ -51,7 +52,7 @@ pub fn vfork<F: Files, D: SwapDev>(
     requires calls { IsCaller m.old pid }
     ensures ready { IfOk result (λ called. called ≡ Called.Ready) }
     ensures vforked { OnOk result (Vforked m.old m.new pid regs.now) }
-    ensures stop { StopsMakingBy m.old m.new pid result }
+    ensures stop { StopsMakingBy m.old m.new pid (LendOf m.old.kernel.next_pid) result }
     ensures files { _files.new ≡ _files.old }
     ensures swap { _swap.new ≡ _swap.old }
 {
@@ -97,7 +98,7 @@ fn enter_fork(m: &mut Machine, pid: u32, parent: u32, regs: &Regs) -> Result<Cal
     requires held { parent ≡ space_held m.old.kernel pid }
     ensures ready { IfOk result (λ called. called ≡ Called.Ready) }
     ensures answer { OnOk result (ForkAnswered m.old m.new pid regs.now) }
-    ensures stop { StopsMakingBy m.old m.new pid result }
+    ensures stop { StopsMakingBy m.old m.new pid (ForkOf m.old.kernel.next_pid) result }
 {
     if !is_below_limit(m) {
         return fail(m, pid, SystemCall::Fork, regs, EAGAIN);

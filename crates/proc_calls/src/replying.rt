@@ -1,5 +1,5 @@
 // Replies of calls.
-ghost use Rattle.std.specs.Prelude.{◌≡◌, ◌⊎◌, ◌≤◌, ◌↔◌, [], true, false, length, Some, IsSome, IfOk, OnOk, OnErr, Ok, Err};
+ghost use Rattle.std.specs.Prelude.{◌≡◌, ◌⊎◌, ◌≤◌, ◌↔◌, [], true, false, length, Some, IsSome, IfOk, OnOk, IfErr, OnErr, Ok, Err};
 ghost use Rattle.flat_state.specs.declared.change.Change.TheVariants.{Keep};
 ghost use Rattle.flat_model.specs.Calls.{replied, replied_both};
 ghost use Rattle.flat_model.specs.declared.calls.Reply.TheVariants.{Fails};
@@ -8,7 +8,7 @@ ghost use Rattle.machine_state.specs.Machine.{proc_shown};
 ghost use Rattle.machine_state.specs.Applying.{CanApply};
 ghost use Rattle.machine_state.specs.Conditions.{HasStopped};
 ghost use Rattle.machine_state.specs.UserMemory.{CanLend};
-ghost use Rattle.proc_calls.specs.Answered.{Answered, Replied, Comes};
+ghost use Rattle.proc_calls.specs.Answered.{Answered, Replied, Comes, StopsReading};
 ghost use Rattle.proc_calls.specs.Callers.{proc_in};
 
 use flat_model::{EFAULT, SystemCall};
@@ -130,9 +130,7 @@ pub fn refuse(
     requires clear { m.old.kernel.place.due ≡ [] }
     requires lends { CanLend m.old.kernel pid }
     ensures comes { IfOk result (Comes m.old m.new pid call regs.now (Err refused)) }
-    ensures stop { OnErr result (HasStopped m.old m.new) }
-    ensures cause { OnErr result ((result ≡ Err Stop.JournalFull) ⊎ (result ≡ Err Stop.NoMemory)) }
-    ensures full { result ≡ Err Stop.JournalFull → m.old.params.journal ≤ length m.old.kernel.journal }
+    ensures stops { IfErr result (StopsReading m.old m.new refused) }
 {
     match refused {
         Refused::Miss { address, .. } => Ok(Called::Miss { address }),

@@ -1,20 +1,22 @@
 //! Starts of images.
-ghost use Rattle.std.specs.Prelude.{◌≡◌, ◌<◌, ◌≤◌, true, false, length, IfOk, OnOk, IfErr, Ok};
+ghost use Rattle.std.specs.Prelude.{◌≡◌, ◌<◌, ◌≤◌, [], true, false, length, IfOk, OnOk, IfErr, Ok};
+ghost use Rattle.page_model.specs.Rank.{HasRoom};
 ghost use Rattle.kernel_model.specs.Unit.{has_lender, lender_among};
 ghost use Rattle.machine_state.specs.Done.{CountsPages, CountsReads, CountsWrites};
 ghost use Rattle.machine_state.specs.Files.{AreFiles};
 ghost use Rattle.machine_state.specs.Wants.{CanAsk};
 ghost use Rattle.vfork_pass.specs.Passed.{HasGivenBack};
 ghost use Rattle.proc_calls.specs.Callers.{IsCaller};
-ghost use Rattle.proc_calls.specs.Starting.{TextsStand, image_found, wants_found, is_shared, AreNextWants, Finds, Starts, StopsFinding, StopsStarting};
+ghost use Rattle.proc_calls.specs.Starting.{image_found, wants_found, is_shared, AreNextWants, Finds, Starts, StopsFinding, StopsImage};
 
 use crate::ending::leave_space;
+use crate::filling::fill_start;
 use crate::replying::{Called, fail, reply};
 use flat_model::{ENOMEM, SystemCall};
 use flat_state::Change;
 use io_edge::{Files, SwapDev};
 use machine_state::{Machine, Want, image_wants};
-use vm_facts::{Bytes, Regs, Stop};
+use vm_facts::{Bytes, Page, Regs, Stop};
 
 // Pieces are found for the next image of a process. Where they find their places the process leaves its space first, since
 // no transfer completes while found pieces wait for their entry.
@@ -31,7 +33,7 @@ fn find_pieces<F: Files, D: SwapDev>(
     requires can { CanAsk m.old.kernel.holdings wants.now }
     ensures finds { IfOk result (λ fits. Finds (wants_found wants.now) fits m.old m.new pid (F.holds files.old) (D.image swap.old) (D.image swap.new)) }
     ensures given { result ≡ Ok true → has_lender m.old.kernel.processes pid ≡ true → HasGivenBack m.old.kernel m.new.kernel pid (lender_among m.old.kernel.processes pid) }
-    ensures stops { IfErr result (StopsFinding m.old m.new pid (F.holds files.old) (D.image swap.old) (D.image swap.new)) }
+    ensures stops { IfErr result (StopsFinding (wants_found wants.now) m.old m.new pid (F.holds files.old) (D.image swap.old) (D.image swap.new)) }
     ensures files_lead { F.leads files.old files.new }
     ensures swap_leads { D.leads swap.old swap.new }
     ensures holds { F.holds files.new ≡ F.holds files.old }
@@ -80,12 +82,11 @@ fn find_space<F: Files, D: SwapDev>(
     requires calls { IsCaller m.old pid }
     requires area { m.old.params.swap_blocks ≤ D.blocks swap.old }
     requires files { AreFiles m.old.images (F.holds files.old) }
-    requires texts { TextsStand m.old }
     requires above { 0 < image }
     requires within { image ≤ length m.old.images }
     ensures finds { IfOk result (λ fits. Finds (image_found image) fits m.old m.new pid (F.holds files.old) (D.image swap.old) (D.image swap.new)) }
     ensures given { result ≡ Ok true → has_lender m.old.kernel.processes pid ≡ true → HasGivenBack m.old.kernel m.new.kernel pid (lender_among m.old.kernel.processes pid) }
-    ensures stops { IfErr result (StopsFinding m.old m.new pid (F.holds files.old) (D.image swap.old) (D.image swap.new)) }
+    ensures stops { IfErr result (StopsFinding (image_found image) m.old m.new pid (F.holds files.old) (D.image swap.old) (D.image swap.new)) }
     ensures files_lead { F.leads files.old files.new }
     ensures swap_leads { D.leads swap.old swap.new }
     ensures holds { F.holds files.new ≡ F.holds files.old }
@@ -104,8 +105,8 @@ fn find_space<F: Files, D: SwapDev>(
     }
 }
 
-/// A process starts an image, with these registers and this stack page 0, which is due then. Where the pieces of swap find no
-/// place the call fails instead, with the registers that the process has.
+/// A process starts an image, with these registers and this stack page 0, which is filled behind the call's entry. Where the
+/// pieces of swap find no place the call fails instead, with the registers that the process has.
 pub fn start_image<F: Files, D: SwapDev>(
     m: &mut Machine,
     files: &mut F,
@@ -119,13 +120,13 @@ pub fn start_image<F: Files, D: SwapDev>(
     requires calls { IsCaller m.old pid }
     requires area { m.old.params.swap_blocks ≤ D.blocks swap.old }
     requires files { AreFiles m.old.images (F.holds files.old) }
-    requires texts { TextsStand m.old }
     requires above { 0 < image }
     requires within { image ≤ length m.old.images }
     requires page { length top ≡ 1024 }
+    requires room { HasRoom m.old.kernel.place [] }
     ensures ready { IfOk result (λ called. called ≡ Called.Ready) }
     ensures starts { OnOk result (Starts m.old m.new pid regs.now after.now image top (F.holds files.old) (D.image swap.old) (D.image swap.new)) }
-    ensures stops { IfErr result (StopsStarting m.old m.new pid image (F.holds files.old) (D.image swap.old) (D.image swap.new)) }
+    ensures stops { IfErr result (StopsImage m.old m.new pid after.now image top (F.holds files.old) (D.image swap.old) (D.image swap.new)) }
     ensures files_lead { F.leads files.old files.new }
     ensures swap_leads { D.leads swap.old swap.new }
     ensures holds { F.holds files.new ≡ F.holds files.old }
@@ -135,15 +136,20 @@ pub fn start_image<F: Files, D: SwapDev>(
     ensures read_faults { CountsReads result (D.read_faults swap.old) (D.read_faults swap.new) }
     ensures write_faults { CountsWrites result (D.write_faults swap.old) (D.write_faults swap.new) }
 {
-    if find_space(m, files, swap, pid, image)? {
-        reply(
-            m,
-            pid,
-            SystemCall::Execve,
-            after,
-            Change::Exec { image, top },
-        )
-    } else {
-        fail(m, pid, SystemCall::Execve, regs, ENOMEM)
+    let page = Page::Stack {
+        sid: m.next_numbers().1,
+        v: 0,
+    };
+    if !find_space(m, files, swap, pid, image)? {
+        return fail(m, pid, SystemCall::Execve, regs, ENOMEM);
     }
+    let called = reply(
+        m,
+        pid,
+        SystemCall::Execve,
+        after,
+        Change::Exec { image, top },
+    )?;
+    fill_start(m, files, swap, page)?;
+    Ok(called)
 }

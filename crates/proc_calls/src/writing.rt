@@ -1,5 +1,5 @@
 // The call that writes to the output.
-ghost use Rattle.std.specs.Prelude.{◌≡◌, ◌⊎◌, ◌≤◌, [], false, length, IfOk, OnOk, OnErr, Ok, Err};
+ghost use Rattle.std.specs.Prelude.{◌≡◌, ◌⊎◌, ◌≤◌, [], false, length, IfOk, OnOk, IfErr, OnErr, Ok, Err};
 ghost use Rattle.user_vax.specs.Program.{run};
 ghost use Rattle.flat_model.specs.Calls.{write_limit, write_reply};
 ghost use Rattle.flat_model.specs.declared.calls.Reply.TheVariants.{Writes};
@@ -8,7 +8,7 @@ ghost use Rattle.machine_state.specs.Conditions.{HasStopped};
 ghost use Rattle.machine_state.specs.UserMemory.{CanLend, kernel_answers};
 ghost use Rattle.proc_calls.specs.Answered.{GoneOut, Replied, Comes};
 ghost use Rattle.proc_calls.specs.Callers.{IsCaller, space_held};
-ghost use Rattle.proc_calls.specs.Writing.{IsWrite, StopsBy, bytes_of};
+ghost use Rattle.proc_calls.specs.Writing.{IsWrite, StopsBy, StopsOut, bytes_of};
 
 use crate::replying::{Called, fail, process, refuse, replied_one, reply};
 use flat_model::{Asked, Reply, SystemCall, write_reply};
@@ -104,7 +104,7 @@ pub fn write<F: Files, D: SwapDev>(
     requires clear { m.old.kernel.place.due ≡ [] }
     requires lends { CanLend m.old.kernel pid }
     ensures comes { IfOk result (Comes m.old m.new pid Write regs.now (run (kernel_answers m.old.kernel (space_held m.old.kernel pid)) (write_reply regs.now))) }
-    ensures stop { StopsBy m.old m.new pid (bytes_of (run (kernel_answers m.old.kernel (space_held m.old.kernel pid)) (write_reply regs.now))) result }
+    ensures stop { IfErr result (StopsOut m.old m.new pid (run (kernel_answers m.old.kernel (space_held m.old.kernel pid)) (write_reply regs.now))) }
     ensures files { _files.new ≡ _files.old }
     ensures swap { _swap.new ≡ _swap.old }
 {

@@ -1,9 +1,9 @@
-use Rattle.std.proofs.Common.{◌≡◌, Bool, true, false, [], ◌∷◌, sym, ap, ◌∙◌}
+use Rattle.std.proofs.Common.{Bool, [], ◌∷◌, sym, ap, ◌∙◌}
 use Rattle.std.specs.Prelude.{Ok}
 use Rattle.flat_state.specs.declared.change.Change.TheVariants.{Lend}
 use Rattle.flat_model.specs.declared.calls.SystemCall.TheVariants.{Vfork}
 use Rattle.flat_model.specs.Step.{call_entry}
-use Rattle.proc_calls.proofs.Makes.{vfork_asks, asked_found, asked_fits, behind_found, refused_ok, has_child, lent_ok, may_apply}
+use Rattle.proc_calls.proofs.Makes.{vfork_asks, asked_found, asked_fits, behind_found, refused_ok, stops_refused, has_child, lent_ok, may_apply}
 use Rattle.proc_calls.proofs.making.vfork.Goals as goal
 
 pub returns-then-not-branch-clause-vforked : goal.returns-then-not-branch-clause-vforked
@@ -18,6 +18,18 @@ returns-then-not-branch-clause-vforked g c =
     (sym c.is_below_limit.ensures ∙ c.if-not-is_below_limit.false)
     (asked_fits c.args.m.now c.args.pid (Lend child) (c.u_want.result ∷ []) c.in_ok-ask.field-0 asks c.in_ok-ask.ensures.answer ∙ c.if-not-branch.true)
     c.fail-then-not-branch.ensures.replied
+
+pub returns-then-not-branch-clause-stop : goal.returns-then-not-branch-clause-stop
+returns-then-not-branch-clause-stop g c =
+    let child = c.next_numbers-child.result.0 in
+    let no = ap (λ (b : Bool). Ok b) c.if-not-branch.true in
+    let asks =
+    vfork_asks c.args.m.now c.args.pid child c.u_want.result c.u_want.ensures c.next_numbers-child.ensures.process c.requires.calls.whole
+    c.sound.ensures.sound c.sound.ensures.numbered in
+    stops_refused c.fail-then-not-branch.result c.args.m.now c.ask.new.self c.fail-then-not-branch.new.m c.args.pid child (λ n. Lend n)
+    (c.in_ok-ask.ensures.refused no) c.next_numbers-child.ensures.process (sym c.is_below_limit.ensures ∙ c.if-not-is_below_limit.false)
+    (asked_fits c.args.m.now c.args.pid (Lend child) (c.u_want.result ∷ []) c.in_ok-ask.field-0 asks c.in_ok-ask.ensures.answer ∙ c.if-not-branch.true)
+    c.fail-then-not-branch.ensures.stop c.fail-then-not-branch.ensures.cause c.fail-then-not-branch.ensures.full
 
 pub reply-requires-clause-can : goal.reply-requires-clause-can
 reply-requires-clause-can g c =
