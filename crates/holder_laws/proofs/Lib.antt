@@ -1,0 +1,14 @@
+pub mod Standing
+pub mod Tables
+pub mod Spaces
+pub mod Changing
+pub mod Kernels
+pub mod Passing
+pub mod First
+pub mod Lenders
+pub mod Images
+pub mod Pages
+pub mod Calls
+pub mod Leaving
+pub mod Making
+pub mod CallersSeen
