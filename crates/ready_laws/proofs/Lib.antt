@@ -1,0 +1,10 @@
+pub mod Placements
+pub mod Journals
+pub mod Running
+pub mod Entries
+pub mod Transfers
+pub mod Calls
+pub mod Executing
+pub mod Spaces
+pub mod Pages
+pub mod Lines
