@@ -1,0 +1,152 @@
+-- Pages of a child are copied by next units of a run.
+use Rattle.std.proofs.Common.{◌≡◌, inl, inr, ℕ, true, List, [], ◌∷◌, Option, Some, refl, sym, ap, ◌∙◌, subst}
+use Rattle.vm_facts.specs.declared.page.Page.{Page}
+use Rattle.vm_facts.specs.declared.entry.Entry.{Entry}
+use Rattle.vm_facts.specs.declared.entry.Entry.TheVariants as entries
+use Rattle.vm_facts.specs.declared.stop.Stop.{Stop}
+use Rattle.io_edge.specs.FileHolding.{NamedFile}
+use Rattle.flat_state.specs.Flat.{Inputs}
+use Rattle.page_model.specs.Pages.{is_valid}
+use Rattle.page_model.specs.Placement.{Placement, Due, Start, CopyOf, state_of}
+use Rattle.page_model.specs.Serve.{serve_unit}
+use Rattle.kernel_model.specs.Kernel.{copy_step}
+use Rattle.machine_state.specs.Machine.{Standing}
+use Rattle.machine_state.specs.Sourced.{ImageNamed}
+use Rattle.machine_state.specs.Files.{AreImages}
+use Rattle.paging_units.specs.Made.{ground}
+use Rattle.paging_units.specs.Stops.{StopsAt}
+use Rattle.clock_hands.specs.Forced.{Forced, StopsForcing}
+use Rattle.fault_fill.specs.Serving.{StopsServing}
+use Rattle.fault_fill.specs.Answers.{ServesNow}
+use Rattle.proc_calls.specs.Copying.{CopiesPage, StopsBehind, StopsPage, CopiesAll, StopsCopying}
+use Rattle.run_model.specs.State.{State}
+use Rattle.run_model.specs.Next.{next_unit}
+use Rattle.run_units.specs.Serving.{At}
+use Rattle.run_units.specs.Filling.{FillsFirst, LeadsDue}
+use Rattle.run_units.proofs.Filling.{bringing, brought_next}
+use Rattle.step_units.specs.Stepped.{StopLeads}
+use Rattle.step_units.proofs.Entering.{stops_then}
+use Rattle.step_units.proofs.Leading.{led_told, led_at, stop_at}
+use Rattle.step_units.proofs.Filling.{LeadsTo, stays, goes_on, forced_fill, forcing_stops, fill_stops}
+
+-- The parent's page.
+
+-- once it is valid, the child's page is filled by a copy
+record Brought (A : Inputs) (s : State) (m served : Standing) (holds : Option (List NamedFile)) (image : List ℕ) (i : Option (List ℕ)) (child parent : Page) (ds : List Due) : Type 0 where
+  pub units : List Entry
+  pub led : LeadsDue A s m.kernel image units served.kernel i
+  pub at : At A led.state served.kernel led.leads.behind
+  pub images : AreImages served.images holds A.images
+  pub due : led.state.place.due ≡ CopyOf child parent ∷ ds
+  pub first : FillsFirst led.state.place led.state.place.due (entries.Copy child) (parent ∷ [])
+
+brought : (A : Inputs) (s : State) (m served : Standing) (holds : Option (List NamedFile)) (image : List ℕ) (i : Option (List ℕ)) (child parent : Page) (ds : List Due) → At A s m.kernel image
+    → AreImages m.images holds A.images → s.place.due ≡ CopyOf child parent ∷ ds → ServesNow (parent ∷ []) parent m served holds (Some image) i → Brought A s m served holds image i child parent ds
+brought A s m served holds image i child parent ds at images d serves =
+    let us : List Entry = serves.0.units in
+    let led : LeadsDue A s m.kernel image us served.kernel i =
+    bringing us A (ground m holds (parent ∷ [])) s m.kernel served.kernel image i child parent ds at images refl d serves.0.leads serves.0.makes.made in
+    let there : At A led.state served.kernel led.leads.behind = led_at A s led.state m.kernel served.kernel image i us at led.leads in
+    let valid : is_valid (state_of led.state.place parent) ≡ true = subst (λ (p : Placement). is_valid (state_of p parent) ≡ true) there.stands.place serves.1 in
+    record {
+      units = us;
+      led = led;
+      at = there;
+      images = subst (λ (ns : List ImageNamed). AreImages ns holds A.images) (sym serves.0.makes.beside.images) images;
+      due = led.due ∙ d;
+      first = subst (λ (l : List Due). FillsFirst led.state.place l (entries.Copy child) (parent ∷ [])) (sym (led.due ∙ d)) (refl, refl, valid);
+    }
+
+-- One page.
+
+copied_images : (A : Inputs) (old new : Standing) (holds : Option (List NamedFile)) (i j : Option (List ℕ)) (child parent : Page) → AreImages old.images holds A.images
+    → CopiesPage child parent old new holds i j → AreImages new.images holds A.images
+copied_images A old new holds i j child parent images c =
+    subst (λ (ns : List ImageNamed). AreImages ns holds A.images)
+    (sym (ap (λ (m : Standing). m.images) c.copies ∙ c.forces.makes.beside.images ∙ c.serves.0.makes.beside.images)) images
+
+pub page_copied : (A : Inputs) (s : State) (old new : Standing) (holds : Option (List NamedFile)) (image : List ℕ) (j : Option (List ℕ)) (child parent : Page) (ds : List Due) → At A s old.kernel image
+    → AreImages old.images holds A.images → s.place.due ≡ CopyOf child parent ∷ ds → CopiesPage child parent old new holds (Some image) j → LeadsTo A s old.kernel image ds new.kernel j
+page_copied A s old new holds image j child parent ds at images d c =
+    let b : Brought A s old c.served holds image c.behind child parent ds = brought A s old c.served holds image c.behind child parent ds at images d c.serves in
+    let t : State = b.led.state in
+    let behind : List ℕ = b.led.leads.behind in
+    let filled : LeadsTo A t c.served.kernel behind ds (copy_step c.roomy.kernel child) j =
+    forced_fill A t c.served c.roomy holds behind j (CopyOf child parent) ds (parent ∷ []) b.at b.images b.due b.first
+    (subst (λ (o : Option (List ℕ)). Forced (parent ∷ []) c.served c.roomy holds o j) b.led.leads.told c.forces) in
+    subst (λ (m : Standing). LeadsTo A s old.kernel image ds m.kernel j) (sym c.copies)
+    (goes_on A s t old.kernel c.served.kernel (copy_step c.roomy.kernel child) image behind j b.units ds (led_told A s t old.kernel c.served.kernel image c.behind b.units b.led.leads) b.led.same filled)
+
+-- All pages.
+
+pub all_copied : (ds : List Due) (A : Inputs) (s : State) (old new : Standing) (holds : Option (List NamedFile)) (image : List ℕ) (j : Option (List ℕ)) → At A s old.kernel image
+    → AreImages old.images holds A.images → s.place.due ≡ ds → CopiesAll ds old new holds (Some image) j → LeadsTo A s old.kernel image [] new.kernel j
+all_copied [] A s old new holds image j at images d c =
+    subst (λ (m : Standing). LeadsTo A s old.kernel image [] m.kernel j) (sym c.0)
+    (subst (λ (o : Option (List ℕ)). LeadsTo A s old.kernel image [] old.kernel o) (sym c.1) (stays A s old.kernel image [] d))
+all_copied (Start q ∷ ds) A s old new holds image j at images d c = absurd c
+all_copied (CopyOf child parent ∷ ds) A s old new holds image j at images d c =
+    let next : Standing = c.0 in
+    let one : LeadsTo A s old.kernel image ds next.kernel c.1 = page_copied A s old next holds image c.1 child parent ds at images d c.2 in
+    let t : State = one.state in
+    let behind : List ℕ = one.leads.behind in
+    let more : LeadsTo A t next.kernel behind [] new.kernel j =
+    all_copied ds A t next new holds behind j (led_at A s t old.kernel next.kernel image c.1 one.units at one.leads)
+    (copied_images A old next holds (Some image) c.1 child parent images c.2) one.due
+    (subst (λ (o : Option (List ℕ)). CopiesAll ds next new holds o j) one.leads.told c.3) in
+    goes_on A s t old.kernel next.kernel new.kernel image behind j one.units [] (led_told A s t old.kernel next.kernel image c.1 one.units one.leads) one.same more
+
+-- Stops.
+
+serving_stops : (A : Inputs) (s : State) (m new : Standing) (holds : Option (List NamedFile)) (image : List ℕ) (j : Option (List ℕ)) (child parent : Page) (ds : List Due) (stop : Stop)
+    → At A s m.kernel image → AreImages m.images holds A.images → s.place.due ≡ CopyOf child parent ∷ ds → StopsServing true (parent ∷ []) parent m new holds (Some image) j stop
+    → StopLeads A s m.kernel image stop new j
+serving_stops A s m new holds image j child parent ds stop at images d h =
+    let led : LeadsDue A s m.kernel image h.units h.kernel h.image =
+    bringing h.units A (ground m holds (parent ∷ [])) s m.kernel h.kernel image h.image child parent ds at images refl d h.leads h.made in
+    let t : State = led.state in
+    let behind : List ℕ = led.leads.behind in
+    let here : h.kernel.place ≡ t.place = (led_at A s t m.kernel h.kernel image h.image h.units at led.leads).stands.place in
+    let next : next_unit A t ≡ Some h.entry =
+    brought_next A t child parent ds h.entry (led.due ∙ d) (subst (λ (p : Placement). serve_unit p parent true ≡ Some h.entry) here h.next) in
+    stops_then A s t m.kernel h.kernel image behind j h.units stop new (led_told A s t m.kernel h.kernel image h.image h.units led.leads)
+    (stop_at A t h.kernel behind h.entry stop new j next (subst (λ (o : Option (List ℕ)). StopsAt h.entry h.kernel o stop new j) led.leads.told h.at))
+
+behind_stops : (A : Inputs) (s : State) (old new : Standing) (holds : Option (List NamedFile)) (image : List ℕ) (j : Option (List ℕ)) (child parent : Page) (ds : List Due) (stop : Stop)
+    → At A s old.kernel image → AreImages old.images holds A.images → s.place.due ≡ CopyOf child parent ∷ ds → StopsBehind child parent old new holds (Some image) j stop
+    → StopLeads A s old.kernel image stop new j
+behind_stops A s old new holds image j child parent ds stop at images d h =
+    let b : Brought A s old h.served holds image h.behind child parent ds = brought A s old h.served holds image h.behind child parent ds at images d h.serves in
+    let t : State = b.led.state in
+    let behind : List ℕ = b.led.leads.behind in
+    let stopped : StopLeads A t h.served.kernel behind stop new j = elim h.stops [
+      | inl f ↦ forcing_stops A t h.served new holds behind j (entries.Copy child) (parent ∷ []) stop b.at b.images b.first
+          (subst (λ (o : Option (List ℕ)). StopsForcing (parent ∷ []) h.served stop new holds o j) b.led.leads.told f)
+      | inr c ↦ fill_stops A t h.served c.0 new holds behind j j (entries.Copy child) (parent ∷ []) stop b.at b.images b.first
+          (subst (λ (o : Option (List ℕ)). Forced (parent ∷ []) h.served c.0 holds o j) b.led.leads.told c.1) c.2
+    ] in
+    stops_then A s t old.kernel h.served.kernel image behind j b.units stop new (led_told A s t old.kernel h.served.kernel image h.behind b.units b.led.leads) stopped
+
+pub page_stops : (A : Inputs) (s : State) (old new : Standing) (holds : Option (List NamedFile)) (image : List ℕ) (j : Option (List ℕ)) (child parent : Page) (ds : List Due) (stop : Stop)
+    → At A s old.kernel image → AreImages old.images holds A.images → s.place.due ≡ CopyOf child parent ∷ ds → StopsPage child parent old new holds (Some image) j stop
+    → StopLeads A s old.kernel image stop new j
+page_stops A s old new holds image j child parent ds stop at images d h = elim h [
+  | inl x ↦ serving_stops A s old new holds image j child parent ds stop at images d x
+  | inr x ↦ behind_stops A s old new holds image j child parent ds stop at images d x
+]
+
+pub copying_stops : (ds : List Due) (A : Inputs) (s : State) (old new : Standing) (holds : Option (List NamedFile)) (image : List ℕ) (j : Option (List ℕ)) (stop : Stop) → At A s old.kernel image
+    → AreImages old.images holds A.images → s.place.due ≡ ds → StopsCopying ds old new holds (Some image) j stop → StopLeads A s old.kernel image stop new j
+copying_stops [] A s old new holds image j stop at images d h = absurd h
+copying_stops (Start q ∷ ds) A s old new holds image j stop at images d h = absurd h
+copying_stops (CopyOf child parent ∷ ds) A s old new holds image j stop at images d h = elim h [
+  | inl x ↦ page_stops A s old new holds image j child parent ds stop at images d x
+  | inr x ↦
+      let next : Standing = x.0 in
+      let one : LeadsTo A s old.kernel image ds next.kernel x.1 = page_copied A s old next holds image x.1 child parent ds at images d x.2 in
+      let t : State = one.state in
+      let behind : List ℕ = one.leads.behind in
+      stops_then A s t old.kernel next.kernel image behind j one.units stop new (led_told A s t old.kernel next.kernel image x.1 one.units one.leads)
+      (copying_stops ds A t next new holds behind j stop (led_at A s t old.kernel next.kernel image x.1 one.units at one.leads)
+      (copied_images A old next holds (Some image) x.1 child parent images x.2) one.due (subst (λ (o : Option (List ℕ)). StopsCopying ds next new holds o j stop) one.leads.told x.3))
+]

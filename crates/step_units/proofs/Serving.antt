@@ -1,0 +1,236 @@
+-- Serving a page that a process waits for leads on between two steps.
+use Rattle.std.proofs.Common.{◌≡◌, ℕ, ◌+◌, ◌<◌, ◌≤◌, Bool, true, false, List, [], ◌∷◌, ◌++◌, length, Option, Some, None, refl, sym, ap, ◌∙◌, subst, arith}
+use Rattle.io_edge.specs.FileHolding.{NamedFile}
+use Rattle.vm_facts.specs.declared.entry.Entry.{Entry}
+use Rattle.vm_facts.specs.declared.entry.Entry.TheVariants as entries
+use Rattle.vm_facts.specs.declared.page.Page.{Page}
+use Rattle.vm_facts.specs.declared.page.PageState.{PageState}
+use Rattle.vm_facts.specs.declared.page.PageState.TheVariants.{Unfilled, Valid, Invalid, Coming, Going, OnSwap}
+use Rattle.vm_facts.specs.declared.stop.Stop.{Stop}
+use Rattle.vm_facts.specs.declared.stop.Stop.TheVariants as stops
+use Rattle.flat_state.specs.Flat.{Process, Inputs}
+use Rattle.flat_state.specs.Space.{Space}
+use Rattle.page_model.specs.Pages.{frame_of, is_valid}
+use Rattle.page_model.specs.Placement.{Placement, state_of, filling_of}
+use Rattle.page_model.specs.Serve.{serve_unit, serve_unit_by, feed_unit_by, is_full}
+use Rattle.kernel_model.specs.Kernel.{Kernel}
+use Rattle.kernel_model.specs.ChangeStep.{space_of_life, life_of_proc}
+use Rattle.kernel_laws.proofs.Machine.Processes.{Stepping, stepping}
+use Rattle.machine_state.specs.Machine.{Standing}
+use Rattle.paging_units.specs.Made.{Ground, ground}
+use Rattle.paging_units.specs.Stops.{StopsAt, SpoilsBy}
+use Rattle.fault_fill.specs.Growth.{space_held}
+use Rattle.fault_fill.specs.Serving.{ServesTo, StopsServing}
+use Rattle.fault_fill.specs.Touches.{TouchedAs, TouchedNow, StopsAtPage}
+use Rattle.fault_fill.specs.Units.{is_flying, NeedsFrame}
+use Rattle.fault_fill.specs.declared.touch.Served.{Served as Touch}
+use Rattle.fault_fill.specs.declared.touch.Served.TheVariants as served
+use Rattle.run_model.specs.State.{State}
+use Rattle.run_model.specs.Wanted.{touched_next, AllValid, before_absent, locked_by, locked, Splits}
+use Rattle.economy_laws.proofs.Left.{split_longer}
+use Rattle.run_model.specs.Kinds.{Runs}
+use Rattle.run_model.specs.Next.{next_unit, under, work_by}
+use Rattle.run_model.proofs.Wanting.{splits_wanted}
+use Rattle.run_laws.proofs.Flows.{runs_work}
+use Rattle.run_units.specs.Acting.{IsBetween}
+use Rattle.run_units.specs.Leads.{Leads}
+use Rattle.run_units.specs.Serving.{At, IsWaiting, Served}
+use Rattle.run_units.specs.Touching.{IsRunning}
+use Rattle.run_units.proofs.Serving.{served, served_next}
+use Rattle.run_units.proofs.Units.{leads_at}
+use Rattle.step_units.specs.Machines.{MachineAt}
+use Rattle.step_units.specs.Stepped.{StepLeads, MarkEnds, StopsBy, StopLeads}
+
+-- The space that the machine has for a process is the one that the process holds.
+pub same_space : (A : Inputs) (s : State) (k : Kernel) (image : List ℕ) (pid : ℕ) (now : Bool) (p : Process) (x : Space) → At A s k image → IsRunning A s pid now p x → space_held k pid ≡ x.sid
+same_space A s k image pid now p x at r =
+    let i : Stepping k s.point.flat pid p x = stepping k s.point.flat pid p x at.stands.keeps.coupled.tables r.here r.holds in
+    ap space_of_life (ap life_of_proc i.kept ∙ i.life)
+
+-- A process of a machine runs between two steps, and this page of its next instruction, behind valid ones, is served; in a turn the
+-- hands pass over those.
+pub record WaitsFor (A : Inputs) (s : State) (m : Standing) (holds : Option (List NamedFile)) (image : List ℕ) (pid : ℕ) (now : Bool) (before : List Page) (q : Page) : Type 0 where
+  pub machine : MachineAt A s m holds image
+  pub runs : Runs A s pid now
+  pub between : IsBetween s.point.last
+  pub rest : List Page
+  pub touched : touched_next A s ≡ before ++ q ∷ rest
+  pub valid : AllValid s.place before
+
+waiting : (A : Inputs) (s : State) (m : Standing) (holds : Option (List NamedFile)) (image : List ℕ) (pid : ℕ) (now : Bool) (before kept : List Page) (q : Page)
+    → WaitsFor A s m holds image pid now before q → (now ≡ true → kept ≡ before) → IsWaiting A (ground m holds kept) s pid now before q
+waiting A s m holds image pid now before kept q w f = record {
+  images = w.machine.images;
+  runs = w.runs;
+  rest = w.rest;
+  touched = w.touched;
+  valid = w.valid;
+  locked = f;
+}
+
+-- what serving leads to
+
+pub leads_on : (A : Inputs) (g : Ground) (s : State) (k l : Kernel) (image : List ℕ) (j : Option (List ℕ)) (pid : ℕ) (now : Bool) (before : List Page) (q : Page) (us : List Entry)
+    → IsBetween s.point.last → Served A g s k image pid now before q us l j → StepLeads A s k image 0 l j
+leads_on A g s k l image j pid now before q us b v = record {
+  units = us;
+  state = v.state;
+  leads = v.leads;
+  clear = v.waiting.runs.clear;
+  between = subst (λ (x : Rattle.flat_model.specs.Run.Point). IsBetween x.last) (sym v.same.point) b;
+  count = v.same.count ∙ (let z : s.count ≡ s.count + 0 = omega arith in z);
+  lines = v.same.lines;
+  mark = v.same.mark;
+}
+
+flying_waits : (p : Placement) (q : Page) → is_flying (state_of p q) ≡ true → (is_valid (state_of p q) ≡ false) × (serve_unit p q false ≡ None)
+flying_waits p q h = go (state_of p q) refl h
+  where
+    go : (s : PageState) → state_of p q ≡ s → is_flying s ≡ true → (is_valid s ≡ false) × (serve_unit_by p q s false ≡ None)
+    go Unfilled e f = absurd cc
+    go (Valid x) e f = absurd cc
+    go (Invalid x) e f = absurd cc
+    go (Coming x) e f = (refl, refl)
+    go (Going x) e f = (refl, refl)
+    go OnSwap e f = absurd cc
+
+starved_waits : (p : Placement) (q : Page) → NeedsFrame p q → (is_valid (state_of p q) ≡ false) × (serve_unit p q false ≡ None)
+starved_waits p q h = go (state_of p q) h.frameless
+  where
+    feed : (s : PageState) → feed_unit_by p q s (filling_of p q) p.free (is_full p) false ≡ None
+    feed s = ap (λ (fs : List ℕ). feed_unit_by p q s (filling_of p q) fs (is_full p) false) h.none
+
+    go : (s : PageState) → frame_of s ≡ None → (is_valid s ≡ false) × (serve_unit_by p q s false ≡ None)
+    go Unfilled f = (refl, feed Unfilled)
+    go (Valid x) f = absurd cc
+    go (Invalid x) f = absurd cc
+    go (Coming x) f = absurd cc
+    go (Going x) f = absurd cc
+    go OnSwap f = (refl, feed OnSwap)
+
+-- where a page isn't valid and can't be served without waiting, nothing more is to come of a dispatch
+pub nothing_more : (A : Inputs) (g : Ground) (s : State) (pid : ℕ) (before : List Page) (q : Page) → IsWaiting A g s pid false before q
+    → is_valid (state_of s.place q) ≡ false → serve_unit s.place q false ≡ None → under A s s.mark ≡ None
+nothing_more A g s pid before q w n u =
+    let d : Splits s.place (touched_next A s) before q = record { behind = w.rest; whole = w.touched; valid = w.valid; absent = n } in
+    runs_work A s pid false w.runs ∙ ap (work_by A s pid false) (splits_wanted A s before q w.runs.clear d) ∙ u
+
+pub ends_mark : (A : Inputs) (g : Ground) (s : State) (k l : Kernel) (image : List ℕ) (j : Option (List ℕ)) (pid : ℕ) (before : List Page) (q : Page) (us : List Entry)
+    → At A s k image → IsBetween s.point.last → Served A g s k image pid false before q us l j → (is_valid (state_of l.place q) ≡ false) × (serve_unit l.place q false ≡ None)
+    → MarkEnds A s k image l j
+unfolding leads_on
+ends_mark A g s k l image j pid before q us at b v n =
+    let here : l.place ≡ v.state.place =
+    (leads_at A s v.state k l image v.leads.behind us at (subst (λ (o : Option (List ℕ)). Leads A s k image us v.state l o) v.leads.told v.leads)).stands.place in
+    record {
+      led = leads_on A g s k l image j pid false before q us b v;
+      over = nothing_more A g v.state pid before q v.waiting (subst (λ (x : Placement). is_valid (state_of x q) ≡ false) here n.0)
+          (subst (λ (x : Placement). serve_unit x q false ≡ None) here n.1);
+    }
+
+-- the page is valid then: more pages are, of those that are touched first, than these
+pub record LeadsMore (A : Inputs) (s : State) (k : Kernel) (image : List ℕ) (before : List Page) (l : Kernel) (j : Option (List ℕ)) : Type 0 where
+  pub led : StepLeads A s k image 0 l j
+  pub more : length before < length (locked A led.state)
+
+-- by its answer
+abbrev pub PageLeads : Inputs → State → Kernel → List ℕ → List Page → Kernel → Option (List ℕ) → Touch → Type 0
+PageLeads A s k image before l j served.Valid = LeadsMore A s k image before l j
+PageLeads A s k image before l j (served.Asleep q) = MarkEnds A s k image l j
+PageLeads A s k image before l j served.NoFrame = MarkEnds A s k image l j
+PageLeads A s k image before l j served.NoSpace = ⊥
+PageLeads A s k image before l j (served.Signal number) = ⊥
+
+leads_more : (A : Inputs) (g : Ground) (s : State) (k l : Kernel) (image : List ℕ) (j : Option (List ℕ)) (pid : ℕ) (now : Bool) (before : List Page) (q : Page) (us : List Entry)
+    → At A s k image → IsBetween s.point.last → Served A g s k image pid now before q us l j → is_valid (state_of l.place q) ≡ true → LeadsMore A s k image before l j
+unfolding leads_on
+leads_more A g s k l image j pid now before q us at b v h =
+    let here : l.place ≡ v.state.place =
+    (leads_at A s v.state k l image v.leads.behind us at (subst (λ (o : Option (List ℕ)). Leads A s k image us v.state l o) v.leads.told v.leads)).stands.place in
+    let longer : length before + 1 ≤ length (before_absent v.state.place (touched_next A v.state)) =
+    split_longer v.state.place (touched_next A v.state) before v.waiting.rest q v.waiting.touched v.waiting.valid (subst (λ (x : Placement). is_valid (state_of x q) ≡ true) here h) in
+    let kept : locked A v.state ≡ before_absent v.state.place (touched_next A v.state) = ap (locked_by A v.state) v.waiting.runs.clear in
+    record {
+      led = leads_on A g s k l image j pid now before q us b v;
+      more = let e = ap (λ (qs : List Page). length qs) kept in omega (arith, longer, e);
+    }
+
+pub served_to : (A : Inputs) (s : State) (old new : Standing) (holds : Option (List NamedFile)) (image : List ℕ) (j : Option (List ℕ)) (pid : ℕ) (now : Bool) (before kept : List Page) (q : Page)
+    → WaitsFor A s old holds image pid now before q → (now ≡ true → kept ≡ before) → (t : ServesTo now kept q old new holds (Some image) j)
+    → Served A (ground old holds kept) s old.kernel image pid now before q t.units new.kernel j
+served_to A s old new holds image j pid now before kept q w f t =
+    served t.units A (ground old holds kept) s old.kernel new.kernel image j pid now before q w.machine.at (waiting A s old holds image pid now before kept q w f) t.leads t.makes.made
+
+pub page_leads : (A : Inputs) (s : State) (old new : Standing) (holds : Option (List NamedFile)) (image : List ℕ) (j : Option (List ℕ)) (pid : ℕ) (before : List Page) (q : Page) (answer : Touch)
+    → WaitsFor A s old holds image pid false before q → TouchedAs answer q old new holds (Some image) j → PageLeads A s old.kernel image before new.kernel j answer
+page_leads A s old new holds image j pid before q answer w h = go answer h
+  where
+    done : (t : ServesTo false [] q old new holds (Some image) j) → Served A (ground old holds []) s old.kernel image pid false before q t.units new.kernel j
+    done t = served_to A s old new holds image j pid false before [] q w (λ e. absurd cc) t
+
+    go : (answer : Touch) → TouchedAs answer q old new holds (Some image) j → PageLeads A s old.kernel image before new.kernel j answer
+    go served.Valid c =
+        let t = c.serves.0.serves in
+        leads_more A (ground old holds []) s old.kernel new.kernel image j pid false before q t.units w.machine.at w.between (done t) c.serves.1
+    go (served.Asleep r) c =
+        let t = c.serves.0.serves in
+        ends_mark A (ground old holds []) s old.kernel new.kernel image j pid before q t.units w.machine.at w.between (done t) (flying_waits new.kernel.place q c.serves.1.1)
+    go served.NoFrame c =
+        let t = c.serves.0.serves in
+        ends_mark A (ground old holds []) s old.kernel new.kernel image j pid before q t.units w.machine.at w.between (done t) (starved_waits new.kernel.place q c.serves.1)
+    go served.NoSpace c = absurd c
+    go (served.Signal number) c = absurd c
+
+pub page_leads_now : (A : Inputs) (s : State) (old new : Standing) (holds : Option (List NamedFile)) (image : List ℕ) (j : Option (List ℕ)) (pid : ℕ) (before : List Page) (q : Page) (answer : Touch)
+    → WaitsFor A s old holds image pid true before q → TouchedNow before answer q old new holds (Some image) j → PageLeads A s old.kernel image before new.kernel j answer
+page_leads_now A s old new holds image j pid before q answer w h = go answer h
+  where
+    go : (answer : Touch) → TouchedNow before answer q old new holds (Some image) j → PageLeads A s old.kernel image before new.kernel j answer
+    go served.Valid c =
+        let t = c.serves.0.serves in
+        leads_more A (ground old holds before) s old.kernel new.kernel image j pid true before q t.units w.machine.at w.between
+        (served_to A s old new holds image j pid true before before q w (λ e. refl) t) c.serves.1
+    go (served.Asleep r) c = absurd c
+    go served.NoFrame c = absurd c
+    go served.NoSpace c = absurd c
+    go (served.Signal number) c = absurd c
+
+-- Stops.
+
+-- for want of memory no unit changes the swap image
+unspoiled : (e : Entry) (k : Kernel) (i j : Option (List ℕ)) → SpoilsBy e stops.NoMemory k i j → j ≡ i
+unspoiled (entries.SwapOut pid) k i j h = h
+unspoiled entries.Done k i j h = h
+unspoiled _ k i j h = h
+
+-- a stop where a unit of the run comes next
+pub stops_by : (A : Inputs) (t : State) (k : Kernel) (behind : List ℕ) (stop : Stop) (entry : Entry) (new : Standing) (j : Option (List ℕ)) → next_unit A t ≡ Some entry
+    → StopsAt entry k (Some behind) stop new j → StopsBy A t k behind stop new j
+stops_by A t k behind stops.NoMemory entry new j n s = unspoiled entry k (Some behind) j s.image
+stops_by A t k behind stops.JournalFull entry new j n s = record { entry = entry; next = n; full = s.full.0; cause = s.cause; spoils = s.image }
+stops_by A t k behind stops.FileFault entry new j n s = record { entry = entry; next = n; full = s.full.0; cause = s.cause; spoils = s.image }
+stops_by A t k behind stops.SwapReadFault entry new j n s = record { entry = entry; next = n; full = s.full.0; cause = s.cause; spoils = s.image }
+stops_by A t k behind stops.SwapWriteFault entry new j n s = record { entry = entry; next = n; full = s.full.0; cause = s.cause; spoils = s.image }
+
+pub page_stops : (A : Inputs) (s : State) (old new : Standing) (holds : Option (List NamedFile)) (image : List ℕ) (j : Option (List ℕ)) (pid : ℕ) (now : Bool) (before kept : List Page) (q : Page)
+    (stop : Stop) → WaitsFor A s old holds image pid now before q → (now ≡ true → kept ≡ before) → StopsAtPage now kept q old new holds (Some image) j stop → StopLeads A s old.kernel image stop new j
+page_stops A s old new holds image j pid now before kept q stop w f c =
+    let g : Ground = ground old holds kept in
+    let d : StopsServing now kept q old new holds (Some image) j stop = c.serving in
+    let v : Served A g s old.kernel image pid now before q d.units d.kernel d.image =
+    served d.units A g s old.kernel d.kernel image d.image pid now before q w.machine.at (waiting A s old holds image pid now before kept q w f) d.leads d.made in
+    let led : Leads A s old.kernel image d.units v.state d.kernel (Some v.leads.behind) =
+    subst (λ (o : Option (List ℕ)). Leads A s old.kernel image d.units v.state d.kernel o) v.leads.told v.leads in
+    let here : d.kernel.place ≡ v.state.place = (leads_at A s v.state old.kernel d.kernel image v.leads.behind d.units w.machine.at led).stands.place in
+    let next : next_unit A v.state ≡ Some d.entry =
+    served_next A g v.state pid now before q d.entry v.waiting (subst (λ (x : Placement). serve_unit x q now ≡ Some d.entry) here d.next) in
+    record {
+      units = d.units;
+      state = v.state;
+      kernel = d.kernel;
+      behind = v.leads.behind;
+      leads = led;
+      stopped = d.at.stopped;
+      journal = d.at.journal;
+      by = stops_by A v.state d.kernel v.leads.behind stop d.entry new j next (subst (λ (o : Option (List ℕ)). StopsAt d.entry d.kernel o stop new j) v.leads.told d.at);
+    }

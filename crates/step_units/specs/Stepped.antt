@@ -1,0 +1,69 @@
+-- What a call of a machine leads to in a run.
+use Rattle.std.specs.Prelude.{◌≡◌, ℕ, ◌+◌, ◌<◌, ◌≤◌, true, false, List, [], length, Option, Some, None}
+use Rattle.vm_facts.specs.declared.entry.Entry.{Entry}
+use Rattle.vm_facts.specs.declared.stop.Stop.{Stop}
+use Rattle.vm_facts.specs.declared.stop.Stop.TheVariants as stops
+use Rattle.flat_state.specs.Flat.{Inputs}
+use Rattle.flat_state.specs.Journal.{append}
+use Rattle.flat_state.specs.Space.{Space}
+use Rattle.kernel_model.specs.Kernel.{Kernel}
+use Rattle.machine_state.specs.Machine.{Standing}
+use Rattle.paging_units.specs.Stops.{CauseBy, SpoilsBy}
+use Rattle.proc_calls.specs.declared.replying.Called.{Called}
+use Rattle.proc_calls.specs.declared.replying.Called.TheVariants as calls
+use Rattle.run_model.specs.State.{State}
+use Rattle.run_model.specs.Next.{under, next_unit}
+use Rattle.run_units.specs.Acting.{IsBetween}
+use Rattle.run_units.specs.Leads.{Leads}
+use Rattle.run_units.specs.Touching.{WantsPage}
+
+-- Next units of a run lead to a state between two steps, with nothing due, under the same mark, and with so many more
+-- instructions counted.
+pub record StepLeads (A : Inputs) (s : State) (k : Kernel) (image : List ℕ) (n : ℕ) (l : Kernel) (j : Option (List ℕ)) : Type 0 where
+  pub units : List Entry
+  pub state : State
+  pub leads : Leads A s k image units state l j
+  pub clear : state.place.due ≡ []
+  pub between : IsBetween state.point.last
+  pub count : state.count ≡ s.count + n
+  pub lines : state.lines ≡ s.lines
+  pub mark : state.mark ≡ s.mark
+
+-- they lead to one at which nothing more is to come of the mark, and count no instruction
+pub record MarkEnds (A : Inputs) (s : State) (k : Kernel) (image : List ℕ) (l : Kernel) (j : Option (List ℕ)) : Type 0 where
+  pub led : StepLeads A s k image 0 l j
+  pub over : under A led.state led.state.mark ≡ None
+
+-- What a call of a process leads to, by what it comes to: the instruction is counted where it is complete. Where a byte that
+-- the call reads misses nothing was done, and the process waits for that byte's page.
+abbrev pub CallLeads : Inputs → State → Kernel → List ℕ → Space → Called → Kernel → Option (List ℕ) → Type 0
+CallLeads A s k image x calls.Ready l j = StepLeads A s k image 1 l j
+CallLeads A s k image x calls.Gone l j = StepLeads A s k image 1 l j
+CallLeads A s k image x calls.Asleep l j = MarkEnds A s k image l j
+CallLeads A s k image x (calls.Miss address) l j = (l ≡ k) × (j ≡ Some image) × WantsPage A s k x address false
+
+-- Stops.
+
+-- The machine stopped where this unit of the run comes next: at the bound of the journal only where the unit isn't joined.
+pub record StopsNext (A : Inputs) (t : State) (k : Kernel) (image : List ℕ) (stop : Stop) (new : Standing) (j : Option (List ℕ)) : Type 0 where
+  pub entry : Entry
+  pub next : next_unit A t ≡ Some entry
+  pub full : stop ≡ stops.JournalFull → (new.params.journal ≤ length k.journal) × (length k.journal < length (append k.journal entry))
+  pub cause : CauseBy entry stop k.place.transfers
+  pub spoils : SpoilsBy entry stop k (Some image) j
+
+-- for want of memory it may stop anywhere
+abbrev pub StopsBy : Inputs → State → Kernel → List ℕ → Stop → Standing → Option (List ℕ) → Type 0
+StopsBy A t k image stops.NoMemory new j = j ≡ Some image
+StopsBy A t k image stop new j = StopsNext A t k image stop new j
+
+-- Next units lead to a state, and there the machine stopped.
+pub record StopLeads (A : Inputs) (s : State) (k : Kernel) (image : List ℕ) (stop : Stop) (new : Standing) (j : Option (List ℕ)) : Type 0 where
+  pub units : List Entry
+  pub state : State
+  pub kernel : Kernel
+  pub behind : List ℕ
+  pub leads : Leads A s k image units state kernel (Some behind)
+  pub stopped : new.kernel.stopped ≡ true
+  pub journal : new.kernel.journal ≡ kernel.journal
+  pub by : StopsBy A state kernel behind stop new j
