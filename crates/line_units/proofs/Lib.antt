@@ -1,0 +1,7 @@
+pub mod Stopping
+pub mod Beginning
+pub mod Turning
+pub mod Asking
+pub mod Choosing
+pub mod PuttingOut
+pub mod Longwords

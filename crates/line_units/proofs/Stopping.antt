@@ -1,0 +1,96 @@
+-- Where a machine stops, the unit that comes next is known.
+use Rattle.std.proofs.Common.{◌≡◌, ◌⊎◌, ℕ, ◌<◌, ◌≤◌, List, [], ◌∷◌, ◌++◌, length, Option, Some, refl, sym, ap, subst, arith, length-append}
+use Rattle.vm_facts.specs.declared.entry.Entry.{Entry}
+use Rattle.vm_facts.specs.declared.entry.Entry.TheVariants as entries
+use Rattle.vm_facts.specs.declared.stop.Stop.{Stop}
+use Rattle.vm_facts.specs.declared.stop.Stop.TheVariants as stops
+use Rattle.flat_state.specs.Flat.{Inputs}
+use Rattle.flat_state.specs.Journal.{append}
+use Rattle.page_model.specs.Placement.{Transfer}
+use Rattle.kernel_model.specs.Kernel.{Kernel}
+use Rattle.machine_state.specs.Machine.{Standing}
+use Rattle.paging_units.specs.Stops.{CauseBy, SpoilsBy, StopsAt}
+use Rattle.run_model.specs.State.{State}
+use Rattle.run_model.specs.Next.{next_unit}
+use Rattle.run_laws.specs.Machine.{IsNote}
+use Rattle.run_units.specs.Leads.{Leads}
+use Rattle.run_units.proofs.Units.{none_leads}
+use Rattle.step_units.specs.Stepped.{StopsNext, StopsBy, StopLeads}
+use Rattle.line_units.specs.Lines.{StopsNoting}
+
+-- At a unit that a call names.
+
+same_image : (e : Entry) (k : Kernel) (i j : Option (List ℕ)) → SpoilsBy e stops.NoMemory k i j → j ≡ i
+same_image entries.Done k i j h = h
+same_image (entries.SwapOut pid) k i j h = h
+same_image _ k i j h = h
+
+pub stops_by : (A : Inputs) (t : State) (k : Kernel) (image : List ℕ) (stop : Stop) (new : Standing) (j : Option (List ℕ)) → StopsNext A t k image stop new j → StopsBy A t k image stop new j
+stops_by A t k image stops.NoMemory new j n = same_image n.entry k (Some image) j n.spoils
+stops_by A t k image _ new j n = n
+
+-- units lead to where this one is next, and there the machine stopped
+pub stops_behind : (A : Inputs) (s t : State) (k l : Kernel) (image behind : List ℕ) (us : List Entry) (stop : Stop) (new : Standing) (j : Option (List ℕ)) (e : Entry)
+    → Leads A s k image us t l (Some behind) → next_unit A t ≡ Some e → StopsAt e l (Some behind) stop new j → StopLeads A s k image stop new j
+stops_behind A s t k l image behind us stop new j e leads n at = record {
+  units = us;
+  state = t;
+  kernel = l;
+  behind = behind;
+  leads = leads;
+  stopped = at.stopped;
+  journal = at.journal;
+  by = stops_by A t l behind stop new j (record { entry = e; next = n; full = at.full.0; cause = at.cause; spoils = at.image });
+}
+
+pub stops_here : (A : Inputs) (s : State) (k : Kernel) (image : List ℕ) (stop : Stop) (new : Standing) (j : Option (List ℕ)) (e : Entry)
+    → next_unit A s ≡ Some e → StopsAt e k (Some image) stop new j → StopLeads A s k image stop new j
+stops_here A s k image stop new j e n at = stops_behind A s s k k image image [] stop new j e (none_leads A s k image) n at
+
+-- At an entry that goes into the journal alone.
+
+pub one_longer : (journal : List Entry) (e : Entry) → length journal < length (journal ++ e ∷ [])
+one_longer journal e = let n = length-append journal (e ∷ []) in omega arith
+
+note_longer : (e : Entry) (journal : List Entry) → IsNote e → length journal < length (append journal e)
+note_longer (entries.Event line) journal h = one_longer journal (entries.Event line)
+note_longer (entries.Turn pid) journal h = one_longer journal (entries.Turn pid)
+note_longer (entries.Out pid bytes) journal h = one_longer journal (entries.Out pid bytes)
+note_longer (entries.Refused pid) journal h = one_longer journal (entries.Refused pid)
+note_longer (entries.Owners free used moving held) journal h = one_longer journal (entries.Owners free used moving held)
+note_longer _ journal h = absurd h
+
+note_cause : (e : Entry) (stop : Stop) (ts : List Transfer) → IsNote e → (stop ≡ stops.JournalFull) ⊎ (stop ≡ stops.NoMemory) → CauseBy e stop ts
+note_cause (entries.Event line) stop ts h c = c
+note_cause (entries.Turn pid) stop ts h c = c
+note_cause (entries.Out pid bytes) stop ts h c = c
+note_cause (entries.Refused pid) stop ts h c = c
+note_cause (entries.Owners free used moving held) stop ts h c = c
+note_cause _ stop ts h c = absurd h
+
+note_spoils : (e : Entry) (stop : Stop) (k : Kernel) (i : Option (List ℕ)) → IsNote e → SpoilsBy e stop k i i
+note_spoils (entries.Event line) stop k i h = refl
+note_spoils (entries.Turn pid) stop k i h = refl
+note_spoils (entries.Out pid bytes) stop k i h = refl
+note_spoils (entries.Refused pid) stop k i h = refl
+note_spoils (entries.Owners free used moving held) stop k i h = refl
+note_spoils _ stop k i h = absurd h
+
+pub note_stops : (A : Inputs) (s : State) (old new : Standing) (image : List ℕ) (stop : Stop) (e : Entry) → next_unit A s ≡ Some e → IsNote e → StopsNoting old new stop
+    → StopLeads A s old.kernel image stop new (Some image)
+note_stops A s old new image stop e n h x = record {
+  units = [];
+  state = s;
+  kernel = old.kernel;
+  behind = image;
+  leads = none_leads A s old.kernel image;
+  stopped = x.stopped.stopped;
+  journal = x.stopped.journal;
+  by = stops_by A s old.kernel image stop new (Some image) (record {
+    entry = e;
+    next = n;
+    full = λ is. (subst (λ (n : ℕ). n ≤ length old.kernel.journal) (sym (ap (λ p. p.journal) x.stopped.params)) (x.full is), note_longer e old.kernel.journal h);
+    cause = note_cause e stop old.kernel.place.transfers h x.cause;
+    spoils = note_spoils e stop old.kernel (Some image) h;
+  });
+}

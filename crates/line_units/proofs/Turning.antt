@@ -1,0 +1,127 @@
+-- Turns begin, and a process that is out comes in for its turn.
+use Rattle.std.proofs.Common.{◌≡◌, ℕ, ◌+◌, ◌<◌, ◌&&◌, ◌==◌, nat_lt, Bool, true, false, cond, List, [], ◌∷◌, find, Option, Some, None, refl, ap, ◌∙◌, subst, arith}
+use Rattle.std.proofs.lemmas.Bool.Decides.{nat_tests}
+use Rattle.std.proofs.lemmas.Bool.{and_parts}
+use Rattle.vm_facts.specs.declared.entry.Entry.{Entry}
+use Rattle.vm_facts.specs.declared.entry.Entry.TheVariants as entries
+use Rattle.vm_facts.specs.declared.stop.Stop.{Stop}
+use Rattle.io_edge.specs.FileHolding.{NamedFile}
+use Rattle.flat_state.specs.Flat.{Process, FlatState, Inputs, can_step, is_ready, ready_if}
+use Rattle.flat_state.specs.Numbers.{AllDistinct, pids_of}
+use Rattle.page_model.specs.Pages.{changed}
+use Rattle.page_model.specs.Swapper.{is_out, residence_of}
+use Rattle.page_model.specs.Placement.{Residence}
+use Rattle.kernel_model.specs.Kernel.{Kernel, note_step}
+use Rattle.machine_state.specs.Machine.{Standing}
+use Rattle.machine_state.specs.Swapping.{IsIn}
+use Rattle.paging_units.specs.Stops.{StopsAt}
+use Rattle.flat_laws.proofs.Finding.{found_by_number, found_passes}
+use Rattle.run_model.specs.declared.mark.Mark.TheVariants as marks
+use Rattle.run_model.specs.State.{State}
+use Rattle.run_model.specs.After.{after, brought_in, place_at}
+use Rattle.run_model.specs.Next.{when, or_else, due_unit, next_mark, pid_if, next_ready, next_turned, last_turned, goes_on, turn_instructions, turn_unit, turn_by, under, next_unit}
+use Rattle.page_model.specs.Placement.{Due}
+use Rattle.run_units.proofs.Swapping.{note_made, in_made}
+use Rattle.step_units.specs.Machines.{MachineAt}
+use Rattle.step_units.specs.Stepped.{StopLeads}
+use Rattle.line_units.specs.Lines.{IsClear, TurnDue, TurnBegun, CameIn}
+use Rattle.line_units.proofs.Stopping.{stops_here}
+use Rattle.line_units.proofs.Beginning.{one_leads, next_turn}
+
+-- Who has a turn can step.
+
+ready_found : (F : FlatState) (above p : ℕ) → AllDistinct (pids_of F) → next_ready F above ≡ Some p → can_step F p ≡ true
+ready_found F above p distinct h = go (find (λ (q : Process). is_ready q && nat_lt above q.pid) F.processes) refl h
+  where
+    number : (z : Process) → Some z.pid ≡ Some p → z.pid ≡ p
+    number z e = cc
+
+    go : (o : Option Process) → find (λ (q : Process). is_ready q && nat_lt above q.pid) F.processes ≡ o → pid_if o ≡ Some p → can_step F p ≡ true
+    go None e k = absurd cc
+    go (Some z) e k = subst (λ (n : ℕ). can_step F n ≡ true) (number z k)
+        (ap ready_if (found_by_number (λ (q : Process). is_ready q && nat_lt above q.pid) F.processes z distinct e)
+        ∙ (and_parts (is_ready z) (nat_lt above z.pid) (found_passes (λ (q : Process). is_ready q && nat_lt above q.pid) F.processes z e)).0)
+
+pub turned_ready : (F : FlatState) (last p : ℕ) → AllDistinct (pids_of F) → next_turned F last ≡ Some p → can_step F p ≡ true
+turned_ready F last p distinct h = go (next_ready F last) refl h
+  where
+    go : (o : Option ℕ) → next_ready F last ≡ o → or_else o (next_ready F 0) ≡ Some p → can_step F p ≡ true
+    go None e k = ready_found F 0 p distinct k
+    go (Some q) e k = ready_found F last p distinct (e ∙ k)
+
+below : (a b : ℕ) → a < b → nat_lt a b ≡ true
+below a b e = grind (arith, nat_tests)
+
+all_so : (x y z : Bool) → x ≡ true → y ≡ true → z ≡ true → (x && (y && z)) ≡ true
+all_so true true true a b c = refl
+all_so false y z a b c = absurd cc
+all_so true false z a b c = absurd cc
+all_so true true false a b c = absurd cc
+
+-- it goes on, where the limit isn't reached
+fresh_goes : (A : Inputs) (s : State) (pid : ℕ) → can_step s.point.flat pid ≡ true → s.count < A.limit → goes_on A s pid (s.count + turn_instructions) ≡ true
+fresh_goes A s pid steps l =
+    all_so (can_step s.point.flat pid) (nat_lt s.count A.limit) (nat_lt s.count (s.count + turn_instructions)) steps (below s.count A.limit l)
+    (below s.count (s.count + turn_instructions) (omega arith))
+
+pub turn_begins : (A : Inputs) (s : State) (old : Standing) (l : Kernel) (holds : Option (List NamedFile)) (image : List ℕ) (pid : ℕ) → MachineAt A s old holds image → TurnDue A s pid
+    → l ≡ note_step old.kernel (entries.Turn pid) → TurnBegun A s old.kernel image pid l
+unfolding after
+turn_begins A s old l holds image pid at d m =
+    let u : Entry = entries.Turn pid in
+    record {
+      state = after A s u;
+      leads = one_leads A s old.kernel l image (Some image) u (next_turn A s pid d) (note_made A s old.kernel l image u tt m);
+      clear = record { clear = d.over.clear; between = d.over.between };
+      place = refl;
+      point = refl;
+      count = refl;
+      lines = refl;
+      mark = refl;
+      on = fresh_goes A (after A s u) pid (turned_ready s.point.flat (last_turned s.mark) pid at.at.run.numbers.pids d.turned) d.below;
+    }
+
+-- Coming in.
+
+moved_in : (rs : List Residence) (pid at : ℕ) → (residence_of (changed (λ (r : Residence). r.pid) pid (λ (r : Residence). record r { out = false; since = at }) rs) pid).out ≡ false
+moved_in [] pid at = refl
+moved_in (r ∷ rs) pid at = go (moved_in rs pid at) (r.pid == pid) refl
+  where
+    more : List Residence
+    more = changed (λ (x : Residence). x.pid) pid (λ (x : Residence). record x { out = false; since = at }) rs
+
+    go : (residence_of more pid).out ≡ false → (b : Bool) → (r.pid == pid) ≡ b → (residence_of (cond b (record r { out = false; since = at } ∷ rs) (r ∷ more)) pid).out ≡ false
+    go later true e = ap (λ (b : Bool). Residence.out (cond b (record r { out = false; since = at }) (residence_of rs pid))) e
+    go later false e = ap (λ (b : Bool). Residence.out (cond b r (residence_of more pid))) e ∙ later
+
+comes_next : (A : Inputs) (s : State) (pid since : ℕ) → IsClear s → s.mark ≡ marks.Turn pid since → goes_on A s pid (since + turn_instructions) ≡ true → is_out s.place pid ≡ true
+    → next_unit A s ≡ Some (entries.SwapIn pid)
+unfolding next_unit
+comes_next A s pid since c m g o =
+    ap (λ (ds : List Due). or_else (due_unit s.place ds) (or_else (under A s s.mark) (next_mark A s))) c.clear
+    ∙ ap (λ (x : Option Entry). or_else x (next_mark A s)) (ap (under A s) m ∙ ap (λ (b : Bool). when b (turn_unit A s pid)) g ∙ ap (turn_by A s pid) o)
+
+pub comes_in : (A : Inputs) (s : State) (old new : Standing) (holds : Option (List NamedFile)) (image : List ℕ) (pid since : ℕ) → MachineAt A s old holds image → IsClear s
+    → s.mark ≡ marks.Turn pid since → goes_on A s pid (since + turn_instructions) ≡ true → is_out s.place pid ≡ true → IsIn old.kernel new.kernel pid (Some image)
+    → CameIn A s old.kernel image pid since new.kernel
+unfolding after
+comes_in A s old new holds image pid since at c m g o i =
+    let u : Entry = entries.SwapIn pid in
+    record {
+      state = after A s u;
+      leads = one_leads A s old.kernel new.kernel image (Some image) u (comes_next A s pid since c m g o) (in_made A s old.kernel new.kernel image pid i);
+      clear = record { clear = c.clear; between = c.between };
+      resident = moved_in s.place.residents pid (place_at s u);
+      point = refl;
+      count = refl;
+      lines = refl;
+      mark = ap brought_in m;
+      on = g;
+    }
+
+pub coming_in_stops : (A : Inputs) (s : State) (old new : Standing) (holds : Option (List NamedFile)) (image : List ℕ) (j : Option (List ℕ)) (pid since : ℕ) (stop : Stop)
+    → MachineAt A s old holds image
+    → IsClear s → s.mark ≡ marks.Turn pid since → goes_on A s pid (since + turn_instructions) ≡ true → is_out s.place pid ≡ true
+    → StopsAt (entries.SwapIn pid) old.kernel (Some image) stop new j → StopLeads A s old.kernel image stop new j
+coming_in_stops A s old new holds image j pid since stop at c m g o x =
+    stops_here A s old.kernel image stop new j (entries.SwapIn pid) (comes_next A s pid since c m g o) x
