@@ -1,0 +1,20 @@
+-- A process that runs, at a state of a run.
+use Rattle.std.specs.Prelude.{◌≡◌, ℕ, Bool, List}
+use Rattle.vm_facts.specs.declared.regs.Regs.{Regs}
+use Rattle.flat_state.specs.Space.{Space}
+use Rattle.flat_state.specs.Flat.{Process, Inputs}
+use Rattle.machine_state.specs.Machine.{Standing}
+use Rattle.proc_calls.specs.Reading.{AreNamed}
+use Rattle.run_model.specs.State.{State}
+use Rattle.run_units.specs.Serving.{At}
+use Rattle.run_units.specs.Touching.{IsRunning}
+
+-- A machine with the images of a run stands at a state of it, at which a process runs, with these registers.
+pub record RunsWith (A : Inputs) (s : State) (now : Bool) (m : Standing) (pid : ℕ) (regs : Regs) : Type 0 where
+  pub image : List ℕ
+  pub process : Process
+  pub space : Space
+  pub named : AreNamed A.images m.images
+  pub at : At A s m.kernel image
+  pub running : IsRunning A s pid now process space
+  pub has : process.regs ≡ regs

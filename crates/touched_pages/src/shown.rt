@@ -1,0 +1,79 @@
+//! The memory of a process, of which some pages alone are shown.
+ghost use Rattle.std.specs.Prelude.{◌≡◌};
+ghost use Rattle.flat_state.specs.PageNames.{same_page, is_among};
+ghost use Rattle.flat_model.specs.Shown.{is_shown};
+ghost use Rattle.machine_state.specs.UserMemory.{page_in};
+
+use machine_state::SpaceMemory;
+use vm_facts::{ByteRead, MayWrite, Memory, Page};
+
+/// The memory of a process; an access to another page than these misses.
+#[derive(Drop)]
+pub struct Shown<'m, 'p> {
+    pub memory: SpaceMemory<'m>,
+    pub pages: &'p [Page],
+}
+
+fn is_same(page: Page, other: Page) -> bool
+    ensures { result ≡ same_page page other }
+{
+    page == other
+}
+
+fn is_among(page: Page, pages: &[Page]) -> bool
+    ensures { result ≡ is_among page pages.now }
+{
+    for other in pages {
+        if is_same(page, *other) {
+            return true;
+        }
+    }
+    false
+}
+
+impl Shown<'_, '_> {
+    // Whether an address is in one of the pages, or in none at all.
+    fn shows(&self, address: u32) -> bool
+        ensures { result ≡ is_shown self.now.pages.now (page_in self.now.memory.machine.now.kernel.place self.now.memory.layout.sid address) }
+    {
+        match self.memory.page_of(address) {
+            Some(page) => is_among(page, self.pages),
+            None => true,
+        }
+    }
+}
+
+impl Memory for Shown<'_, '_> {
+    ghost use Rattle.touched_pages.specs.Shown.{shown_in, WroteShown};
+
+    ghost answers = { λ s. shown_in s.memory.machine.now.kernel s.memory.layout.sid s.pages.now };
+
+    ghost wrote = { λ s ws t. WroteShown s.memory.machine s.memory.layout s.pages.now ws t.memory.machine t.memory.layout t.pages.now };
+
+    fn read(&self, address: u32) -> ByteRead {
+        if self.shows(address) {
+            self.memory.read(address)
+        } else {
+            ByteRead::Miss
+        }
+    }
+
+    fn may_write(&self, address: u32) -> MayWrite {
+        match self.memory.may_write(address) {
+            MayWrite::May if !self.shows(address) => MayWrite::Miss,
+            answer => answer,
+        }
+    }
+
+    fn write(&mut self, address: u32, byte: u8) {
+        self.memory.write(address, byte);
+    }
+
+    ghost use Rattle.touched_pages.specs.ShownLaws.{shown_none, shown_more, shown_after};
+
+    ghost wrote_none = { λ s. shown_none s.memory.machine s.memory.layout s.pages.now };
+
+    ghost wrote_more = { λ s t u xs ys. shown_more s.memory.machine t.memory.machine u.memory.machine s.memory.layout t.memory.layout u.memory.layout s.pages.now t.pages.now u.pages.now xs ys };
+
+    ghost wrote_answers = { λ s t ws. shown_after s.memory.machine t.memory.machine s.memory.layout t.memory.layout s.pages.now t.pages.now ws };
+}
