@@ -1,0 +1,98 @@
+-- What is so of a machine in which first processes begin.
+use Rattle.std.proofs.Common.{◌≡◌, ℕ, ◌+◌, ◌/◌, ◌<◌, ◌≤◌, List, [], ◌∷◌, ◌++◌, length, sym, ap, ◌∙◌, subst, arith}
+use Rattle.std.specs.Prelude.{None}
+use Rattle.std.proofs.lemmas.List.{length-replicate}
+use Rattle.vm_facts.specs.declared.page.Page.{Page}
+use Rattle.vm_facts.specs.declared.page.Page.TheVariants.{Stack}
+use Rattle.page_model.specs.Placement.{Due, Start, CopyOf}
+use Rattle.page_model.specs.Rank.{HasRoom}
+use Rattle.kernel_model.specs.Kernel.{Kernel}
+use Rattle.kernel_model.specs.Numbers.{Numbered}
+use Rattle.kernel_laws.proofs.Sound.NumbersApart.{begin_numbered}
+use Rattle.machine_state.specs.Applying.{facts_named}
+use Rattle.machine_state.specs.Beginning.{StartedFirst}
+use Rattle.machine_state.specs.Machine.{Standing}
+use Rattle.holder_laws.specs.Holders.{HoldersStand}
+use Rattle.holder_laws.proofs.First.{fresh_stands, started_stands, started_same}
+use Rattle.ready_laws.specs.Ready.{IsRunning, RunsOn, RunsDue}
+use Rattle.ready_laws.proofs.Running.{runs_self, runs_both}
+use Rattle.ready_laws.proofs.Lines.{begin_continues}
+use Rattle.run_start.specs.Starting.{IsNew}
+use Rattle.run_start.specs.declared.starting.Started.{Started}
+use Rattle.run_start.specs.declared.starting.Started.TheVariants as starteds
+use Rattle.run_start.specs.Beginning.{BeginsAll, Begins}
+use Rattle.run_start.specs.Filling.{AreStarts}
+
+-- a machine in which a first process may begin
+pub record MayBegin (m : Standing) : Type 0 where
+  pub running : IsRunning m
+  pub starts : AreStarts m.kernel.place.due
+  pub holders : HoldersStand m.kernel
+  pub same : m.kernel.next_sid ≡ m.kernel.next_pid
+  pub numbered : Numbered m.kernel
+
+pub new_may : (m : Standing) → IsNew m → Numbered m.kernel → MayBegin m
+new_may m n numbered = record {
+  running = record { running = ap (λ (k : Kernel). k.stopped) n.kernel; whole = n.before ∙ sym (ap (λ (k : Kernel). k.holdings) n.kernel) };
+  starts = subst (λ (k : Kernel). AreStarts k.place.due) (sym n.kernel) tt;
+  holders = subst HoldersStand (sym n.kernel) (fresh_stands (facts_named m.images) m.params.frames);
+  same = ap (λ (k : Kernel). k.next_sid) n.kernel ∙ sym (ap (λ (k : Kernel). k.next_pid) n.kernel);
+  numbered = numbered;
+}
+
+pub new_frames : (m : Standing) → IsNew m → length m.kernel.place.holds ≡ m.params.frames
+new_frames m n = ap (λ (k : Kernel). length k.place.holds) n.kernel ∙ length-replicate m.params.frames None
+
+starts_more : (ds : List Due) (q : Page) → AreStarts ds → AreStarts (ds ++ Start q ∷ [])
+starts_more [] q a = tt
+starts_more (Start p ∷ ds) q a = starts_more ds q a
+starts_more (CopyOf p parent ∷ ds) q a = absurd a
+
+-- one more
+pub next_may : (old next : Standing) (n : ℕ) → MayBegin old → StartedFirst old next n → RunsOn old next 0 × MayBegin next
+next_may old next n b s =
+    let d : RunsDue old next 0 (old.kernel.place.due ++ Start (Stack old.kernel.next_pid 0) ∷ []) = begin_continues old next n b.running s in (
+      d.on,
+      record {
+        running = record { running = d.on.running; whole = d.on.whole };
+        starts = subst AreStarts (sym d.due) (starts_more old.kernel.place.due (Stack old.kernel.next_pid 0) b.starts);
+        holders = started_stands old next n s b.same b.numbered b.holders;
+        same = started_same old next n s b.same;
+        numbered = subst (λ (m : Standing). Numbered m.kernel) (sym s.step) (begin_numbered old.kernel s.found n s.named.name s.named.facts b.same b.numbered);
+      },
+    )
+
+pub all_may : (ns : List ℕ) (old new : Standing) → MayBegin old → BeginsAll ns old new → RunsOn old new 0 × MayBegin new
+all_may [] old new b h = subst (λ (m : Standing). RunsOn old m 0 × MayBegin m) (sym h) (runs_self old b.running, b)
+all_may (n ∷ ns) old new b h =
+    let next : Standing = h.0 in
+    let one = next_may old next n b h.1 in
+    let more = all_may ns next new one.1 h.2 in
+    (runs_both old next new 0 0 one.0 more.0, more.1)
+
+-- the room of the hands
+roomy : (n : ℕ) → 64 ≤ n → (0 < n / 4) × (0 + n / 4 < n)
+roomy n l = (omega (arith, l), omega (arith, l))
+
+pub room_in : (old new : Standing) → IsNew old → 64 ≤ old.params.frames → RunsOn old new 0 → HasRoom new.kernel.place []
+room_in old new n l on =
+    let r = roomy old.params.frames l in
+    let e : old.params.frames ≡ length new.kernel.place.holds = sym (on.frames ∙ new_frames old n) in
+    record { quarter = subst (λ (c : ℕ). 0 < c / 4) e r.0; rest = subst (λ (c : ℕ). 0 + c / 4 < c) e r.1 }
+
+-- All of it.
+
+pub record AllBegan (numbers : List ℕ) (old new : Standing) : Type 0 where
+  pub all : BeginsAll numbers old new
+  pub on : RunsOn old new 0
+  pub may : MayBegin new
+
+pub all_began : (started : Started) (numbers : List ℕ) (old new : Standing) → IsNew old → Numbered old.kernel → started ≡ starteds.Ok → Begins started numbers old new → AllBegan numbers old new
+all_began started numbers old new n numbered e b =
+    let all : BeginsAll numbers old new = subst (λ (s : Started). Begins s numbers old new) e b in
+    let may = all_may numbers old new (new_may old n numbered) all in
+    record { all = all; on = may.0; may = may.1 }
+
+-- an answer that is the one and the other
+pub never_both : {C : Type 0} (started : Started) (pid : ℕ) → started ≡ starteds.Ok → started ≡ starteds.NoSpace pid → C
+never_both started pid a b = absurd (let e : starteds.Ok ≡ starteds.NoSpace pid = sym a ∙ b in cc)

@@ -1,0 +1,17 @@
+use Rattle.std.proofs.Common.{◌≡◌, ◌+◌, ◌≤◌, false, [], length, drop}
+use Rattle.machine_state.specs.Machine.{Standing}
+use Rattle.run_start.specs.declared.starting.Started.{Started}
+use Rattle.run_start.specs.Starting.{AreAmong}
+use Rattle.run_start.specs.Beginning.{Begins}
+use Rattle.run_start.proofs.beginning.begin_all.Given as goal
+
+-- what begins in the other images, from here, begins in all
+abbrev pub invariant-loop-image : goal.invariant-loop-image
+invariant-loop-image l = record {
+  running : l.m.kernel.stopped ≡ false;
+  whole : l.m.before ≡ l.m.kernel.holdings;
+  empty : l.m.kernel.journal ≡ [];
+  few : l.m.kernel.next_pid + length (drop l.image-index l.first) ≤ 17;
+  numbers : AreAmong l.m.images (drop l.image-index l.first);
+  begins : (started : Started) (new : Standing) → Begins started (drop l.image-index l.first) l.m new → Begins started l.first l.fn.m new;
+}

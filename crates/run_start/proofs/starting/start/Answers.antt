@@ -1,0 +1,86 @@
+use Rattle.std.proofs.Common.{refl}
+use Rattle.std.proofs.lemmas.Result.{err_from_is_err_and}
+use Rattle.proc_calls.proofs.CopiedPages.{area_next, files_next}
+use Rattle.run_start.proofs.Begun.{AllBegan, all_began, room_in, never_both}
+use Rattle.run_start.proofs.Filled.{filling_stopped}
+use Rattle.run_start.proofs.Going.{goes_on}
+use Rattle.run_start.proofs.Led.{start_leads, start_stops, begin_stops}
+use Rattle.run_start.proofs.Placing.{answers_as}
+use Rattle.run_start.proofs.starting.start.Goals as goal
+
+pub fill_due-requires-clause-running : goal.fill_due-requires-clause-running
+fill_due-requires-clause-running g c =
+    let b : AllBegan c.args.first.now c.args.m.now c.begin_all.new.m =
+    all_began c.in_ok-started.started c.args.first.now c.args.m.now c.begin_all.new.m c.requires.new c.sound.ensures.numbered c.in-Ok.is c.in_ok-started.ensures.began in
+    b.may.running.running
+
+pub fill_due-requires-clause-whole : goal.fill_due-requires-clause-whole
+fill_due-requires-clause-whole g c =
+    let b : AllBegan c.args.first.now c.args.m.now c.begin_all.new.m =
+    all_began c.in_ok-started.started c.args.first.now c.args.m.now c.begin_all.new.m c.requires.new c.sound.ensures.numbered c.in-Ok.is c.in_ok-started.ensures.began in
+    b.may.running.whole
+
+pub fill_due-requires-clause-area : goal.fill_due-requires-clause-area
+fill_due-requires-clause-area g c =
+    let b : AllBegan c.args.first.now c.args.m.now c.begin_all.new.m =
+    all_began c.in_ok-started.started c.args.first.now c.args.m.now c.begin_all.new.m c.requires.new c.sound.ensures.numbered c.in-Ok.is c.in_ok-started.ensures.began in
+    area_next c.args.m.now c.begin_all.new.m (g.D.SwapDev.blocks c.args.swap.now) (g.D.SwapDev.blocks c.args.swap.now) b.on.params refl c.requires.area
+
+pub fill_due-requires-clause-files : goal.fill_due-requires-clause-files
+fill_due-requires-clause-files g c =
+    let b : AllBegan c.args.first.now c.args.m.now c.begin_all.new.m =
+    all_began c.in_ok-started.started c.args.first.now c.args.m.now c.begin_all.new.m c.requires.new c.sound.ensures.numbered c.in-Ok.is c.in_ok-started.ensures.began in
+    files_next c.args.m.now c.begin_all.new.m (g.F.Files.holds c.args.files.now) (g.F.Files.holds c.args.files.now) b.on.images refl c.requires.files
+
+pub fill_due-requires-clause-due : goal.fill_due-requires-clause-due
+fill_due-requires-clause-due g c =
+    let b : AllBegan c.args.first.now c.args.m.now c.begin_all.new.m =
+    all_began c.in_ok-started.started c.args.first.now c.args.m.now c.begin_all.new.m c.requires.new c.sound.ensures.numbered c.in-Ok.is c.in_ok-started.ensures.began in
+    b.may.starts
+
+pub fill_due-requires-clause-room : goal.fill_due-requires-clause-room
+fill_due-requires-clause-room g c =
+    let b : AllBegan c.args.first.now c.args.m.now c.begin_all.new.m =
+    all_began c.in_ok-started.started c.args.first.now c.args.m.now c.begin_all.new.m c.requires.new c.sound.ensures.numbered c.in-Ok.is c.in_ok-started.ensures.began in
+    room_in c.args.m.now c.begin_all.new.m c.requires.new c.requires.frames b.on
+
+pub returns-in_ok-fill_due-in-Ok-clause-space : goal.returns-in_ok-fill_due-in-Ok-clause-space
+returns-in_ok-fill_due-in-Ok-clause-space g c A s = answers_as A c.in_ok-started.started c.args.first.now c.args.m.now c.begin_all.new.m c.requires.new s c.in_ok-started.ensures.began
+
+pub returns-in-NoSpace-clause-space : goal.returns-in-NoSpace-clause-space
+returns-in-NoSpace-clause-space g c A s = answers_as A c.in_ok-started.started c.args.first.now c.args.m.now c.begin_all.new.m c.requires.new s c.in_ok-started.ensures.began
+
+pub returns-in_ok-fill_due-in-Ok-clause-goes_on : goal.returns-in_ok-fill_due-in-Ok-clause-goes_on
+returns-in_ok-fill_due-in-Ok-clause-goes_on g c _ =
+    let b : AllBegan c.args.first.now c.args.m.now c.begin_all.new.m =
+    all_began c.in_ok-started.started c.args.first.now c.args.m.now c.begin_all.new.m c.requires.new c.sound.ensures.numbered c.in-Ok.is c.in_ok-started.ensures.began in
+    goes_on c.args.m.now c.begin_all.new.m c.fill_due.new.m (g.F.Files.holds c.args.files.now) (g.D.SwapDev.image c.args.swap.now) (g.D.SwapDev.image c.fill_due.new.swap) c.requires.new b.on b.may c.begin_all.ensures.journal c.in_ok-fill_due-in-Ok.ensures.filled
+
+pub returns-in_ok-fill_due-in-Ok-clause-leads : goal.returns-in_ok-fill_due-in-Ok-clause-leads
+returns-in_ok-fill_due-in-Ok-clause-leads g c A image told e _ =
+    let b : AllBegan c.args.first.now c.args.m.now c.begin_all.new.m =
+    all_began c.in_ok-started.started c.args.first.now c.args.m.now c.begin_all.new.m c.requires.new c.sound.ensures.numbered c.in-Ok.is c.in_ok-started.ensures.began in
+    start_leads A c.args.first.now c.args.m.now c.begin_all.new.m (g.F.Files.holds c.args.files.now) image c.requires.new c.requires.frames told b.all b.on c.fill_due.new.m (g.D.SwapDev.image c.args.swap.now) (g.D.SwapDev.image c.fill_due.new.swap) e b.may c.in_ok-fill_due-in-Ok.ensures.filled
+
+pub returns-in_err-fill_due-in-Ok-clause-stopped : goal.returns-in_err-fill_due-in-Ok-clause-stopped
+returns-in_err-fill_due-in-Ok-clause-stopped g c =
+    let p = err_from_is_err_and c.from_residual-in_err-fill_due-in-Ok.result c.from_residual-in_err-fill_due-in-Ok.ensures.1 in
+    rw (p.1) (filling_stopped c.begin_all.new.m.kernel.place.due c.begin_all.new.m c.fill_due.new.m (g.F.Files.holds c.args.files.now) (g.D.SwapDev.image c.args.swap.now) (g.D.SwapDev.image c.fill_due.new.swap) c.in_err-fill_due-in-Ok.field-0.0 c.in_err-fill_due-in-Ok.ensures.filled)
+
+pub returns-in_err-fill_due-in-Ok-clause-stops : goal.returns-in_err-fill_due-in-Ok-clause-stops
+returns-in_err-fill_due-in-Ok-clause-stops g c A image told e =
+    let b : AllBegan c.args.first.now c.args.m.now c.begin_all.new.m =
+    all_began c.in_ok-started.started c.args.first.now c.args.m.now c.begin_all.new.m c.requires.new c.sound.ensures.numbered c.in-Ok.is c.in_ok-started.ensures.began in
+    let p = err_from_is_err_and c.from_residual-in_err-fill_due-in-Ok.result c.from_residual-in_err-fill_due-in-Ok.ensures.1 in
+    rw (p.1, p.2) (start_stops A c.args.first.now c.args.m.now c.begin_all.new.m (g.F.Files.holds c.args.files.now) image c.requires.new c.requires.frames told b.all b.on c.fill_due.new.m (g.D.SwapDev.image c.args.swap.now) (g.D.SwapDev.image c.fill_due.new.swap) c.in_err-fill_due-in-Ok.field-0.0 e c.in_err-fill_due-in-Ok.ensures.filled)
+
+pub returns-in_err-started-clause-stops : goal.returns-in_err-started-clause-stops
+returns-in_err-started-clause-stops g c A image told e =
+    let p = err_from_is_err_and c.from_residual.result c.from_residual.ensures.1 in
+    rw (p.1, p.2) (begin_stops A c.begin_all.new.m image c.in_err-started.field-0.0 (g.D.SwapDev.image c.args.swap.now) c.in_err-started.ensures.cause c.in_err-started.ensures.stopped c.begin_all.ensures.journal e)
+
+pub returns-in-NoSpace-clause-none_made : goal.returns-in-NoSpace-clause-none_made
+returns-in-NoSpace-clause-none_made g c pid e = c.begin_all.ensures.journal
+
+pub returns-in_ok-fill_due-in-Ok-clause-none_made : goal.returns-in_ok-fill_due-in-Ok-clause-none_made
+returns-in_ok-fill_due-in-Ok-clause-none_made g c pid e = never_both c.in_ok-started.started pid c.in-Ok.is (cc)

@@ -1,0 +1,4 @@
+pub mod Starting
+pub mod Beginning
+pub mod Filling
+pub mod Leading

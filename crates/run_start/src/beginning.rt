@@ -1,0 +1,30 @@
+//! The first processes begin one by one.
+ghost use Rattle.std.specs.Prelude.{◌≡◌, ◌≤◌, ◌+◌, true, false, [], length, IfOk, IfErr, OnErr};
+ghost use Rattle.machine_state.specs.Conditions.{HasStopped};
+ghost use Rattle.run_start.specs.Starting.{AreAmong};
+ghost use Rattle.run_start.specs.Beginning.{Begins};
+
+use crate::starting::Started;
+use machine_state::Machine;
+use vm_facts::Stop;
+
+/// A process begins in each of these images, until the pieces of one find no place.
+pub(crate) fn begin_all(m: &mut Machine, first: &[u32]) -> Result<Started, Stop>
+    requires running { m.old.kernel.stopped ≡ false }
+    requires whole { m.old.before ≡ m.old.kernel.holdings }
+    requires empty { m.old.kernel.journal ≡ [] }
+    requires few { m.old.kernel.next_pid + length first.now ≤ 17 }
+    requires numbers { AreAmong m.old.images first.now }
+    ensures began { IfOk result (λ started. Begins started first.now m.old m.new) }
+    ensures stopped { OnErr result (m.new.kernel.stopped ≡ true) }
+    ensures cause { IfErr result (λ stop. stop ≡ Stop.NoMemory) }
+    ensures journal { m.new.kernel.journal ≡ [] }
+{
+    for image in first {
+        let pid = m.next_numbers().0;
+        if !m.begin(pid, *image)? {
+            return Ok(Started::NoSpace(pid));
+        }
+    }
+    Ok(Started::Ok)
+}

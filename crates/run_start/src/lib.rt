@@ -1,0 +1,8 @@
+//! The start of a run: its first processes begin, and their stack pages are filled.
+#![tactic(auto)]
+
+mod beginning;
+mod filling;
+mod starting;
+
+pub use starting::{Started, start};

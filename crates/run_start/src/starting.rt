@@ -1,0 +1,62 @@
+//! The first processes of a run start.
+ghost use Rattle.std.specs.Prelude.{◌≡◌, ◌≤◌, ℕ, true, List, [], length, Some, IfOk, IfErr, OnErr, Ok};
+ghost use Rattle.flat_state.specs.Flat.{Inputs};
+ghost use Rattle.flat_model.specs.Asked.{start_held};
+ghost use Rattle.machine_state.specs.Done.{CountsPages, CountsReads, CountsWrites};
+ghost use Rattle.machine_state.specs.Files.{AreFiles};
+ghost use Rattle.run_start.specs.Starting.{IsNew, AreAmong, StartsFrom, started_by, HasStarted};
+ghost use Rattle.run_start.specs.Leading.{IsTold, StartLeads, StartStops};
+
+use crate::beginning::begin_all;
+use crate::filling::fill_due;
+use io_edge::{Files, SwapDev};
+use machine_state::Machine;
+use vm_facts::Stop;
+
+/// What the start of a run answers.
+#[derive(Clone, Copy, Debug, PartialEq, Eq, Drop)]
+pub enum Started {
+    /// All first processes began.
+    Ok,
+    /// The pieces of this first process find no place.
+    NoSpace(u32),
+}
+
+/// Starts the first processes, in images of these numbers, and fills their stack pages.
+pub fn start<F: Files, D: SwapDev>(
+    m: &mut Machine,
+    files: &mut F,
+    swap: &mut D,
+    first: &[u32],
+) -> Result<Started, Stop>
+    requires new { IsNew m.old }
+    requires frames { 64 ≤ m.old.params.frames }
+    requires few { length first.now ≤ 16 }
+    requires numbers { AreAmong m.old.images first.now }
+    requires area { m.old.params.swap_blocks ≤ D.blocks swap.old }
+    requires files { AreFiles m.old.images (F.holds files.old) }
+    ensures space { (A : Inputs) → StartsFrom A m.old first.now → IfOk result (λ started. started ≡ started_by (start_held A)) }
+    ensures none_made { (pid : ℕ) → result ≡ Ok (Started.NoSpace pid) → m.new.kernel.journal ≡ [] }
+    ensures goes_on { result ≡ Ok Started.Ok → HasStarted m.old m.new }
+    ensures leads { (A : Inputs) (image : List ℕ) → IsTold A m.old first.now (F.holds files.old) image → D.image swap.old ≡ Some image
+        → result ≡ Ok Started.Ok → StartLeads A m.new (F.holds files.old) image (D.image swap.new) }
+    ensures stops { (A : Inputs) (image : List ℕ) → IsTold A m.old first.now (F.holds files.old) image → D.image swap.old ≡ Some image
+        → IfErr result (λ stop. StartStops A m.new image stop (D.image swap.new)) }
+    ensures stopped { OnErr result (m.new.kernel.stopped ≡ true) }
+    ensures files_lead { F.leads files.old files.new }
+    ensures swap_leads { D.leads swap.old swap.new }
+    ensures holds { F.holds files.new ≡ F.holds files.old }
+    ensures blocks { D.blocks swap.new ≡ D.blocks swap.old }
+    ensures open_faults { F.open_faults files.new ≡ F.open_faults files.old }
+    ensures page_faults { CountsPages result (F.page_faults files.old) (F.page_faults files.new) }
+    ensures read_faults { CountsReads result (D.read_faults swap.old) (D.read_faults swap.new) }
+    ensures write_faults { CountsWrites result (D.write_faults swap.old) (D.write_faults swap.new) }
+{
+    m.sound();
+    let started = begin_all(m, first)?;
+    match started {
+        Started::Ok => fill_due(m, files, swap)?,
+        Started::NoSpace(_) => {}
+    }
+    Ok(started)
+}
