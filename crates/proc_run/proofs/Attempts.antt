@@ -1,0 +1,145 @@
+-- What an instruction that was tried came to, and the machine that it was tried in.
+use Rattle.std.proofs.Common.{◌≡◌, ◌≢◌, arith, ◌+◌, ℕ, ℤ, Bool, List, [], Option, Some, None, Result, Ok, Err, refl, sym, ap, ◌∙◌, subst}
+use Rattle.vm_facts.specs.Answers.{ByteWrite}
+use Rattle.vm_facts.specs.declared.regs.Regs.{Regs}
+use Rattle.io_edge.specs.FileHolding.{NamedFile}
+use Rattle.user_vax.specs.Program.{run}
+use Rattle.user_vax.specs.Effects.{Effect}
+use Rattle.user_vax.specs.Instruction.{instruction, answer_of, answer_of_call, registers_after, writes_of}
+use Rattle.user_vax.specs.declared.refused.Refused.{Refused}
+use Rattle.user_vax.specs.declared.refused.Refused.TheVariants.{Miss, Below, Signal}
+use Rattle.user_vax.specs.declared.stepping.Stepped.{Stepped}
+use Rattle.user_vax.specs.declared.stepping.Stepped.TheVariants as steps
+use Rattle.flat_state.specs.Space.{Space}
+use Rattle.flat_state.specs.Flat.{Process, Inputs}
+use Rattle.machine_state.specs.Machine.{Standing}
+use Rattle.machine_state.specs.UserMemory.{CanLend, Wrote, writes_in}
+use Rattle.proc_calls.specs.Callers.{regs_of}
+use Rattle.run_model.specs.State.{State}
+use Rattle.run_units.proofs.Calling.{calls_write_none}
+use Rattle.ready_laws.specs.Ready.{IsReady, Continues}
+use Rattle.ready_laws.proofs.Running.{continues_both}
+use Rattle.ready_laws.proofs.Entries.{room_continues}
+use Rattle.proc_run.specs.Calls.{own_answers, MadeCall}
+use Rattle.proc_run.specs.Runs.{IsSteady, RunsAt}
+
+-- What a step answers.
+
+none_called : (o : Option ℤ) → answer_of_call o ≡ steps.Done → o ≡ None
+none_called None e = refl
+none_called (Some number) e = absurd cc
+
+some_called : (o : Option ℤ) (number : ℤ) → answer_of_call o ≡ steps.Call number → o ≡ Some number
+some_called None number e = absurd cc
+some_called (Some n) number e = cc
+
+pub did_all : (r : Result Effect Refused) → answer_of r ≡ steps.Done → (effect : Effect) × (r ≡ Ok effect) × (effect.call ≡ None)
+did_all (Ok effect) e = (effect, refl, none_called effect.call e)
+did_all (Err (Miss address write)) e = absurd cc
+did_all (Err (Below address)) e = absurd cc
+did_all (Err (Signal number)) e = absurd cc
+
+never_called : (o : Option ℤ) (s : Stepped) → answer_of_call o ≡ s → ((number : ℤ) → s ≢ steps.Call number) → s ≢ steps.Done → ⊥
+never_called None s e f g = g (sym e)
+never_called (Some number) s e f g = f number (sym e)
+
+pub called : (r : Result Effect Refused) (number : ℤ) → answer_of r ≡ steps.Call number → (effect : Effect) × (r ≡ Ok effect) × (effect.call ≡ Some number)
+called (Ok effect) number e = (effect, refl, some_called effect.call number e)
+called (Err (Miss address write)) number e = absurd cc
+called (Err (Below address)) number e = absurd cc
+called (Err (Signal signal)) number e = absurd cc
+
+pub missed : (r : Result Effect Refused) (address : ℕ) (write : Bool) → answer_of r ≡ steps.Miss address write → r ≡ Err (Miss address write)
+missed (Ok effect) address write e = absurd (never_called effect.call (steps.Miss address write) e (λ n z. absurd cc) (λ z. absurd cc))
+missed (Err (Miss a w)) address write e = cc
+missed (Err (Below a)) address write e = absurd cc
+missed (Err (Signal n)) address write e = absurd cc
+
+pub fell : (r : Result Effect Refused) (address : ℕ) → answer_of r ≡ steps.Below address → r ≡ Err (Below address)
+fell (Ok effect) address e = absurd (never_called effect.call (steps.Below address) e (λ n z. absurd cc) (λ z. absurd cc))
+fell (Err (Miss a w)) address e = absurd cc
+fell (Err (Below a)) address e = cc
+fell (Err (Signal n)) address e = absurd cc
+
+pub signalled : (r : Result Effect Refused) (number : ℕ) → answer_of r ≡ steps.Signal number → r ≡ Err (Signal number)
+signalled (Ok effect) number e = absurd (never_called effect.call (steps.Signal number) e (λ n z. absurd cc) (λ z. absurd cc))
+signalled (Err (Miss a w)) number e = absurd cc
+signalled (Err (Below a)) number e = absurd cc
+signalled (Err (Signal n)) number e = cc
+
+-- The machine is as it was, but for the room for one more instruction.
+pub record RoomOnly (old new : Standing) : Type 0 where
+  pub made : Option ℕ
+  pub only : new ≡ record old { room = made }
+
+pub no_room : (m : Standing) → RoomOnly m m
+no_room m = record { made = m.room; only = refl }
+
+-- what it says of the kernel alone
+pub room_kernel : (P : Standing → Type 0) (old new : Standing) (o : RoomOnly old new) → P (record old { room = o.made }) → P new
+room_kernel P old new o h = subst P (sym o.only) h
+
+-- a step that wrote nothing left no more
+pub wrote_none : (old mid new : Standing) (sid : ℕ) (ws : List ByteWrite) → RoomOnly old mid → ws ≡ [] → Wrote mid sid ws new → RoomOnly old new
+wrote_none old mid new sid ws o e w = record {
+  made = o.made;
+  only = w.machine ∙ ap (λ (vs : List ByteWrite). let m : Standing = record mid { kernel = writes_in mid.kernel sid vs } in m) e ∙ o.only;
+}
+
+pub room_answers : (old new : Standing) (pid : ℕ) (regs : Regs) → RoomOnly old new → run (own_answers new pid) (instruction regs) ≡ run (own_answers old pid) (instruction regs)
+room_answers old new pid regs o = ap (λ (m : Standing). run (own_answers m pid) (instruction regs)) o.only
+
+pub room_steady : (old new : Standing) → RoomOnly old new → IsSteady old → IsSteady new
+room_steady old new o h =
+    room_kernel IsSteady old new o
+    (record { running = h.running; whole = h.whole; clear = h.clear; holders = h.holders; frames = h.frames; low = h.low })
+
+pub room_lends : (old new : Standing) (pid : ℕ) → RoomOnly old new → CanLend old.kernel pid → CanLend new.kernel pid
+room_lends old new pid o h = room_kernel (λ m. CanLend m.kernel pid) old new o h
+
+pub room_regs : (old new : Standing) (pid : ℕ) (regs : Regs) → RoomOnly old new → regs ≡ regs_of old.kernel pid → regs ≡ regs_of new.kernel pid
+room_regs old new pid regs o h = room_kernel (λ m. regs ≡ regs_of m.kernel pid) old new o h
+
+pub ready_of : (m : Standing) → IsSteady m → IsReady m
+ready_of m h = record { running = h.running; whole = h.whole; clear = h.clear }
+
+pub room_goes_on : (old mid new : Standing) (n : ℕ) → RoomOnly old mid → IsSteady old → Continues mid new n → Continues old new n
+room_goes_on old mid new n o h c =
+    let e : 0 + n ≡ n = omega arith in subst (λ (k : ℕ). Continues old new k) e (continues_both old mid new 0 n (room_continues old mid o.made (ready_of old h) o.only) c)
+
+pub room_runs : (A : Inputs) (s : State) (old new : Standing) (holds : Option (List NamedFile)) (i : Option (List ℕ)) (image : List ℕ) (pid : ℕ) (now : Bool) (p : Process) (x : Space) → RoomOnly old new
+    → RunsAt A s old holds i image pid now p x → RunsAt A s new holds i image pid now p x
+room_runs A s old new holds i image pid now p x o r =
+    room_kernel (λ m. RunsAt A s m holds i image pid now p x) old new o (record {
+      on = record {
+        machine = record { at = r.on.machine.at; images = r.on.machine.images; blocks = r.on.machine.blocks };
+        running = r.on.running;
+        between = r.on.between;
+      };
+      named = r.named;
+      told = r.told;
+    })
+
+-- An instruction that makes a call writes nothing.
+pub call_quiet : (m : Standing) (pid : ℕ) (before : Regs) (number : ℤ) (r : Result Effect Refused) → run (own_answers m pid) (instruction before) ≡ r → answer_of r ≡ steps.Call number → writes_of r ≡ []
+call_quiet m pid before number r e a =
+    let c = called r number a in
+    ap writes_of c.1 ∙ calls_write_none (own_answers m pid) before c.0 number (e ∙ c.1) c.2
+
+pub made_quiet : (m : Standing) (pid : ℕ) (before : Regs) (number : ℤ) (after : Regs) → MadeCall m pid before number after → writes_of (run (own_answers m pid) (instruction before)) ≡ []
+made_quiet m pid before number after c = ap writes_of c.made ∙ calls_write_none (own_answers m pid) before c.effect number c.made c.number_is
+
+-- nor does one that is refused
+pub refused_quiet : (r : Result Effect Refused) (refused : Refused) → r ≡ Err refused → writes_of r ≡ []
+refused_quiet r refused e = ap writes_of e
+
+pub call_made : (old mid : Standing) (pid : ℕ) (before after : Regs) (number : ℤ) → RoomOnly old mid → answer_of (run (own_answers old pid) (instruction before)) ≡ steps.Call number
+    → after ≡ registers_after before (run (own_answers old pid) (instruction before)) → MadeCall mid pid before number after
+call_made old mid pid before after number o a e =
+    let c = called (run (own_answers old pid) (instruction before)) number a in
+    record {
+      effect = c.0;
+      made = room_answers old mid pid before o ∙ c.1;
+      number_is = c.2;
+      left = sym (e ∙ ap (registers_after before) c.1);
+    }

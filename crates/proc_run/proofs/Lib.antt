@@ -1,0 +1,13 @@
+pub mod Known
+pub mod Runs
+pub mod Ready
+pub mod Running
+pub mod Attempts
+pub mod Written
+pub mod Steps
+pub mod Tried
+pub mod CallSteps
+pub mod CallsMissed
+pub mod CallsGoOn
+pub mod Made
+pub mod Served

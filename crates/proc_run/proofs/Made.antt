@@ -1,0 +1,117 @@
+-- What the call of an instruction comes to, and what follows where a byte that it reads misses.
+use Rattle.std.proofs.Common.{◌≡◌, ◌⊎◌, inl, inr, ℕ, ℤ, Bool, false, List, Option, Some, Result, Ok, Err, refl, sym, subst}
+use Rattle.std.specs.Prelude.{IfOk, IfErr}
+use Rattle.io_edge.specs.FileHolding.{NamedFile}
+use Rattle.vm_facts.specs.declared.regs.Regs.{Regs}
+use Rattle.vm_facts.specs.declared.stop.Stop.{Stop}
+use Rattle.flat_state.specs.Space.{Space}
+use Rattle.flat_state.specs.Flat.{Process, Inputs}
+use Rattle.flat_model.specs.Calls.{call_of}
+use Rattle.flat_model.specs.declared.calls.SystemCall.{SystemCall}
+use Rattle.kernel_model.specs.Numbers.{Numbered}
+use Rattle.machine_state.specs.Machine.{Standing}
+use Rattle.machine_state.specs.UserMemory.{CanLend}
+use Rattle.proc_calls.specs.declared.replying.Called.{Called}
+use Rattle.proc_calls.specs.declared.replying.Called.TheVariants as calls
+use Rattle.proc_calls.specs.Callers.{IsCaller, regs_of}
+use Rattle.run_model.specs.State.{State}
+use Rattle.step_units.specs.Stepped.{StepLeads, MarkEnds, CallLeads}
+use Rattle.holder_laws.specs.Holders.{HoldersStand}
+use Rattle.ready_laws.specs.Ready.{Continues}
+use Rattle.ready_laws.specs.Calls.{called_count}
+use Rattle.touched_pages.specs.Missed.{WritesNothing}
+use Rattle.proc_run.specs.declared.advancing.Advance.{Advance}
+use Rattle.proc_run.specs.Calls.{CallComes, CallStops, MadeCall}
+use Rattle.proc_run.specs.Runs.{IsSteady, RunsAt, Advances, StopsAdvancing, AdvancesWaiting, StopsWaiting, counts}
+use Rattle.proc_run.proofs.Attempts.{made_quiet}
+use Rattle.proc_run.proofs.Known.{known, are_known}
+use Rattle.proc_run.proofs.CallSteps.{call_leads, call_stops}
+use Rattle.proc_run.proofs.CallsGoOn.{calls_go_on, calls_keep}
+use Rattle.proc_run.proofs.CallsMissed.{call_missed}
+use Rattle.proc_run.proofs.Steps.{makes_call}
+
+pub caller_of : (m : Standing) (pid : ℕ) → IsSteady m → CanLend m.kernel pid → IsCaller m pid
+caller_of m pid h l = record { running = h.running; whole = h.whole; clear = h.clear; lends = l }
+
+module _ (old new : Standing) (pid : ℕ) (before : Regs) (number : ℤ) (after : Regs) (call : SystemCall) (holds : Option (List NamedFile)) (i j : Option (List ℕ)) (now : Bool)
+    (steady : IsSteady old) (lends : CanLend old.kernel pid) (same : before ≡ regs_of old.kernel pid) (made : MadeCall old pid before number after) (names : call_of number ≡ Some call) where
+  pub goes_on : (called : Called) → CallComes call old new pid after holds i j called → Continues old new (called_count called)
+  goes_on called h = calls_go_on old new pid after holds i j (caller_of old pid steady lends) (known old.images) (are_known old.images) call called h
+
+  pub keeps : (called : Called) → CallComes call old new pid after holds i j called → Numbered old.kernel → HoldersStand new.kernel
+  keeps called h n = calls_keep old new pid after holds i j (caller_of old pid steady lends) (known old.images) (are_known old.images) call called h n steady.holders
+
+  pub leads : (called : Called) → CallComes call old new pid after holds i j called
+      → (A : Inputs) (s : State) (image : List ℕ) (p : Process) (x : Space) → RunsAt A s old holds i image pid now p x → CallLeads A s old.kernel image x called new.kernel j
+  leads called h A s image p x r =
+      call_leads A s old new holds image pid now p x made.effect r.on r.named call j called (makes_call A s old holds i image pid now p x before r same number after call made names)
+      (subst (λ (g : Regs). CallComes call old new pid g holds (Some image) j called) (sym made.left)
+      (subst (λ (o : Option (List ℕ)). CallComes call old new pid after holds o j called) r.told h))
+
+  pub ready_advances : (called : Called) → (called ≡ calls.Ready) ⊎ (called ≡ calls.Gone) → CallComes call old new pid after holds i j called
+      → (A : Inputs) (s : State) (image : List ℕ) (p : Process) (x : Space) → RunsAt A s old holds i image pid now p x → StepLeads A s old.kernel image 1 new.kernel j
+  ready_advances called w h A s image p x r = elim w [
+    | inl e ↦ subst (λ (d : Called). CallLeads A s old.kernel image x d new.kernel j) e (leads called h A s image p x r)
+    | inr e ↦ subst (λ (d : Called). CallLeads A s old.kernel image x d new.kernel j) e (leads called h A s image p x r)
+  ]
+
+  pub ready_goes_on : (called : Called) → (called ≡ calls.Ready) ⊎ (called ≡ calls.Gone) → CallComes call old new pid after holds i j called → Continues old new 1
+  ready_goes_on called w h = elim w [
+    | inl e ↦ subst (λ (d : Called). Continues old new (called_count d)) e (goes_on called h)
+    | inr e ↦ subst (λ (d : Called). Continues old new (called_count d)) e (goes_on called h)
+  ]
+
+  pub asleep_advances : (called : Called) → called ≡ calls.Asleep → CallComes call old new pid after holds i j called
+      → (A : Inputs) (s : State) (image : List ℕ) (p : Process) (x : Space) → RunsAt A s old holds i image pid now p x → MarkEnds A s old.kernel image new.kernel j
+  asleep_advances called e h A s image p x r = subst (λ (d : Called). CallLeads A s old.kernel image x d new.kernel j) e (leads called h A s image p x r)
+
+  pub asleep_goes_on : (called : Called) → called ≡ calls.Asleep → CallComes call old new pid after holds i j called → Continues old new 0
+  asleep_goes_on called e h = subst (λ (d : Called). Continues old new (called_count d)) e (goes_on called h)
+
+  pub stopped : (stop : Stop) → CallStops call old new pid after holds i j stop → StopsAdvancing old new pid now holds i j stop
+  stopped stop h A s image p x r =
+      call_stops A s old new holds image pid now p x made.effect r.on r.named call j stop (makes_call A s old holds i image pid now p x before r same number after call made names)
+      (subst (λ (g : Regs). CallStops call old new pid g holds (Some image) j stop) (sym made.left)
+      (subst (λ (o : Option (List ℕ)). CallStops call old new pid after holds o j stop) r.told h))
+
+  -- A byte that it reads misses.
+
+  module _ (address : ℕ) (called : Called) (is : called ≡ calls.Miss address) (given : CallComes call old new pid after holds i j called) where
+    comes : CallComes call old new pid after holds i j (calls.Miss address)
+    comes = subst (λ (d : Called). CallComes call old new pid after holds i j d) is given
+
+    pub unchanged : new ≡ old
+    unchanged = call_missed old new pid after address holds i j (known old.images) (are_known old.images) call comes
+
+    pub steady_again : IsSteady new
+    steady_again = subst IsSteady (sym unchanged) steady
+
+    pub lends_again : CanLend new.kernel pid
+    lends_again = subst (λ (m : Standing). CanLend m.kernel pid) (sym unchanged) lends
+
+    pub regs_again : before ≡ regs_of new.kernel pid
+    regs_again = subst (λ (m : Standing). before ≡ regs_of m.kernel pid) (sym unchanged) same
+
+    pub quiet : WritesNothing new.kernel pid before
+    quiet = subst (λ (m : Standing). WritesNothing m.kernel pid before) (sym unchanged) (made_quiet old pid before number after made)
+
+    module _ (last : Standing) (later : Option (List NamedFile)) (k : Option (List ℕ)) (files : later ≡ holds) where
+      pub missed_advances : (o : Result Advance Stop) → IfOk o (AdvancesWaiting new last pid now address false later j k) → IfOk o (Advances old last pid now holds i k)
+      missed_advances (Err stop) h = tt
+      missed_advances (Ok advance) h = λ A s image p x r.
+          let l = leads (calls.Miss address) comes A s image p x r in
+          let w = subst (λ (m : Standing). AdvancesWaiting m last pid now address false later j k advance) unchanged h in
+          let w2 = subst (λ (o : Option (List NamedFile)). AdvancesWaiting old last pid now address false o j k advance) files w in
+          w2 A s image p x l.2.before (record { on = r.on; named = r.named; told = l.1 }) (inl (l.2, refl))
+
+      pub missed_stops : (o : Result Advance Stop) → IfErr o (StopsWaiting new last pid now address false later j k) → IfErr o (StopsAdvancing old last pid now holds i k)
+      missed_stops (Ok advance) h = tt
+      missed_stops (Err stop) h = λ A s image p x r.
+          let l = leads (calls.Miss address) comes A s image p x r in
+          let w = subst (λ (m : Standing). StopsWaiting m last pid now address false later j k stop) unchanged h in
+          let w2 = subst (λ (o : Option (List NamedFile)). StopsWaiting old last pid now address false o j k stop) files w in
+          w2 A s image p x l.2.before (record { on = r.on; named = r.named; told = l.1 }) (inl (l.2, refl))
+
+    pub missed_goes_on : (last : Standing) (o : Result Advance Stop) → IfOk o (λ advance. Continues new last (counts advance)) → IfOk o (λ advance. Continues old last (counts advance))
+    missed_goes_on last (Err stop) h = tt
+    missed_goes_on last (Ok advance) h = subst (λ (m : Standing). Continues m last (counts advance)) unchanged h

@@ -1,0 +1,221 @@
+-- An access that was served is next units of the run, and an end of the process behind it.
+use Rattle.std.proofs.Common.{◌≡◌, inl, inr, ℕ, ◌-◌, Bool, true, false, List, [], ◌∷◌, Option, Some, Result, Ok, Err, refl, sym, ap, ◌∙◌, subst}
+use Rattle.std.specs.Prelude.{IfOk, IfErr, MatchResult}
+use Rattle.io_edge.specs.FileHolding.{NamedFile}
+use Rattle.vm_facts.specs.declared.page.Page.{Page}
+use Rattle.vm_facts.specs.declared.page.Page.TheVariants as page_names
+use Rattle.vm_facts.specs.declared.entry.Entry.TheVariants as entries
+use Rattle.vm_facts.specs.declared.params.Params.{Params}
+use Rattle.vm_facts.specs.declared.stop.Stop.{Stop}
+use Rattle.flat_state.specs.Space.{Space}
+use Rattle.flat_state.specs.Flat.{Process, Inputs}
+use Rattle.machine_state.specs.Machine.{Standing}
+use Rattle.machine_state.specs.Files.{AreImages}
+use Rattle.machine_state.specs.UserMemory.{CanLend}
+use Rattle.fault_fill.specs.Growth.{access_by}
+use Rattle.fault_fill.specs.declared.access.Access.{Access}
+use Rattle.fault_fill.specs.declared.access.Access.TheVariants as accesses
+use Rattle.fault_fill.specs.Touches.{TouchedAs, TouchedNow, AccessComes, AccessStops}
+use Rattle.fault_fill.specs.declared.touch.Served.{Served}
+use Rattle.fault_fill.specs.declared.touch.Served.TheVariants as served
+use Rattle.proc_calls.specs.Callers.{IsCaller}
+use Rattle.proc_calls.specs.Leaving.{HasEnded, StopsAlive}
+use Rattle.run_model.specs.State.{State}
+use Rattle.run_model.specs.Wanted.{touched_next, before_absent, locked_by, locked}
+use Rattle.run_model.proofs.Wanting.{split_before, all_before}
+use Rattle.run_units.proofs.Units.{leads_at}
+use Rattle.step_units.specs.Machines.{MachineAt, RunsOn}
+use Rattle.step_units.specs.Stepped.{StepLeads, MarkEnds, StopLeads}
+use Rattle.step_units.specs.Running.{Waits, EndsRefused, ServeLeads}
+use Rattle.step_units.proofs.Accessing.{serve_made, serve_now_made, access_stops}
+use Rattle.step_units.proofs.Entering.{leads_then, stopped_short, stops_then}
+use Rattle.step_units.proofs.Ending.{ended, end_stops}
+use Rattle.holder_laws.specs.Holders.{KeepsHolders}
+use Rattle.holder_laws.proofs.Pages.{served_keeps, served_now_keeps}
+use Rattle.ready_laws.specs.Ready.{Continues}
+use Rattle.ready_laws.proofs.Pages.{access_continues, access_now_continues}
+use Rattle.proc_run.specs.declared.advancing.Advance.TheVariants as advances
+use Rattle.proc_run.specs.Runs.{RunsAt, AdvancesTo}
+use Rattle.proc_run.specs.Serving.{AreLocked, ServedBy, StopsServed}
+
+-- Whatever the devices tell.
+
+pub served_on : (now : Bool) (old new : Standing) (pid address : ℕ) (write : Bool) (holds : Option (List NamedFile)) (i j : Option (List ℕ)) (answer : Served) → IsCaller old pid
+    → ServedBy now old new pid address write holds i j answer → Continues old new 0
+served_on true old new pid address write holds i j answer c h = access_now_continues old new pid (access_by old.kernel pid address write) answer h.pages holds i j c h.comes
+served_on false old new pid address write holds i j answer c h = access_continues old new pid (access_by old.kernel pid address write) answer holds i j c h
+
+pub served_holders : (now : Bool) (old new : Standing) (pid address : ℕ) (write : Bool) (holds : Option (List NamedFile)) (i j : Option (List ℕ)) (answer : Served)
+    → ServedBy now old new pid address write holds i j answer → KeepsHolders old new
+served_holders true old new pid address write holds i j answer h = served_now_keeps h.pages (access_by old.kernel pid address write) answer pid old new holds i j h.comes
+served_holders false old new pid address write holds i j answer h = served_keeps (access_by old.kernel pid address write) answer pid old new holds i j h
+
+-- In a run.
+
+module _ (A : Inputs) (s : State) (old mid : Standing) (holds : Option (List NamedFile)) (i j : Option (List ℕ)) (image : List ℕ) (pid : ℕ) (now : Bool) (p : Process) (x : Space)
+    (address : ℕ) (write : Bool) (before : List Page) (r : RunsAt A s old holds i image pid now p x) (w : Waits A s old p x address write before) where
+  kept : locked A s ≡ before
+  kept = elim w [
+    | inl y ↦ (
+        ap (locked_by A s) r.on.running.runs.clear
+        ∙ split_before s.place (touched_next A s) y.0.before y.0.page (record { behind = y.0.rest; whole = y.0.touched; valid = y.0.valid; absent = y.0.absent }) ∙ y.1)
+    | inr y ↦ ap (locked_by A s) r.on.running.runs.clear ∙ ap (before_absent s.place) y.2 ∙ all_before s.place before y.3
+  ]
+
+-- by whether it is served by waiting
+pub served_leads : (now : Bool) (A : Inputs) (s : State) (old mid : Standing) (holds : Option (List NamedFile)) (i j : Option (List ℕ)) (image : List ℕ) (pid : ℕ) (p : Process) (x : Space)
+    (address : ℕ) (write : Bool) (before : List Page) (answer : Served) → RunsAt A s old holds i image pid now p x → Waits A s old p x address write before
+    → ServedBy now old mid pid address write holds i j answer → ServeLeads A s old mid holds image j pid now p x answer
+served_leads true A s old mid holds i j image pid p x address write before answer r w h =
+    let same = h.kept A s image p x r ∙ kept A s old mid holds i j image pid true p x address write before r w in
+    serve_now_made A s old mid holds image j pid p x address write before answer r.on w
+    (subst (λ (o : Option (List ℕ)). AccessComes (λ came q from. TouchedNow before came q from mid holds o j) (access_by old.kernel pid address write) answer pid old mid o j) r.told
+    (subst (λ (qs : List Page). AccessComes (λ came q from. TouchedNow qs came q from mid holds i j) (access_by old.kernel pid address write) answer pid old mid i j) same h.comes))
+served_leads false A s old mid holds i j image pid p x address write before answer r w h =
+    serve_made A s old mid holds image j pid p x address write before answer r.on w (subst (λ (o : Option (List ℕ)). ServedBy false old mid pid address write holds o j answer) r.told h)
+
+pub served_stops : (now : Bool) (A : Inputs) (s : State) (old new : Standing) (holds : Option (List NamedFile)) (i j : Option (List ℕ)) (image : List ℕ) (pid : ℕ) (p : Process) (x : Space)
+    (address : ℕ) (write : Bool) (before : List Page) (stop : Stop) → RunsAt A s old holds i image pid now p x → Waits A s old p x address write before
+    → StopsServed now old new pid address write holds i j stop → StopLeads A s old.kernel image stop new j
+served_stops true A s old new holds i j image pid p x address write before stop r w h = elim h [
+  | inl o ↦ subst (λ (z : Option (List ℕ)). StopLeads A s old.kernel image stop new z) (sym (o.image ∙ r.told)) (stopped_short A s old new image stop o.stopped o.cause)
+  | inr n ↦ (
+      let same = n.kept A s image p x r ∙ kept A s old new holds i j image pid true p x address write before r w in
+      access_stops A s old new holds image j pid true p x address write before before stop (λ e. refl) r.on w
+      (subst (λ (o : Option (List ℕ)). AccessStops true before (access_by old.kernel pid address write) pid old new holds o j stop) r.told
+      (subst (λ (qs : List Page). AccessStops true qs (access_by old.kernel pid address write) pid old new holds i j stop) same n.stops)))
+]
+served_stops false A s old new holds i j image pid p x address write before stop r w h =
+    access_stops A s old new holds image j pid false p x address write before [] stop (λ e. absurd cc) r.on w
+    (subst (λ (o : Option (List ℕ)). AccessStops false [] (access_by old.kernel pid address write) pid old new holds o j stop) r.told h)
+
+-- The process ends behind the entry that says that its stack finds no place.
+
+module _ (A : Inputs) (s : State) (old mid : Standing) (holds : Option (List NamedFile)) (told : Option (List ℕ)) (image : List ℕ) (pid : ℕ) (now : Bool) (p : Process) (x : Space)
+    (on : RunsOn A s old holds image pid now p x) (params : mid.params ≡ old.params) (images : mid.images ≡ old.images) (e : EndsRefused A s old mid holds image pid now p x)
+    (t : told ≡ Some image) where
+  at_refusal : MachineAt A e.state mid holds image
+  at_refusal = record {
+    at = leads_at A s e.state old.kernel mid.kernel image image (entries.Refused pid ∷ []) on.machine.at e.leads;
+    images = subst (λ ns. AreImages ns holds A.images) (sym images) on.machine.images;
+    blocks = ap (λ (y : Params). y.swap_blocks) params ∙ on.machine.blocks;
+  }
+
+  pub refused_ends : (new : Standing) (j : Option (List ℕ)) → HasEnded mid new pid 11 holds told j → StepLeads A s old.kernel image 1 new.kernel j
+  refused_ends new j h =
+      leads_then A s e.state old.kernel mid.kernel new.kernel image image j (entries.Refused pid ∷ []) 1 e.leads e.count e.lines e.mark
+      (ended A e.state mid holds image pid now p x 11 at_refusal e.running e.ends new j (subst (λ (o : Option (List ℕ)). HasEnded mid new pid 11 holds o j) t h))
+
+  pub refused_stops : (new : Standing) (j : Option (List ℕ)) (stop : Stop) → StopsAlive mid new pid holds told j stop → StopLeads A s old.kernel image stop new j
+  refused_stops new j stop h =
+      stops_then A s e.state old.kernel mid.kernel image image j (entries.Refused pid ∷ []) stop new e.leads
+      (end_stops A e.state mid holds image pid now p x 11 at_refusal e.running e.ends new j stop (subst (λ (o : Option (List ℕ)). StopsAlive mid new pid holds o j stop) t h))
+
+-- As the clauses of the calls say it.
+
+-- who ends behind an access is there yet, and in
+abbrev IsEnd : Served → Type 0
+IsEnd served.NoSpace = Unit {0}
+IsEnd (served.Signal number) = Unit {0}
+IsEnd _ = ⊥
+
+access_ends : (Touched : Served → Page → Standing → Type 0) (access : Access) (answer : Served) (pid : ℕ) (old new : Standing) (i j : Option (List ℕ))
+    → ((q : Page) (m : Standing) (number : ℕ) → Touched (served.Signal number) q m → ⊥) → ((q : Page) (m : Standing) → Touched served.NoSpace q m → ⊥)
+    → IsEnd answer → AccessComes Touched access answer pid old new i j → CanLend old.kernel pid → CanLend new.kernel pid
+access_ends Touched (accesses.Page q) served.NoSpace pid old new i j f g e h c = absurd (g q old h)
+access_ends Touched (accesses.Page q) (served.Signal number) pid old new i j f g e h c = absurd (f q old number h)
+access_ends Touched (accesses.Page q) _ pid old new i j f g e h c = absurd e
+access_ends Touched (accesses.Refused number) answer pid old new i j f g e h c = subst (λ (m : Standing). CanLend m.kernel pid) (sym h.1.machine) c
+access_ends Touched (accesses.Growth sid pages) served.NoSpace pid old new i j f g e h c =
+    subst (λ (m : Standing). CanLend m.kernel pid) (sym h.refused.machine) (record { sid = c.sid; holds = c.holds; there = c.there; resident = c.resident })
+access_ends Touched (accesses.Growth sid pages) (served.Signal number) pid old new i j f g e h c = absurd (f (page_names.Stack sid (pages - 1)) h.between number h.behind)
+access_ends Touched (accesses.Growth sid pages) _ pid old new i j f g e h c = absurd e
+
+pub ends_there : (now : Bool) (old new : Standing) (pid address : ℕ) (write : Bool) (holds : Option (List NamedFile)) (i j : Option (List ℕ)) (answer : Served) → IsEnd answer
+    → ServedBy now old new pid address write holds i j answer → CanLend old.kernel pid → CanLend new.kernel pid
+ends_there true old new pid address write holds i j answer e h c =
+    access_ends (λ came q from. TouchedNow h.pages came q from new holds i j) (access_by old.kernel pid address write) answer pid old new i j (λ q m number x. x) (λ q m x. x) e h.comes c
+ends_there false old new pid address write holds i j answer e h c =
+    access_ends (λ came q from. TouchedAs came q from new holds i j) (access_by old.kernel pid address write) answer pid old new i j (λ q m number x. x) (λ q m x. x) e h c
+
+-- what serving leads to, where the process doesn't end
+pub advances_valid : (now : Bool) (A : Inputs) (s : State) (old mid : Standing) (holds : Option (List NamedFile)) (i j : Option (List ℕ)) (image : List ℕ) (pid : ℕ) (p : Process) (x : Space)
+    (address : ℕ) (write : Bool) (before : List Page) (answer : Served) → answer ≡ served.Valid → RunsAt A s old holds i image pid now p x → Waits A s old p x address write before
+    → ServedBy now old mid pid address write holds i j answer → AdvancesTo A s old.kernel image advances.Served mid.kernel j
+advances_valid now A s old mid holds i j image pid p x address write before answer e r w h =
+    let m = subst (ServeLeads A s old mid holds image j pid now p x) e (served_leads now A s old mid holds i j image pid p x address write before answer r w h) in
+    (m.led, m.more)
+
+abbrev pub IsStuck : Served → Type 0
+IsStuck (served.Asleep q) = Unit {0}
+IsStuck served.NoFrame = Unit {0}
+IsStuck _ = ⊥
+
+pub advances_stuck : (now : Bool) (A : Inputs) (s : State) (old mid : Standing) (holds : Option (List NamedFile)) (i j : Option (List ℕ)) (image : List ℕ) (pid : ℕ) (p : Process) (x : Space)
+    (address : ℕ) (write : Bool) (before : List Page) (answer : Served) → IsStuck answer → RunsAt A s old holds i image pid now p x → Waits A s old p x address write before
+    → ServedBy now old mid pid address write holds i j answer → AdvancesTo A s old.kernel image advances.Stuck mid.kernel j
+advances_stuck now A s old mid holds i j image pid p x address write before answer e r w h = go answer e (served_leads now A s old mid holds i j image pid p x address write before answer r w h)
+  where
+    go : (answer : Served) → IsStuck answer → ServeLeads A s old mid holds image j pid now p x answer → MarkEnds A s old.kernel image mid.kernel j
+    go (served.Asleep q) e m = m
+    go served.NoFrame e m = m
+    go _ e m = absurd e
+
+-- the status by which it ends
+abbrev pub EndsBy : Served → ℕ → Type 0
+EndsBy served.NoSpace status = status ≡ 11
+EndsBy (served.Signal number) status = status ≡ number
+EndsBy _ status = ⊥
+
+pub is_end : (answer : Served) (status : ℕ) → EndsBy answer status → IsEnd answer
+is_end served.NoSpace status e = tt
+is_end (served.Signal number) status e = tt
+is_end _ status e = absurd e
+
+pub advances_ended : (now : Bool) (A : Inputs) (s : State) (old mid new : Standing) (holds : Option (List NamedFile)) (i told j : Option (List ℕ)) (image : List ℕ) (pid : ℕ) (p : Process) (x : Space)
+    (address : ℕ) (write : Bool) (before : List Page) (answer : Served) (status : ℕ) → EndsBy answer status → Continues old mid 0 → RunsAt A s old holds i image pid now p x
+    → Waits A s old p x address write before → ServedBy now old mid pid address write holds i told answer → HasEnded mid new pid status holds told j → StepLeads A s old.kernel image 1 new.kernel j
+advances_ended now A s old mid new holds i told j image pid p x address write before answer status e c r w h d =
+    go answer e (served_leads now A s old mid holds i told image pid p x address write before answer r w h)
+  where
+    go : (answer : Served) → EndsBy answer status → ServeLeads A s old mid holds image told pid now p x answer → StepLeads A s old.kernel image 1 new.kernel j
+    go served.NoSpace e m =
+        refused_ends A s old mid holds told image pid now p x r.on c.params c.images m.0 m.1 new j (subst (λ (n : ℕ). HasEnded mid new pid n holds told j) e d)
+    go (served.Signal number) e m = absurd m
+    go _ e m = absurd e
+
+pub stops_ended : (now : Bool) (A : Inputs) (s : State) (old mid new : Standing) (holds : Option (List NamedFile)) (i told j : Option (List ℕ)) (image : List ℕ) (pid : ℕ) (p : Process) (x : Space)
+    (address : ℕ) (write : Bool) (before : List Page) (answer : Served) (status : ℕ) (stop : Stop) → EndsBy answer status → Continues old mid 0 → RunsAt A s old holds i image pid now p x
+    → Waits A s old p x address write before → ServedBy now old mid pid address write holds i told answer → StopsAlive mid new pid holds told j stop → StopLeads A s old.kernel image stop new j
+stops_ended now A s old mid new holds i told j image pid p x address write before answer status stop e c r w h d =
+    go answer e (served_leads now A s old mid holds i told image pid p x address write before answer r w h)
+  where
+    go : (answer : Served) → EndsBy answer status → ServeLeads A s old mid holds image told pid now p x answer → StopLeads A s old.kernel image stop new j
+    go served.NoSpace e m = refused_stops A s old mid holds told image pid now p x r.on c.params c.images m.0 m.1 new j stop d
+    go (served.Signal number) e m = absurd m
+    go _ e m = absurd e
+
+-- A page that was brought in.
+
+abbrev Brought : Standing → Standing → ℕ → ℕ → Bool → Option (List NamedFile) → Option (List ℕ) → Option (List ℕ) → List Page → Result Served Stop → Type 0
+Brought old new pid address write holds i j pages r =
+    MatchResult r (λ answer. AccessComes (λ came q from. TouchedNow pages came q from new holds i j) (access_by old.kernel pid address write) answer pid old new i j)
+    (AccessStops true pages (access_by old.kernel pid address write) pid old new holds i j)
+
+pub brought : (r : Result Served Stop) (old mid new : Standing) (pid address : ℕ) (write : Bool) (holds : Option (List NamedFile)) (i j : Option (List ℕ)) (pages : List Page) → mid ≡ old
+    → AreLocked old holds i pid pages → Brought mid new pid address write holds i j pages r → IfOk r (ServedBy true old new pid address write holds i j)
+brought (Err stop) old mid new pid address write holds i j pages e k h = tt
+brought (Ok answer) old mid new pid address write holds i j pages e k h = record {
+  pages = pages;
+  kept = k;
+  comes = subst (λ (m : Standing). AccessComes (λ came q from. TouchedNow pages came q from new holds i j) (access_by m.kernel pid address write) answer pid m new i j) e h;
+}
+
+pub brought_stops : (r : Result Served Stop) (old mid new : Standing) (pid address : ℕ) (write : Bool) (holds : Option (List NamedFile)) (i j : Option (List ℕ)) (pages : List Page) → mid ≡ old
+    → AreLocked old holds i pid pages → Brought mid new pid address write holds i j pages r → IfErr r (StopsServed true old new pid address write holds i j)
+brought_stops (Ok answer) old mid new pid address write holds i j pages e k h = tt
+brought_stops (Err stop) old mid new pid address write holds i j pages e k h = inr (record {
+  pages = pages;
+  kept = k;
+  stops = subst (λ (m : Standing). AccessStops true pages (access_by m.kernel pid address write) pid m new holds i j stop) e h;
+})

@@ -1,0 +1,141 @@
+use Rattle.std.proofs.Common.{w32, sym, ap, ◌∙◌}
+use Rattle.std.proofs.lemmas.Int.{to_z-of_z}
+use Rattle.std.proofs.lemmas.Result.{err_from_is_err_and}
+use Rattle.flat_model.specs.Calls.{call_of}
+use Rattle.holder_laws.proofs.Calls.{caller_holds}
+use Rattle.holder_laws.proofs.Leaving.{ended_keeps}
+use Rattle.ready_laws.proofs.Calls.{end_continues}
+use Rattle.proc_run.specs.Runs.{is_now}
+use Rattle.proc_run.proofs.Made.{caller_of, ready_advances, ready_goes_on, asleep_advances, asleep_goes_on, keeps, stopped, unchanged, steady_again, lends_again, regs_again, quiet, missed_advances, missed_stops, missed_goes_on}
+use Rattle.proc_run.proofs.Steps.{no_call_led, no_call_stops}
+use Rattle.proc_run.proofs.calling.call.Goals as goal
+
+-- A number that is no call's.
+
+pub returns-in_err-kill-clause-stops : goal.returns-in_err-kill-clause-stops
+returns-in_err-kill-clause-stops g c =
+    let e = err_from_is_err_and c.from_residual.result c.from_residual.ensures.1 in
+    rw (e.1, e.2) (λ A s image p x r.
+    no_call_stops A s c.args.m.now (g.F.Files.holds c.args.files.now) (g.D.SwapDev.image c.args.swap.now) image c.args.pid (is_now c.args.patience) p x c.args.before.now r c.requires.registers
+    c.kill.new.m (g.D.SwapDev.image c.kill.new.swap) c.args.number c.args.regs.now c.in_err-kill.field-0.0 c.requires.made (ap call_of (sym (to_z-of_z w32 c.args.number c.ranges.number)) ∙ sym c.numbered.ensures ∙ c.in_default.is) c.in_err-kill.ensures.stops)
+
+pub returns-in_default-clause-advances : goal.returns-in_default-clause-advances
+returns-in_default-clause-advances g c = λ A s image p x r.
+    no_call_led A s c.args.m.now (g.F.Files.holds c.args.files.now) (g.D.SwapDev.image c.args.swap.now) image c.args.pid (is_now c.args.patience) p x c.args.before.now r c.requires.registers
+    c.kill.new.m (g.D.SwapDev.image c.kill.new.swap) c.args.number c.args.regs.now c.requires.made (ap call_of (sym (to_z-of_z w32 c.args.number c.ranges.number)) ∙ sym c.numbered.ensures ∙ c.in_default.is) c.in_ok-kill.ensures.ended
+
+pub returns-in_default-clause-continues : goal.returns-in_default-clause-continues
+returns-in_default-clause-continues g c =
+    end_continues c.args.m.now c.kill.new.m c.args.pid 12 (g.F.Files.holds c.args.files.now) (g.D.SwapDev.image c.args.swap.now) (g.D.SwapDev.image c.kill.new.swap)
+    (caller_of c.args.m.now c.args.pid c.requires.steady c.requires.lends) c.in_ok-kill.ensures.ended
+
+pub returns-in_default-clause-holders : goal.returns-in_default-clause-holders
+returns-in_default-clause-holders g c =
+    ended_keeps c.args.m.now c.kill.new.m c.args.pid 12 (g.F.Files.holds c.args.files.now) (g.D.SwapDev.image c.args.swap.now) (g.D.SwapDev.image c.kill.new.swap)
+    (caller_holds c.args.m.now c.args.pid (caller_of c.args.m.now c.args.pid c.requires.steady c.requires.lends)) c.in_ok-kill.ensures.ended c.sound.ensures.numbered c.requires.steady.holders
+
+-- One of the eight.
+
+pub returns-in_err-make-clause-stops : goal.returns-in_err-make-clause-stops
+returns-in_err-make-clause-stops g c =
+    let e = err_from_is_err_and c.from_residual-in_err-make.result c.from_residual-in_err-make.ensures.1 in
+    rw (e.1, e.2) (
+    stopped c.args.m.now c.make.new.m c.args.pid c.args.before.now c.args.number c.args.regs.now c.in-Some.call (g.F.Files.holds c.args.files.now) (g.D.SwapDev.image c.args.swap.now)
+    (g.D.SwapDev.image c.make.new.swap) (is_now c.args.patience) c.requires.steady c.requires.lends c.requires.registers c.requires.made (ap call_of (sym (to_z-of_z w32 c.args.number c.ranges.number)) ∙ sym c.numbered.ensures ∙ c.in-Some.is)
+    c.in_err-make.field-0.0 c.in_err-make.ensures.stops)
+
+pub serve_access-requires-clause-steady : goal.serve_access-requires-clause-steady
+serve_access-requires-clause-steady g c =
+    steady_again c.args.m.now c.make.new.m c.args.pid c.args.before.now c.args.number c.args.regs.now c.in-Some.call (g.F.Files.holds c.args.files.now) (g.D.SwapDev.image c.args.swap.now)
+    (g.D.SwapDev.image c.make.new.swap) (is_now c.args.patience) c.requires.steady c.requires.lends c.requires.registers c.requires.made (ap call_of (sym (to_z-of_z w32 c.args.number c.ranges.number)) ∙ sym c.numbered.ensures ∙ c.in-Some.is)
+    c.in-Miss.address c.in_ok-make.field-0 c.in-Miss.is c.in_ok-make.ensures.comes
+
+pub serve_access-requires-clause-lends : goal.serve_access-requires-clause-lends
+serve_access-requires-clause-lends g c =
+    lends_again c.args.m.now c.make.new.m c.args.pid c.args.before.now c.args.number c.args.regs.now c.in-Some.call (g.F.Files.holds c.args.files.now) (g.D.SwapDev.image c.args.swap.now)
+    (g.D.SwapDev.image c.make.new.swap) (is_now c.args.patience) c.requires.steady c.requires.lends c.requires.registers c.requires.made (ap call_of (sym (to_z-of_z w32 c.args.number c.ranges.number)) ∙ sym c.numbered.ensures ∙ c.in-Some.is)
+    c.in-Miss.address c.in_ok-make.field-0 c.in-Miss.is c.in_ok-make.ensures.comes
+
+pub serve_access-requires-clause-area : goal.serve_access-requires-clause-area
+serve_access-requires-clause-area g c =
+    let same =
+    unchanged c.args.m.now c.make.new.m c.args.pid c.args.before.now c.args.number c.args.regs.now c.in-Some.call (g.F.Files.holds c.args.files.now) (g.D.SwapDev.image c.args.swap.now)
+    (g.D.SwapDev.image c.make.new.swap) (is_now c.args.patience) c.requires.steady c.requires.lends c.requires.registers c.requires.made (ap call_of (sym (to_z-of_z w32 c.args.number c.ranges.number)) ∙ sym c.numbered.ensures ∙ c.in-Some.is)
+    c.in-Miss.address c.in_ok-make.field-0 c.in-Miss.is c.in_ok-make.ensures.comes in
+    rw (same, c.make.ensures.blocks) c.requires.area
+
+pub serve_access-requires-clause-files : goal.serve_access-requires-clause-files
+serve_access-requires-clause-files g c =
+    let same =
+    unchanged c.args.m.now c.make.new.m c.args.pid c.args.before.now c.args.number c.args.regs.now c.in-Some.call (g.F.Files.holds c.args.files.now) (g.D.SwapDev.image c.args.swap.now)
+    (g.D.SwapDev.image c.make.new.swap) (is_now c.args.patience) c.requires.steady c.requires.lends c.requires.registers c.requires.made (ap call_of (sym (to_z-of_z w32 c.args.number c.ranges.number)) ∙ sym c.numbered.ensures ∙ c.in-Some.is)
+    c.in-Miss.address c.in_ok-make.field-0 c.in-Miss.is c.in_ok-make.ensures.comes in
+    rw (same, c.make.ensures.holds) c.requires.files
+
+pub serve_access-requires-clause-quiet : goal.serve_access-requires-clause-quiet
+serve_access-requires-clause-quiet g c =
+    quiet c.args.m.now c.make.new.m c.args.pid c.args.before.now c.args.number c.args.regs.now c.in-Some.call (g.F.Files.holds c.args.files.now) (g.D.SwapDev.image c.args.swap.now)
+    (g.D.SwapDev.image c.make.new.swap) (is_now c.args.patience) c.requires.steady c.requires.lends c.requires.registers c.requires.made (ap call_of (sym (to_z-of_z w32 c.args.number c.ranges.number)) ∙ sym c.numbered.ensures ∙ c.in-Some.is)
+    c.in-Miss.address c.in_ok-make.field-0 c.in-Miss.is c.in_ok-make.ensures.comes
+
+pub serve_access-requires-clause-registers : goal.serve_access-requires-clause-registers
+serve_access-requires-clause-registers g c =
+    regs_again c.args.m.now c.make.new.m c.args.pid c.args.before.now c.args.number c.args.regs.now c.in-Some.call (g.F.Files.holds c.args.files.now) (g.D.SwapDev.image c.args.swap.now)
+    (g.D.SwapDev.image c.make.new.swap) (is_now c.args.patience) c.requires.steady c.requires.lends c.requires.registers c.requires.made (ap call_of (sym (to_z-of_z w32 c.args.number c.ranges.number)) ∙ sym c.numbered.ensures ∙ c.in-Some.is)
+    c.in-Miss.address c.in_ok-make.field-0 c.in-Miss.is c.in_ok-make.ensures.comes
+
+pub returns-in-Ready-clause-advances : goal.returns-in-Ready-clause-advances
+returns-in-Ready-clause-advances g c =
+    ready_advances c.args.m.now c.make.new.m c.args.pid c.args.before.now c.args.number c.args.regs.now c.in-Some.call (g.F.Files.holds c.args.files.now) (g.D.SwapDev.image c.args.swap.now)
+    (g.D.SwapDev.image c.make.new.swap) (is_now c.args.patience) c.requires.steady c.requires.lends c.requires.registers c.requires.made (ap call_of (sym (to_z-of_z w32 c.args.number c.ranges.number)) ∙ sym c.numbered.ensures ∙ c.in-Some.is)
+    c.in_ok-make.field-0 c.in-Ready.is c.in_ok-make.ensures.comes
+
+pub returns-in-Ready-clause-continues : goal.returns-in-Ready-clause-continues
+returns-in-Ready-clause-continues g c =
+    ready_goes_on c.args.m.now c.make.new.m c.args.pid c.args.before.now c.args.number c.args.regs.now c.in-Some.call (g.F.Files.holds c.args.files.now) (g.D.SwapDev.image c.args.swap.now)
+    (g.D.SwapDev.image c.make.new.swap) (is_now c.args.patience) c.requires.steady c.requires.lends c.requires.registers c.requires.made (ap call_of (sym (to_z-of_z w32 c.args.number c.ranges.number)) ∙ sym c.numbered.ensures ∙ c.in-Some.is)
+    c.in_ok-make.field-0 c.in-Ready.is c.in_ok-make.ensures.comes
+
+pub returns-in-Ready-clause-holders : goal.returns-in-Ready-clause-holders
+returns-in-Ready-clause-holders g c =
+    keeps c.args.m.now c.make.new.m c.args.pid c.args.before.now c.args.number c.args.regs.now c.in-Some.call (g.F.Files.holds c.args.files.now) (g.D.SwapDev.image c.args.swap.now)
+    (g.D.SwapDev.image c.make.new.swap) (is_now c.args.patience) c.requires.steady c.requires.lends c.requires.registers c.requires.made (ap call_of (sym (to_z-of_z w32 c.args.number c.ranges.number)) ∙ sym c.numbered.ensures ∙ c.in-Some.is)
+    c.in_ok-make.field-0 c.in_ok-make.ensures.comes c.sound.ensures.numbered
+
+pub returns-in-Asleep-clause-advances : goal.returns-in-Asleep-clause-advances
+returns-in-Asleep-clause-advances g c =
+    asleep_advances c.args.m.now c.make.new.m c.args.pid c.args.before.now c.args.number c.args.regs.now c.in-Some.call (g.F.Files.holds c.args.files.now) (g.D.SwapDev.image c.args.swap.now)
+    (g.D.SwapDev.image c.make.new.swap) (is_now c.args.patience) c.requires.steady c.requires.lends c.requires.registers c.requires.made (ap call_of (sym (to_z-of_z w32 c.args.number c.ranges.number)) ∙ sym c.numbered.ensures ∙ c.in-Some.is)
+    c.in_ok-make.field-0 c.in-Asleep.is c.in_ok-make.ensures.comes
+
+pub returns-in-Asleep-clause-continues : goal.returns-in-Asleep-clause-continues
+returns-in-Asleep-clause-continues g c =
+    asleep_goes_on c.args.m.now c.make.new.m c.args.pid c.args.before.now c.args.number c.args.regs.now c.in-Some.call (g.F.Files.holds c.args.files.now) (g.D.SwapDev.image c.args.swap.now)
+    (g.D.SwapDev.image c.make.new.swap) (is_now c.args.patience) c.requires.steady c.requires.lends c.requires.registers c.requires.made (ap call_of (sym (to_z-of_z w32 c.args.number c.ranges.number)) ∙ sym c.numbered.ensures ∙ c.in-Some.is)
+    c.in_ok-make.field-0 c.in-Asleep.is c.in_ok-make.ensures.comes
+
+pub returns-in-Asleep-clause-holders : goal.returns-in-Asleep-clause-holders
+returns-in-Asleep-clause-holders g c =
+    keeps c.args.m.now c.make.new.m c.args.pid c.args.before.now c.args.number c.args.regs.now c.in-Some.call (g.F.Files.holds c.args.files.now) (g.D.SwapDev.image c.args.swap.now)
+    (g.D.SwapDev.image c.make.new.swap) (is_now c.args.patience) c.requires.steady c.requires.lends c.requires.registers c.requires.made (ap call_of (sym (to_z-of_z w32 c.args.number c.ranges.number)) ∙ sym c.numbered.ensures ∙ c.in-Some.is)
+    c.in_ok-make.field-0 c.in_ok-make.ensures.comes c.sound.ensures.numbered
+
+pub returns-in-Miss-clause-advances : goal.returns-in-Miss-clause-advances
+returns-in-Miss-clause-advances g c =
+    missed_advances c.args.m.now c.make.new.m c.args.pid c.args.before.now c.args.number c.args.regs.now c.in-Some.call (g.F.Files.holds c.args.files.now) (g.D.SwapDev.image c.args.swap.now)
+    (g.D.SwapDev.image c.make.new.swap) (is_now c.args.patience) c.requires.steady c.requires.lends c.requires.registers c.requires.made (ap call_of (sym (to_z-of_z w32 c.args.number c.ranges.number)) ∙ sym c.numbered.ensures ∙ c.in-Some.is)
+    c.in-Miss.address c.in_ok-make.field-0 c.in-Miss.is c.in_ok-make.ensures.comes c.serve_access.new.m (g.F.Files.holds c.make.new.files) (g.D.SwapDev.image c.serve_access.new.swap) c.make.ensures.holds c.serve_access.result
+    c.serve_access.ensures.advances
+
+pub returns-in-Miss-clause-stops : goal.returns-in-Miss-clause-stops
+returns-in-Miss-clause-stops g c =
+    missed_stops c.args.m.now c.make.new.m c.args.pid c.args.before.now c.args.number c.args.regs.now c.in-Some.call (g.F.Files.holds c.args.files.now) (g.D.SwapDev.image c.args.swap.now)
+    (g.D.SwapDev.image c.make.new.swap) (is_now c.args.patience) c.requires.steady c.requires.lends c.requires.registers c.requires.made (ap call_of (sym (to_z-of_z w32 c.args.number c.ranges.number)) ∙ sym c.numbered.ensures ∙ c.in-Some.is)
+    c.in-Miss.address c.in_ok-make.field-0 c.in-Miss.is c.in_ok-make.ensures.comes c.serve_access.new.m (g.F.Files.holds c.make.new.files) (g.D.SwapDev.image c.serve_access.new.swap) c.make.ensures.holds c.serve_access.result
+    c.serve_access.ensures.stops
+
+pub returns-in-Miss-clause-continues : goal.returns-in-Miss-clause-continues
+returns-in-Miss-clause-continues g c =
+    missed_goes_on c.args.m.now c.make.new.m c.args.pid c.args.before.now c.args.number c.args.regs.now c.in-Some.call (g.F.Files.holds c.args.files.now) (g.D.SwapDev.image c.args.swap.now)
+    (g.D.SwapDev.image c.make.new.swap) (is_now c.args.patience) c.requires.steady c.requires.lends c.requires.registers c.requires.made (ap call_of (sym (to_z-of_z w32 c.args.number c.ranges.number)) ∙ sym c.numbered.ensures ∙ c.in-Some.is)
+    c.in-Miss.address c.in_ok-make.field-0 c.in-Miss.is c.in_ok-make.ensures.comes c.serve_access.new.m c.serve_access.result c.serve_access.ensures.continues

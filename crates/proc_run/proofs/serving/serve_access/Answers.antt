@@ -1,0 +1,156 @@
+use Rattle.std.proofs.Common.{inr, inl, sym, subst}
+use Rattle.std.proofs.lemmas.Result.{err_from_is_err_and}
+use Rattle.fault_fill.specs.declared.touch.Served.{Served}
+use Rattle.proc_calls.specs.Callers.{IsCaller}
+use Rattle.proc_calls.specs.Leaving.{HasEnded, StopsAlive}
+use Rattle.holder_laws.proofs.Calls.{caller_holds}
+use Rattle.holder_laws.proofs.Leaving.{ended_keeps}
+use Rattle.ready_laws.specs.Ready.{Continues}
+use Rattle.ready_laws.proofs.Running.{continues_both}
+use Rattle.ready_laws.proofs.Calls.{end_continues}
+use Rattle.proc_run.specs.Runs.{is_now}
+use Rattle.proc_run.proofs.Served.{IsStuck, EndsBy, is_end, ends_there, served_on, served_holders, served_stops, advances_valid, advances_stuck, advances_ended, stops_ended}
+use Rattle.proc_run.proofs.serving.serve_access.Goals as goal
+use Rattle.proc_run.proofs.serving.serve_access.Goals.{in-NoSpace, in-Signal}
+
+pub returns-in_err-served-clause-stops : goal.returns-in_err-served-clause-stops
+returns-in_err-served-clause-stops g c =
+    let e = err_from_is_err_and c.from_residual.result c.from_residual.ensures.1 in
+    rw (e.1, e.2) (λ A s image p x before r w.
+    served_stops (is_now c.args.patience) A s c.args.m.now c.serve_by.new.m (g.F.Files.holds c.args.files.now) (g.D.SwapDev.image c.args.swap.now) (g.D.SwapDev.image c.serve_by.new.swap)
+    image c.args.pid p x c.args.address c.args.write before c.in_err-served.field-0.0 r w c.in_err-served.ensures.stops)
+
+pub sound-requires-2 : goal.sound-requires-2
+sound-requires-2 g c =
+    let caller : IsCaller c.args.m.now c.args.pid = record { running = c.requires.steady.running; whole = c.requires.steady.whole; clear = c.requires.steady.clear; lends = c.requires.lends } in
+    (served_on (is_now c.args.patience) c.args.m.now c.serve_by.new.m c.args.pid c.args.address c.args.write (g.F.Files.holds c.args.files.now) (g.D.SwapDev.image c.args.swap.now)
+    (g.D.SwapDev.image c.serve_by.new.swap) c.in_ok-served.served caller c.in_ok-served.ensures.served).running
+
+pub returns-in-Valid-clause-advances : goal.returns-in-Valid-clause-advances
+returns-in-Valid-clause-advances g c = λ A s image p x before r w.
+    advances_valid (is_now c.args.patience) A s c.args.m.now c.serve_by.new.m (g.F.Files.holds c.args.files.now) (g.D.SwapDev.image c.args.swap.now) (g.D.SwapDev.image c.serve_by.new.swap)
+    image c.args.pid p x c.args.address c.args.write before c.in_ok-served.served c.in-Valid.is r w c.in_ok-served.ensures.served
+
+pub returns-in-Valid-clause-continues : goal.returns-in-Valid-clause-continues
+returns-in-Valid-clause-continues g c =
+    let caller : IsCaller c.args.m.now c.args.pid = record { running = c.requires.steady.running; whole = c.requires.steady.whole; clear = c.requires.steady.clear; lends = c.requires.lends } in
+    served_on (is_now c.args.patience) c.args.m.now c.serve_by.new.m c.args.pid c.args.address c.args.write (g.F.Files.holds c.args.files.now) (g.D.SwapDev.image c.args.swap.now)
+    (g.D.SwapDev.image c.serve_by.new.swap) c.in_ok-served.served caller c.in_ok-served.ensures.served
+
+pub returns-in-Valid-clause-holders : goal.returns-in-Valid-clause-holders
+returns-in-Valid-clause-holders g c =
+    served_holders (is_now c.args.patience) c.args.m.now c.serve_by.new.m c.args.pid c.args.address c.args.write (g.F.Files.holds c.args.files.now) (g.D.SwapDev.image c.args.swap.now)
+    (g.D.SwapDev.image c.serve_by.new.swap) c.in_ok-served.served c.in_ok-served.ensures.served c.sound.ensures.numbered c.requires.steady.holders
+
+pub returns-in-Asleep-clause-advances : goal.returns-in-Asleep-clause-advances
+returns-in-Asleep-clause-advances g c = λ A s image p x before r w.
+    advances_stuck (is_now c.args.patience) A s c.args.m.now c.serve_by.new.m (g.F.Files.holds c.args.files.now) (g.D.SwapDev.image c.args.swap.now) (g.D.SwapDev.image c.serve_by.new.swap)
+    image c.args.pid p x c.args.address c.args.write before c.in_ok-served.served
+    (elim c.in-Asleep.is [ inl y ↦ subst IsStuck (sym y.1) tt | inr y ↦ subst IsStuck (sym y) tt ]) r w c.in_ok-served.ensures.served
+
+pub returns-in-Asleep-clause-continues : goal.returns-in-Asleep-clause-continues
+returns-in-Asleep-clause-continues g c =
+    let caller : IsCaller c.args.m.now c.args.pid = record { running = c.requires.steady.running; whole = c.requires.steady.whole; clear = c.requires.steady.clear; lends = c.requires.lends } in
+    served_on (is_now c.args.patience) c.args.m.now c.serve_by.new.m c.args.pid c.args.address c.args.write (g.F.Files.holds c.args.files.now) (g.D.SwapDev.image c.args.swap.now)
+    (g.D.SwapDev.image c.serve_by.new.swap) c.in_ok-served.served caller c.in_ok-served.ensures.served
+
+pub returns-in-Asleep-clause-holders : goal.returns-in-Asleep-clause-holders
+returns-in-Asleep-clause-holders g c =
+    served_holders (is_now c.args.patience) c.args.m.now c.serve_by.new.m c.args.pid c.args.address c.args.write (g.F.Files.holds c.args.files.now) (g.D.SwapDev.image c.args.swap.now)
+    (g.D.SwapDev.image c.serve_by.new.swap) c.in_ok-served.served c.in_ok-served.ensures.served c.sound.ensures.numbered c.requires.steady.holders
+
+pub kill-requires-clause-calls : goal.kill-requires-clause-calls
+kill-requires-clause-calls g c =
+    let caller : IsCaller c.args.m.now c.args.pid = record { running = c.requires.steady.running; whole = c.requires.steady.whole; clear = c.requires.steady.clear; lends = c.requires.lends } in
+    let on : Continues c.args.m.now c.serve_by.new.m 0 =
+    served_on (is_now c.args.patience) c.args.m.now c.serve_by.new.m c.args.pid c.args.address c.args.write (g.F.Files.holds c.args.files.now) (g.D.SwapDev.image c.args.swap.now)
+    (g.D.SwapDev.image c.serve_by.new.swap) c.in_ok-served.served caller c.in_ok-served.ensures.served in
+    let ends : EndsBy c.in_ok-served.served c.match-served.signal = elim c.match-served.branch [
+      | in-NoSpace w ↦ subst (λ (y : Served). EndsBy y c.match-served.signal) (sym w.in-NoSpace.is) w.signal-is
+      | in-Signal w ↦ subst (λ (y : Served). EndsBy y c.match-served.signal) (sym w.in-Signal.is) w.signal-is
+    ] in
+    record {
+      running = on.running;
+      whole = on.whole;
+      clear = on.clear;
+      lends = ends_there (is_now c.args.patience) c.args.m.now c.serve_by.new.m c.args.pid c.args.address c.args.write (g.F.Files.holds c.args.files.now) (g.D.SwapDev.image c.args.swap.now)
+          (g.D.SwapDev.image c.serve_by.new.swap) c.in_ok-served.served (is_end c.in_ok-served.served c.match-served.signal ends) c.in_ok-served.ensures.served c.requires.lends;
+    }
+
+pub returns-in_err-kill-clause-stops : goal.returns-in_err-kill-clause-stops
+returns-in_err-kill-clause-stops g c =
+    let caller : IsCaller c.args.m.now c.args.pid = record { running = c.requires.steady.running; whole = c.requires.steady.whole; clear = c.requires.steady.clear; lends = c.requires.lends } in
+    let on : Continues c.args.m.now c.serve_by.new.m 0 =
+    served_on (is_now c.args.patience) c.args.m.now c.serve_by.new.m c.args.pid c.args.address c.args.write (g.F.Files.holds c.args.files.now) (g.D.SwapDev.image c.args.swap.now)
+    (g.D.SwapDev.image c.serve_by.new.swap) c.in_ok-served.served caller c.in_ok-served.ensures.served in
+    let ends : EndsBy c.in_ok-served.served c.match-served.signal = elim c.match-served.branch [
+      | in-NoSpace w ↦ subst (λ (y : Served). EndsBy y c.match-served.signal) (sym w.in-NoSpace.is) w.signal-is
+      | in-Signal w ↦ subst (λ (y : Served). EndsBy y c.match-served.signal) (sym w.in-Signal.is) w.signal-is
+    ] in
+    let e = err_from_is_err_and c.from_residual-in_err-kill.result c.from_residual-in_err-kill.ensures.1 in
+    rw (e.1, e.2) (λ A s image p x before r w.
+    stops_ended (is_now c.args.patience) A s c.args.m.now c.serve_by.new.m c.kill.new.m (g.F.Files.holds c.args.files.now) (g.D.SwapDev.image c.args.swap.now)
+    (g.D.SwapDev.image c.serve_by.new.swap) (g.D.SwapDev.image c.kill.new.swap) image c.args.pid p x c.args.address c.args.write before c.in_ok-served.served c.match-served.signal
+    c.in_err-kill.field-0.0 ends on r w c.in_ok-served.ensures.served
+    (subst (λ h. StopsAlive c.serve_by.new.m c.kill.new.m c.args.pid h (g.D.SwapDev.image c.serve_by.new.swap) (g.D.SwapDev.image c.kill.new.swap) c.in_err-kill.field-0.0)
+    c.serve_by.ensures.holds c.in_err-kill.ensures.stops))
+
+pub returns-clause-advances : goal.returns-clause-advances
+returns-clause-advances g c =
+    let caller : IsCaller c.args.m.now c.args.pid = record { running = c.requires.steady.running; whole = c.requires.steady.whole; clear = c.requires.steady.clear; lends = c.requires.lends } in
+    let on : Continues c.args.m.now c.serve_by.new.m 0 =
+    served_on (is_now c.args.patience) c.args.m.now c.serve_by.new.m c.args.pid c.args.address c.args.write (g.F.Files.holds c.args.files.now) (g.D.SwapDev.image c.args.swap.now)
+    (g.D.SwapDev.image c.serve_by.new.swap) c.in_ok-served.served caller c.in_ok-served.ensures.served in
+    let ends : EndsBy c.in_ok-served.served c.match-served.signal = elim c.match-served.branch [
+      | in-NoSpace w ↦ subst (λ (y : Served). EndsBy y c.match-served.signal) (sym w.in-NoSpace.is) w.signal-is
+      | in-Signal w ↦ subst (λ (y : Served). EndsBy y c.match-served.signal) (sym w.in-Signal.is) w.signal-is
+    ] in
+    λ A s image p x before r w.
+    advances_ended (is_now c.args.patience) A s c.args.m.now c.serve_by.new.m c.kill.new.m (g.F.Files.holds c.args.files.now) (g.D.SwapDev.image c.args.swap.now)
+    (g.D.SwapDev.image c.serve_by.new.swap) (g.D.SwapDev.image c.kill.new.swap) image c.args.pid p x c.args.address c.args.write before c.in_ok-served.served c.match-served.signal
+    ends on r w c.in_ok-served.ensures.served
+    (subst (λ h. HasEnded c.serve_by.new.m c.kill.new.m c.args.pid c.match-served.signal h (g.D.SwapDev.image c.serve_by.new.swap) (g.D.SwapDev.image c.kill.new.swap))
+    c.serve_by.ensures.holds c.in_ok-kill.ensures.ended)
+
+pub returns-clause-continues : goal.returns-clause-continues
+returns-clause-continues g c =
+    let caller : IsCaller c.args.m.now c.args.pid = record { running = c.requires.steady.running; whole = c.requires.steady.whole; clear = c.requires.steady.clear; lends = c.requires.lends } in
+    let on : Continues c.args.m.now c.serve_by.new.m 0 =
+    served_on (is_now c.args.patience) c.args.m.now c.serve_by.new.m c.args.pid c.args.address c.args.write (g.F.Files.holds c.args.files.now) (g.D.SwapDev.image c.args.swap.now)
+    (g.D.SwapDev.image c.serve_by.new.swap) c.in_ok-served.served caller c.in_ok-served.ensures.served in
+    let ends : EndsBy c.in_ok-served.served c.match-served.signal = elim c.match-served.branch [
+      | in-NoSpace w ↦ subst (λ (y : Served). EndsBy y c.match-served.signal) (sym w.in-NoSpace.is) w.signal-is
+      | in-Signal w ↦ subst (λ (y : Served). EndsBy y c.match-served.signal) (sym w.in-Signal.is) w.signal-is
+    ] in
+    let after : IsCaller c.serve_by.new.m c.args.pid = record {
+      running = on.running;
+      whole = on.whole;
+      clear = on.clear;
+      lends = ends_there (is_now c.args.patience) c.args.m.now c.serve_by.new.m c.args.pid c.args.address c.args.write (g.F.Files.holds c.args.files.now) (g.D.SwapDev.image c.args.swap.now)
+          (g.D.SwapDev.image c.serve_by.new.swap) c.in_ok-served.served (is_end c.in_ok-served.served c.match-served.signal ends) c.in_ok-served.ensures.served c.requires.lends;
+    } in
+    continues_both c.args.m.now c.serve_by.new.m c.kill.new.m 0 1 on
+    (end_continues c.serve_by.new.m c.kill.new.m c.args.pid c.match-served.signal (g.F.Files.holds c.serve_by.new.files) (g.D.SwapDev.image c.serve_by.new.swap) (g.D.SwapDev.image c.kill.new.swap)
+    after c.in_ok-kill.ensures.ended)
+
+pub returns-clause-holders : goal.returns-clause-holders
+returns-clause-holders g c =
+    let caller : IsCaller c.args.m.now c.args.pid = record { running = c.requires.steady.running; whole = c.requires.steady.whole; clear = c.requires.steady.clear; lends = c.requires.lends } in
+    let on : Continues c.args.m.now c.serve_by.new.m 0 =
+    served_on (is_now c.args.patience) c.args.m.now c.serve_by.new.m c.args.pid c.args.address c.args.write (g.F.Files.holds c.args.files.now) (g.D.SwapDev.image c.args.swap.now)
+    (g.D.SwapDev.image c.serve_by.new.swap) c.in_ok-served.served caller c.in_ok-served.ensures.served in
+    let ends : EndsBy c.in_ok-served.served c.match-served.signal = elim c.match-served.branch [
+      | in-NoSpace w ↦ subst (λ (y : Served). EndsBy y c.match-served.signal) (sym w.in-NoSpace.is) w.signal-is
+      | in-Signal w ↦ subst (λ (y : Served). EndsBy y c.match-served.signal) (sym w.in-Signal.is) w.signal-is
+    ] in
+    let after : IsCaller c.serve_by.new.m c.args.pid = record {
+      running = on.running;
+      whole = on.whole;
+      clear = on.clear;
+      lends = ends_there (is_now c.args.patience) c.args.m.now c.serve_by.new.m c.args.pid c.args.address c.args.write (g.F.Files.holds c.args.files.now) (g.D.SwapDev.image c.args.swap.now)
+          (g.D.SwapDev.image c.serve_by.new.swap) c.in_ok-served.served (is_end c.in_ok-served.served c.match-served.signal ends) c.in_ok-served.ensures.served c.requires.lends;
+    } in
+    ended_keeps c.serve_by.new.m c.kill.new.m c.args.pid c.match-served.signal (g.F.Files.holds c.serve_by.new.files) (g.D.SwapDev.image c.serve_by.new.swap) (g.D.SwapDev.image c.kill.new.swap)
+    (caller_holds c.serve_by.new.m c.args.pid after) c.in_ok-kill.ensures.ended c.sound-2.ensures.numbered
+    (served_holders (is_now c.args.patience) c.args.m.now c.serve_by.new.m c.args.pid c.args.address c.args.write (g.F.Files.holds c.args.files.now) (g.D.SwapDev.image c.args.swap.now)
+    (g.D.SwapDev.image c.serve_by.new.swap) c.in_ok-served.served c.in_ok-served.ensures.served c.sound.ensures.numbered c.requires.steady.holders)

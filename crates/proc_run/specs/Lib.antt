@@ -1,0 +1,4 @@
+pub mod Choosing
+pub mod Runs
+pub mod Calls
+pub mod Serving

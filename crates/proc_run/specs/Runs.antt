@@ -1,0 +1,78 @@
+-- What a process that runs leads to in a run.
+use Rattle.std.specs.Prelude.{◌≡◌, ℕ, ◌<◌, ◌≤◌, Bool, true, false, List, [], length, Option, Some}
+use Rattle.vm_facts.specs.declared.page.Page.{Page}
+use Rattle.vm_facts.specs.declared.stop.Stop.{Stop}
+use Rattle.io_edge.specs.FileHolding.{NamedFile}
+use Rattle.flat_state.specs.Space.{Space}
+use Rattle.flat_state.specs.Flat.{Process, Inputs}
+use Rattle.kernel_model.specs.Kernel.{Kernel}
+use Rattle.machine_state.specs.Machine.{Standing}
+use Rattle.paging_units.specs.LastMoves.{last_moves}
+use Rattle.proc_calls.specs.Reading.{AreNamed}
+use Rattle.run_model.specs.State.{State}
+use Rattle.run_model.specs.Wanted.{locked}
+use Rattle.step_units.specs.Machines.{RunsOn}
+use Rattle.step_units.specs.Stepped.{StepLeads, MarkEnds, StopLeads}
+use Rattle.step_units.specs.Running.{Waits}
+use Rattle.holder_laws.specs.Holders.{HoldersStand}
+use Rattle.proc_run.specs.declared.advancing.Patience.{Patience}
+use Rattle.proc_run.specs.declared.advancing.Patience.TheVariants as patience
+use Rattle.proc_run.specs.declared.advancing.Advance.{Advance}
+use Rattle.proc_run.specs.declared.advancing.Advance.TheVariants as advances
+
+-- A machine that may be asked for one unit of a run after another, whatever the devices tell: it runs, no pieces wait for an entry,
+-- nothing is due, who holds a space holds one that is there, and alone; it has 64 frames or more, and its last entry counts no more
+-- than a million moves of the hands.
+pub record IsSteady (m : Standing) : Type 0 where
+  pub running : m.kernel.stopped ≡ false
+  pub whole : m.before ≡ m.kernel.holdings
+  pub clear : m.kernel.place.due ≡ []
+  pub holders : HoldersStand m.kernel
+  pub frames : 64 ≤ length m.kernel.place.holds
+  pub low : last_moves m.kernel.journal ≤ 1000000
+
+-- whether pages are served by waiting for them
+abbrev pub is_now : Patience → Bool
+is_now patience.Stops = false
+is_now patience.Waits = true
+
+-- The machine stands at a state at which a process runs, between two steps, with a swap image that is told.
+pub record RunsAt (A : Inputs) (s : State) (m : Standing) (holds : Option (List NamedFile)) (i : Option (List ℕ)) (image : List ℕ) (pid : ℕ) (now : Bool) (p : Process) (x : Space) : Type 0 where
+  pub on : RunsOn A s m holds image pid now p x
+  pub named : AreNamed A.images m.images
+  pub told : i ≡ Some image
+
+-- One attempt.
+
+-- What it leads to: an instruction more; or none, and one more page is valid of the first that it touches; or nothing more is to
+-- come of the mark.
+abbrev pub AdvancesTo : Inputs → State → Kernel → List ℕ → Advance → Kernel → Option (List ℕ) → Type 0
+AdvancesTo A s k image advances.Counted l j = StepLeads A s k image 1 l j
+AdvancesTo A s k image advances.Served l j = (led : StepLeads A s k image 0 l j) × (length (locked A s) < length (locked A led.state))
+AdvancesTo A s k image advances.Stuck l j = MarkEnds A s k image l j
+
+-- for every state at which the machine stands
+abbrev pub Advances : Standing → Standing → ℕ → Bool → Option (List NamedFile) → Option (List ℕ) → Option (List ℕ) → Advance → Type 0
+Advances old new pid now holds i j advance =
+    (A : Inputs) (s : State) (image : List ℕ) (p : Process) (x : Space) → RunsAt A s old holds i image pid now p x → AdvancesTo A s old.kernel image advance new.kernel j
+
+abbrev pub StopsAdvancing : Standing → Standing → ℕ → Bool → Option (List NamedFile) → Option (List ℕ) → Option (List ℕ) → Stop → Type 0
+StopsAdvancing old new pid now holds i j stop =
+    (A : Inputs) (s : State) (image : List ℕ) (p : Process) (x : Space) → RunsAt A s old holds i image pid now p x → StopLeads A s old.kernel image stop new j
+
+-- where it waits for the page of this byte
+abbrev pub AdvancesWaiting : Standing → Standing → ℕ → Bool → ℕ → Bool → Option (List NamedFile) → Option (List ℕ) → Option (List ℕ) → Advance → Type 0
+AdvancesWaiting old new pid now address write holds i j advance =
+    (A : Inputs) (s : State) (image : List ℕ) (p : Process) (x : Space) (before : List Page) → RunsAt A s old holds i image pid now p x → Waits A s old p x address write before
+    → AdvancesTo A s old.kernel image advance new.kernel j
+
+abbrev pub StopsWaiting : Standing → Standing → ℕ → Bool → ℕ → Bool → Option (List NamedFile) → Option (List ℕ) → Option (List ℕ) → Stop → Type 0
+StopsWaiting old new pid now address write holds i j stop =
+    (A : Inputs) (s : State) (image : List ℕ) (p : Process) (x : Space) (before : List Page) → RunsAt A s old holds i image pid now p x → Waits A s old p x address write before
+    → StopLeads A s old.kernel image stop new j
+
+-- the instructions that it counts
+abbrev pub counts : Advance → ℕ
+counts advances.Counted = 1
+counts advances.Served = 0
+counts advances.Stuck = 0

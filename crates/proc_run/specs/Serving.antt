@@ -1,0 +1,48 @@
+-- What serving an access of a process comes to, and where the machine stops in it.
+use Rattle.std.specs.Prelude.{◌≡◌, ◌⊎◌, ℕ, Bool, true, false, List, [], Option}
+use Rattle.io_edge.specs.FileHolding.{NamedFile}
+use Rattle.vm_facts.specs.declared.page.Page.{Page}
+use Rattle.vm_facts.specs.declared.stop.Stop.{Stop}
+use Rattle.vm_facts.specs.declared.stop.Stop.TheVariants as stops
+use Rattle.flat_state.specs.Space.{Space}
+use Rattle.flat_state.specs.Flat.{Process, Inputs}
+use Rattle.machine_state.specs.Machine.{Standing}
+use Rattle.machine_state.specs.Conditions.{HasStopped}
+use Rattle.fault_fill.specs.Growth.{access_by}
+use Rattle.fault_fill.specs.Touches.{TouchedAs, TouchedNow, AccessComes, AccessStops}
+use Rattle.fault_fill.specs.declared.touch.Served.{Served}
+use Rattle.run_model.specs.State.{State}
+use Rattle.run_model.specs.Wanted.{locked}
+use Rattle.proc_run.specs.Runs.{RunsAt}
+
+-- at each state at which the machine stands these are the pages that the run keeps
+abbrev pub AreLocked : Standing → Option (List NamedFile) → Option (List ℕ) → ℕ → List Page → Type 0
+AreLocked old holds i pid pages = (A : Inputs) (s : State) (image : List ℕ) (p : Process) (x : Space) → RunsAt A s old holds i image pid true p x → pages ≡ locked A s
+
+-- it is served until its page is valid, by hands that pass over these
+pub record ServedNow (old new : Standing) (pid address : ℕ) (write : Bool) (holds : Option (List NamedFile)) (i j : Option (List ℕ)) (answer : Served) : Type 0 where
+  pub pages : List Page
+  pub kept : AreLocked old holds i pid pages
+  pub comes : AccessComes (λ came q from. TouchedNow pages came q from new holds i j) (access_by old.kernel pid address write) answer pid old new i j
+
+-- by whether it is served by waiting
+abbrev pub ServedBy : Bool → Standing → Standing → ℕ → ℕ → Bool → Option (List NamedFile) → Option (List ℕ) → Option (List ℕ) → Served → Type 0
+ServedBy true old new pid address write holds i j answer = ServedNow old new pid address write holds i j answer
+ServedBy false old new pid address write holds i j answer = AccessComes (λ came q from. TouchedAs came q from new holds i j) (access_by old.kernel pid address write) answer pid old new i j
+
+-- Stops.
+
+pub record StopsServedNow (old new : Standing) (pid address : ℕ) (write : Bool) (holds : Option (List NamedFile)) (i j : Option (List ℕ)) (stop : Stop) : Type 0 where
+  pub pages : List Page
+  pub kept : AreLocked old holds i pid pages
+  pub stops : AccessStops true pages (access_by old.kernel pid address write) pid old new holds i j stop
+
+-- for want of memory before any unit
+pub record StopsAtOnce (old new : Standing) (i j : Option (List ℕ)) (stop : Stop) : Type 0 where
+  pub stopped : HasStopped old new
+  pub cause : stop ≡ stops.NoMemory
+  pub image : j ≡ i
+
+abbrev pub StopsServed : Bool → Standing → Standing → ℕ → ℕ → Bool → Option (List NamedFile) → Option (List ℕ) → Option (List ℕ) → Stop → Type 0
+StopsServed true old new pid address write holds i j stop = StopsAtOnce old new i j stop ⊎ StopsServedNow old new pid address write holds i j stop
+StopsServed false old new pid address write holds i j stop = AccessStops false [] (access_by old.kernel pid address write) pid old new holds i j stop

@@ -1,0 +1,53 @@
+//! One instruction of a process, over the frames of the machine.
+ghost use Rattle.std.specs.Prelude.{◌≡◌, ◌≤◌, ◌<◌, ◌↔◌, false, true, length};
+ghost use Rattle.std.specs.Option.{is_some};
+ghost use Rattle.vm_facts.specs.declared.entry.Entry.TheVariants.{Ran};
+ghost use Rattle.user_vax.specs.Program.{run};
+ghost use Rattle.user_vax.specs.Instruction.{instruction, answer_of, registers_after, writes_of};
+ghost use Rattle.flat_state.specs.Journal.{append};
+ghost use Rattle.machine_state.specs.Joined.{instructions_in, last_says};
+ghost use Rattle.machine_state.specs.UserMemory.{CanLend, Wrote, kernel_answers};
+ghost use Rattle.proc_calls.specs.Callers.{space_held};
+
+use machine_state::Machine;
+use user_vax::{Stepped, step};
+use vm_facts::{Entry, Regs};
+
+// Whether an entry counts instructions of this process.
+fn counts(e: &Entry, of: u32) -> bool
+    ensures { result ≡ is_some (instructions_in of e.now) }
+{
+    match e {
+        Entry::Ran { pid, .. } => *pid == of,
+        _ => false,
+    }
+}
+
+// Whether the last entry does.
+fn last_counts(journal: &[Entry], of: u32) -> bool
+    ensures { result ≡ is_some (last_says (instructions_in of) journal.now) }
+{
+    match journal.last() {
+        Some(e) => counts(e, of),
+        None => false,
+    }
+}
+
+/// Whether the journal takes one more instruction of a process: as a further entry, or by the count of its last.
+pub fn has_room(m: &Machine, pid: u32) -> bool
+    ensures { (result ≡ false) ↔ ((m.now.params.journal ≤ length m.now.kernel.journal) × (length m.now.kernel.journal < length (append m.now.kernel.journal (Ran pid 1)))) }
+{
+    let journal = m.journal();
+    journal.len() < m.params().journal as usize || last_counts(journal, pid)
+}
+
+/// Carries the next instruction of a process out, or changes nothing.
+pub fn attempt(m: &mut Machine, pid: u32, regs: &mut Regs) -> Stepped
+    requires running { m.old.kernel.stopped ≡ false }
+    requires lends { CanLend m.old.kernel pid }
+    ensures answer { result ≡ answer_of (run (kernel_answers m.old.kernel (space_held m.old.kernel pid)) (instruction regs.old)) }
+    ensures registers { regs.new ≡ registers_after regs.old (run (kernel_answers m.old.kernel (space_held m.old.kernel pid)) (instruction regs.old)) }
+    ensures wrote { Wrote m.old (space_held m.old.kernel pid) (writes_of (run (kernel_answers m.old.kernel (space_held m.old.kernel pid)) (instruction regs.old))) m.new }
+{
+    step(regs, &mut m.memory(pid))
+}

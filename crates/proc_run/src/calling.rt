@@ -1,0 +1,108 @@
+//! A call that an instruction makes.
+ghost use Rattle.std.specs.Prelude.{◌≡◌, ◌≤◌, Some, Ok, IfOk, OnOk, IfErr};
+ghost use Rattle.user_vax.specs.Program.{run};
+ghost use Rattle.user_vax.specs.Effects.{Effect};
+ghost use Rattle.user_vax.specs.Instruction.{instruction};
+ghost use Rattle.machine_state.specs.Done.{CountsPages, CountsReads, CountsWrites};
+ghost use Rattle.machine_state.specs.Files.{AreFiles};
+ghost use Rattle.machine_state.specs.UserMemory.{CanLend};
+ghost use Rattle.proc_calls.specs.Callers.{regs_of};
+ghost use Rattle.holder_laws.specs.Holders.{HoldersStand};
+ghost use Rattle.ready_laws.specs.Ready.{Continues};
+ghost use Rattle.proc_run.specs.Calls.{own_answers, CallComes, CallStops, MadeCall};
+ghost use Rattle.proc_run.specs.Runs.{IsSteady, is_now, Advances, StopsAdvancing, counts};
+
+use crate::advancing::{Advance, Patience};
+use crate::serving::serve_access;
+use flat_model::SystemCall;
+use io_edge::{Files, SwapDev};
+use machine_state::Machine;
+use proc_calls::{Called, brk, execve, exit, fork, getpid, kill, vfork, wait, write};
+use std::alloc::Global;
+use vm_facts::{Regs, Stop};
+
+/// The signal of a call that isn't one of the eight, by the number of 4.3BSD.
+const SIGSYS: u8 = 12;
+
+// One of the eight calls, with the registers that its instruction left.
+fn make<F: Files, D: SwapDev>(
+    alloc: Global,
+    m: &mut Machine,
+    files: &mut F,
+    swap: &mut D,
+    pid: u32,
+    call: SystemCall,
+    regs: &Regs,
+) -> Result<Called, Stop>
+    requires steady { IsSteady m.old }
+    requires lends { CanLend m.old.kernel pid }
+    requires area { m.old.params.swap_blocks ≤ D.blocks swap.old }
+    requires files { AreFiles m.old.images (F.holds files.old) }
+    ensures comes { IfOk result (CallComes call m.old m.new pid regs.now (F.holds files.old) (D.image swap.old) (D.image swap.new)) }
+    ensures stops { IfErr result (CallStops call m.old m.new pid regs.now (F.holds files.old) (D.image swap.old) (D.image swap.new)) }
+    ensures files_lead { F.leads files.old files.new }
+    ensures swap_leads { D.leads swap.old swap.new }
+    ensures holds { F.holds files.new ≡ F.holds files.old }
+    ensures blocks { D.blocks swap.new ≡ D.blocks swap.old }
+    ensures open_faults { F.open_faults files.new ≡ F.open_faults files.old }
+    ensures page_faults { CountsPages result (F.page_faults files.old) (F.page_faults files.new) }
+    ensures read_faults { CountsReads result (D.read_faults swap.old) (D.read_faults swap.new) }
+    ensures write_faults { CountsWrites result (D.write_faults swap.old) (D.write_faults swap.new) }
+{
+    match call {
+        SystemCall::Exit => exit(m, files, swap, pid, regs),
+        SystemCall::Fork => fork(m, files, swap, pid, regs),
+        SystemCall::Write => write(alloc, m, files, swap, pid, regs),
+        SystemCall::Break => brk(m, files, swap, pid, regs),
+        SystemCall::Getpid => getpid(m, files, swap, pid, regs),
+        SystemCall::Execve => execve(alloc, m, files, swap, pid, regs),
+        SystemCall::Vfork => vfork(m, files, swap, pid, regs),
+        SystemCall::Wait => wait(m, files, swap, pid, regs),
+    }
+}
+
+/// The call of a number, by a process that had the registers `before` it and whose instruction left `regs`. A number that is none
+/// of the eight ends the process.
+pub fn call<F: Files, D: SwapDev>(
+    alloc: Global,
+    m: &mut Machine,
+    files: &mut F,
+    swap: &mut D,
+    pid: u32,
+    number: i32,
+    before: &Regs,
+    regs: &Regs,
+    patience: Patience,
+) -> Result<Advance, Stop>
+    requires steady { IsSteady m.old }
+    requires lends { CanLend m.old.kernel pid }
+    requires area { m.old.params.swap_blocks ≤ D.blocks swap.old }
+    requires files { AreFiles m.old.images (F.holds files.old) }
+    requires registers { before.now ≡ regs_of m.old.kernel pid }
+    requires made { MadeCall m.old pid before.now number regs.now }
+    ensures advances { IfOk result (Advances m.old m.new pid (is_now patience) (F.holds files.old) (D.image swap.old) (D.image swap.new)) }
+    ensures stops { IfErr result (StopsAdvancing m.old m.new pid (is_now patience) (F.holds files.old) (D.image swap.old) (D.image swap.new)) }
+    ensures continues { IfOk result (λ advance. Continues m.old m.new (counts advance)) }
+    ensures holders { OnOk result (HoldersStand m.new.kernel) }
+    ensures files_lead { F.leads files.old files.new }
+    ensures swap_leads { D.leads swap.old swap.new }
+    ensures holds { F.holds files.new ≡ F.holds files.old }
+    ensures blocks { D.blocks swap.new ≡ D.blocks swap.old }
+    ensures open_faults { F.open_faults files.new ≡ F.open_faults files.old }
+    ensures page_faults { CountsPages result (F.page_faults files.old) (F.page_faults files.new) }
+    ensures read_faults { CountsReads result (D.read_faults swap.old) (D.read_faults swap.new) }
+    ensures write_faults { CountsWrites result (D.write_faults swap.old) (D.write_faults swap.new) }
+{
+    m.sound();
+    let Some(call) = SystemCall::numbered(number) else {
+        kill(m, files, swap, pid, SIGSYS)?;
+        return Ok(Advance::Counted);
+    };
+    match make(alloc, m, files, swap, pid, call, regs)? {
+        Called::Ready | Called::Gone => Ok(Advance::Counted),
+        Called::Asleep => Ok(Advance::Stuck),
+        Called::Miss { address } => {
+            serve_access(alloc, m, files, swap, pid, before, address, false, patience)
+        }
+    }
+}

@@ -1,0 +1,12 @@
+//! A process runs: one instruction after another, with the calls that it makes and the pages that it waits for, as this project's
+//! profile of the run of 4.3BSD has it.
+#![tactic(auto)]
+
+mod advancing;
+mod attempting;
+mod calling;
+mod choosing;
+mod serving;
+
+pub use advancing::Patience;
+pub use choosing::{can_step, next_turned, ready_regs};

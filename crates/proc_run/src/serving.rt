@@ -1,0 +1,134 @@
+//! A page that an instruction or its call waits for.
+ghost use Rattle.std.specs.Prelude.{◌≡◌, ◌≤◌, true, false, length, IfOk, OnOk, IfErr};
+ghost use Rattle.machine_state.specs.Done.{CountsPages, CountsReads, CountsWrites};
+ghost use Rattle.machine_state.specs.Files.{AreFiles};
+ghost use Rattle.machine_state.specs.UserMemory.{CanLend};
+ghost use Rattle.proc_calls.specs.Callers.{regs_of};
+ghost use Rattle.touched_pages.specs.Missed.{WritesNothing};
+ghost use Rattle.holder_laws.specs.Holders.{HoldersStand};
+ghost use Rattle.ready_laws.specs.Ready.{Continues};
+ghost use Rattle.proc_run.specs.Serving.{ServedBy, StopsServed};
+ghost use Rattle.proc_run.specs.Runs.{IsSteady, is_now, AdvancesWaiting, StopsWaiting, counts};
+
+use crate::advancing::{Advance, Patience};
+use fault_fill::{Served, serve, serve_now};
+use io_edge::{Files, SwapDev};
+use machine_state::Machine;
+use proc_calls::kill;
+use std::alloc::Global;
+use touched_pages::touched_before;
+use user_vax::SIGSEGV;
+use vm_facts::{Regs, Stop};
+
+// The page of an access is served until it is valid. The hands pass over the pages that the instruction touches before it.
+fn bring_in<F: Files, D: SwapDev>(
+    alloc: Global,
+    m: &mut Machine,
+    files: &mut F,
+    swap: &mut D,
+    pid: u32,
+    regs: &Regs,
+    address: u32,
+    write: bool,
+) -> Result<Served, Stop>
+    requires steady { IsSteady m.old }
+    requires lends { CanLend m.old.kernel pid }
+    requires area { m.old.params.swap_blocks ≤ D.blocks swap.old }
+    requires files { AreFiles m.old.images (F.holds files.old) }
+    requires quiet { WritesNothing m.old.kernel pid regs.now }
+    requires registers { regs.now ≡ regs_of m.old.kernel pid }
+    ensures served { IfOk result (ServedBy true m.old m.new pid address write (F.holds files.old) (D.image swap.old) (D.image swap.new)) }
+    ensures stops { IfErr result (StopsServed true m.old m.new pid address write (F.holds files.old) (D.image swap.old) (D.image swap.new)) }
+    ensures files_lead { F.leads files.old files.new }
+    ensures swap_leads { D.leads swap.old swap.new }
+    ensures holds { F.holds files.new ≡ F.holds files.old }
+    ensures blocks { D.blocks swap.new ≡ D.blocks swap.old }
+    ensures open_faults { F.open_faults files.new ≡ F.open_faults files.old }
+    ensures page_faults { CountsPages result (F.page_faults files.old) (F.page_faults files.new) }
+    ensures read_faults { CountsReads result (D.read_faults swap.old) (D.read_faults swap.new) }
+    ensures write_faults { CountsWrites result (D.write_faults swap.old) (D.write_faults swap.new) }
+{
+    let touched = touched_before(alloc, m, pid, regs);
+    let touched = m.or_stop(touched)?;
+    serve_now(m, files, swap, pid, address, write, touched.as_slice())
+}
+
+// The page of an access is served, as far as the process has patience.
+fn serve_by<F: Files, D: SwapDev>(
+    alloc: Global,
+    m: &mut Machine,
+    files: &mut F,
+    swap: &mut D,
+    pid: u32,
+    regs: &Regs,
+    address: u32,
+    write: bool,
+    patience: Patience,
+) -> Result<Served, Stop>
+    requires steady { IsSteady m.old }
+    requires lends { CanLend m.old.kernel pid }
+    requires area { m.old.params.swap_blocks ≤ D.blocks swap.old }
+    requires files { AreFiles m.old.images (F.holds files.old) }
+    requires quiet { WritesNothing m.old.kernel pid regs.now }
+    requires registers { regs.now ≡ regs_of m.old.kernel pid }
+    ensures served { IfOk result (ServedBy (is_now patience) m.old m.new pid address write (F.holds files.old) (D.image swap.old) (D.image swap.new)) }
+    ensures stops { IfErr result (StopsServed (is_now patience) m.old m.new pid address write (F.holds files.old) (D.image swap.old) (D.image swap.new)) }
+    ensures files_lead { F.leads files.old files.new }
+    ensures swap_leads { D.leads swap.old swap.new }
+    ensures holds { F.holds files.new ≡ F.holds files.old }
+    ensures blocks { D.blocks swap.new ≡ D.blocks swap.old }
+    ensures open_faults { F.open_faults files.new ≡ F.open_faults files.old }
+    ensures page_faults { CountsPages result (F.page_faults files.old) (F.page_faults files.new) }
+    ensures read_faults { CountsReads result (D.read_faults swap.old) (D.read_faults swap.new) }
+    ensures write_faults { CountsWrites result (D.write_faults swap.old) (D.write_faults swap.new) }
+{
+    match patience {
+        Patience::Stops => serve(m, files, swap, pid, address, write),
+        Patience::Waits => bring_in(alloc, m, files, swap, pid, regs, address, write),
+    }
+}
+
+/// Serves the page of a byte to which the next instruction of a process, or its call, has no access yet. Where there is no such
+/// page, or its stack has to grow and finds no place, the process ends.
+pub fn serve_access<F: Files, D: SwapDev>(
+    alloc: Global,
+    m: &mut Machine,
+    files: &mut F,
+    swap: &mut D,
+    pid: u32,
+    regs: &Regs,
+    address: u32,
+    write: bool,
+    patience: Patience,
+) -> Result<Advance, Stop>
+    requires steady { IsSteady m.old }
+    requires lends { CanLend m.old.kernel pid }
+    requires area { m.old.params.swap_blocks ≤ D.blocks swap.old }
+    requires files { AreFiles m.old.images (F.holds files.old) }
+    requires quiet { WritesNothing m.old.kernel pid regs.now }
+    requires registers { regs.now ≡ regs_of m.old.kernel pid }
+    ensures advances { IfOk result (AdvancesWaiting m.old m.new pid (is_now patience) address write (F.holds files.old) (D.image swap.old) (D.image swap.new)) }
+    ensures stops { IfErr result (StopsWaiting m.old m.new pid (is_now patience) address write (F.holds files.old) (D.image swap.old) (D.image swap.new)) }
+    ensures continues { IfOk result (λ advance. Continues m.old m.new (counts advance)) }
+    ensures holders { OnOk result (HoldersStand m.new.kernel) }
+    ensures files_lead { F.leads files.old files.new }
+    ensures swap_leads { D.leads swap.old swap.new }
+    ensures holds { F.holds files.new ≡ F.holds files.old }
+    ensures blocks { D.blocks swap.new ≡ D.blocks swap.old }
+    ensures open_faults { F.open_faults files.new ≡ F.open_faults files.old }
+    ensures page_faults { CountsPages result (F.page_faults files.old) (F.page_faults files.new) }
+    ensures read_faults { CountsReads result (D.read_faults swap.old) (D.read_faults swap.new) }
+    ensures write_faults { CountsWrites result (D.write_faults swap.old) (D.write_faults swap.new) }
+{
+    m.sound();
+    let served = serve_by(alloc, m, files, swap, pid, regs, address, write, patience)?;
+    m.sound();
+    let signal = match served {
+        Served::Valid => return Ok(Advance::Served),
+        Served::Asleep(_) | Served::NoFrame => return Ok(Advance::Stuck),
+        Served::NoSpace => SIGSEGV,
+        Served::Signal(signal) => signal,
+    };
+    kill(m, files, swap, pid, signal)?;
+    Ok(Advance::Counted)
+}
