@@ -1,7 +1,7 @@
 pub mod Known
 pub mod Runs
 pub mod Ready
-pub mod Running
+pub mod Recorded
 pub mod Attempts
 pub mod Written
 pub mod Steps
@@ -11,3 +11,5 @@ pub mod CallsMissed
 pub mod CallsGoOn
 pub mod Made
 pub mod Served
+pub mod Marks
+pub mod SoFar

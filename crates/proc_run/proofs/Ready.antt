@@ -84,7 +84,7 @@ kept_first above (p ∷ ps) = go (test above p) (kept_first above ps)
     go true e = refl
     go false e = e
 
-ready_one : (a : Bool) (h : Holding) → (if a then false else flat_holds h) ≡ (holds_space (life_of h) && not a)
+pub ready_one : (a : Bool) (h : Holding) → (if a then false else flat_holds h) ≡ (holds_space (life_of h) && not a)
 ready_one true (Holds x) = refl
 ready_one true (Lends sid child) = refl
 ready_one true (Zombie status) = refl

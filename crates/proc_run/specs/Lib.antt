@@ -2,3 +2,4 @@ pub mod Choosing
 pub mod Runs
 pub mod Calls
 pub mod Serving
+pub mod Running

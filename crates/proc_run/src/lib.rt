@@ -6,7 +6,9 @@ mod advancing;
 mod attempting;
 mod calling;
 mod choosing;
+mod running;
 mod serving;
 
 pub use advancing::Patience;
 pub use choosing::{can_step, next_turned, ready_regs};
+pub use running::run;

@@ -1,7 +1,7 @@
 use Rattle.std.proofs.Common.{◌≡◌, Bool, true, false, ◌&&◌, not, refl, sym, ap, ◌∙◌}
 use Rattle.machine_state.specs.Machine.{proc_shown}
 use Rattle.proc_run.specs.Choosing.{can_step}
-use Rattle.proc_run.proofs.Running.{no_record, record_runs, record_regs}
+use Rattle.proc_run.proofs.Recorded.{no_record, record_runs, record_regs}
 use Rattle.proc_run.proofs.choosing.ready_regs.Goals as goal
 use Rattle.proc_run.proofs.choosing.ready_regs.Goals.{else-can_step-via-then-can_step+else-not-process, else-can_step-via-else-can_step}
 

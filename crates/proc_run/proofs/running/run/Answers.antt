@@ -1,0 +1,111 @@
+use Rattle.std.proofs.Common.{◌∙◌, subst, refl, arith}
+use Rattle.std.proofs.lemmas.Result.{err_from_is_err_and}
+use Rattle.ready_laws.specs.Ready.{Continues}
+use Rattle.proc_run.specs.declared.advancing.Advance.TheVariants as advances
+use Rattle.proc_run.specs.Runs.{is_now, Advances, StopsAdvancing, counts}
+use Rattle.proc_run.proofs.SoFar.{none_so_far, counted_far, served_far, stuck_runs, stops_far, idle_runs, done_runs, waited_runs, steady_on, lends_there}
+use Rattle.proc_run.proofs.running.run.Goals as goal
+
+pub loop-count-init : goal.loop-count-init
+loop-count-init g c = record {
+  steady = c.requires.steady;
+  params = refl;
+  images = refl;
+  counts = c.requires.counted;
+  more = omega arith;
+  few = omega arith;
+  so_far = none_so_far c.args.m.now c.args.pid (is_now c.args.patience) c.args.counted c.args.until (g.F.Files.holds c.args.files.now) (g.D.SwapDev.image c.args.swap.now);
+  files_lead = g.met.F.Files.leads_nowhere c.args.files.now;
+  swap_leads = g.met.D.SwapDev.leads_nowhere c.args.swap.now;
+  holds = refl;
+  blocks = refl;
+  open_faults = refl;
+  page_faults = refl;
+  read_faults = refl;
+  write_faults = refl;
+}
+
+pub returns-in_default-clause-runs : goal.returns-in_default-clause-runs
+returns-in_default-clause-runs g c =
+    let so = c.loop-count.invariant in
+    idle_runs c.args.m.now c.loop-count.m c.args.pid (is_now c.args.patience) c.args.counted c.args.until (g.F.Files.holds c.args.files.now) (g.D.SwapDev.image c.args.swap.now) (g.D.SwapDev.image c.loop-count.swap) c.loop-count.count c.loop-count.waits so.so_far (c.ready_regs.ensures.none c.in_default.is)
+
+pub next_step-requires-clause-lends : goal.next_step-requires-clause-lends
+next_step-requires-clause-lends g c = lends_there c.loop-count.m c.args.pid c.loop-count.invariant.steady c.in-Some.ensures.ready
+
+pub returns-in_err-next_step-clause-stops : goal.returns-in_err-next_step-clause-stops
+returns-in_err-next_step-clause-stops g c =
+    let so = c.loop-count.invariant in
+    let e = err_from_is_err_and c.from_residual.result c.from_residual.ensures.1 in
+    rw (e.1, e.2) (
+    stops_far c.args.m.now c.loop-count.m c.next_step.new.m c.args.pid (is_now c.args.patience) c.args.counted c.args.until (g.F.Files.holds c.args.files.now) (g.D.SwapDev.image c.args.swap.now) (g.D.SwapDev.image c.loop-count.swap) (g.D.SwapDev.image c.next_step.new.swap) c.loop-count.count c.loop-count.waits so.so_far c.loop-count-test.true c.in-Some.ensures.ready c.in_err-next_step.field-0.0
+    (subst (λ hs. StopsAdvancing c.loop-count.m c.next_step.new.m c.args.pid (is_now c.args.patience) hs (g.D.SwapDev.image c.loop-count.swap) (g.D.SwapDev.image c.next_step.new.swap) c.in_err-next_step.field-0.0) so.holds c.in_err-next_step.ensures.stops))
+
+pub loop-count-preserved-in-Counted : goal.loop-count-preserved-in-Counted
+loop-count-preserved-in-Counted g c =
+    let so = c.loop-count.invariant in
+    let on : Continues c.loop-count.m c.next_step.new.m (counts advances.Counted) = subst (λ a. Continues c.loop-count.m c.next_step.new.m (counts a)) c.in-Counted.is c.in_ok-next_step.ensures.continues in
+    let led : Advances c.loop-count.m c.next_step.new.m c.args.pid (is_now c.args.patience) (g.F.Files.holds c.args.files.now) (g.D.SwapDev.image c.loop-count.swap) (g.D.SwapDev.image c.next_step.new.swap) advances.Counted =
+    subst (λ hs. Advances c.loop-count.m c.next_step.new.m c.args.pid (is_now c.args.patience) hs (g.D.SwapDev.image c.loop-count.swap) (g.D.SwapDev.image c.next_step.new.swap) advances.Counted) so.holds
+    (subst (λ a. Advances c.loop-count.m c.next_step.new.m c.args.pid (is_now c.args.patience) (g.F.Files.holds c.loop-count.files) (g.D.SwapDev.image c.loop-count.swap) (g.D.SwapDev.image c.next_step.new.swap) a) c.in-Counted.is c.in_ok-next_step.ensures.advances) in
+    record {
+      steady = steady_on c.loop-count.m c.next_step.new.m 1 so.steady on (c.in_ok-next_step.ensures.holders);
+      params = on.params ∙ so.params;
+      images = on.images ∙ so.images;
+      counts = let a = on.counted in let b = so.counts in omega arith;
+      more = let a = so.more in omega arith;
+      few = omega arith;
+      so_far = counted_far c.args.m.now c.loop-count.m c.next_step.new.m c.args.pid (is_now c.args.patience) c.args.counted c.args.until (g.F.Files.holds c.args.files.now) (g.D.SwapDev.image c.args.swap.now) (g.D.SwapDev.image c.loop-count.swap) (g.D.SwapDev.image c.next_step.new.swap) c.loop-count.count c.loop-count.waits so.so_far c.loop-count-test.true c.in-Some.ensures.ready on.params on.images led;
+      files_lead = g.met.F.Files.leads_through c.args.files.now c.loop-count.files c.next_step.new.files so.files_lead c.in_ok-next_step.ensures.files_lead;
+      swap_leads = g.met.D.SwapDev.leads_through c.args.swap.now c.loop-count.swap c.next_step.new.swap so.swap_leads c.in_ok-next_step.ensures.swap_leads;
+      holds = c.in_ok-next_step.ensures.holds ∙ so.holds;
+      blocks = c.in_ok-next_step.ensures.blocks ∙ so.blocks;
+      open_faults = c.in_ok-next_step.ensures.open_faults ∙ so.open_faults;
+      page_faults = c.in_ok-next_step.ensures.page_faults ∙ so.page_faults;
+      read_faults = c.in_ok-next_step.ensures.read_faults ∙ so.read_faults;
+      write_faults = c.in_ok-next_step.ensures.write_faults ∙ so.write_faults;
+    }
+
+pub loop-count-preserved : goal.loop-count-preserved
+loop-count-preserved g c =
+    let so = c.loop-count.invariant in
+    let on : Continues c.loop-count.m c.next_step.new.m (counts advances.Served) = subst (λ a. Continues c.loop-count.m c.next_step.new.m (counts a)) c.in-Served.is c.in_ok-next_step.ensures.continues in
+    let led : Advances c.loop-count.m c.next_step.new.m c.args.pid (is_now c.args.patience) (g.F.Files.holds c.args.files.now) (g.D.SwapDev.image c.loop-count.swap) (g.D.SwapDev.image c.next_step.new.swap) advances.Served =
+    subst (λ hs. Advances c.loop-count.m c.next_step.new.m c.args.pid (is_now c.args.patience) hs (g.D.SwapDev.image c.loop-count.swap) (g.D.SwapDev.image c.next_step.new.swap) advances.Served) so.holds
+    (subst (λ a. Advances c.loop-count.m c.next_step.new.m c.args.pid (is_now c.args.patience) (g.F.Files.holds c.loop-count.files) (g.D.SwapDev.image c.loop-count.swap) (g.D.SwapDev.image c.next_step.new.swap) a) c.in-Served.is c.in_ok-next_step.ensures.advances) in
+    record {
+      steady = steady_on c.loop-count.m c.next_step.new.m 0 so.steady on (c.in_ok-next_step.ensures.holders);
+      params = on.params ∙ so.params;
+      images = on.images ∙ so.images;
+      counts = let a = on.counted in let b = so.counts in omega arith;
+      more = so.more;
+      few = let w = c.if-waits-lt-MOST_WAITS.true in omega arith;
+      so_far = served_far c.args.m.now c.loop-count.m c.next_step.new.m c.args.pid (is_now c.args.patience) c.args.counted c.args.until (g.F.Files.holds c.args.files.now) (g.D.SwapDev.image c.args.swap.now) (g.D.SwapDev.image c.loop-count.swap) (g.D.SwapDev.image c.next_step.new.swap) c.loop-count.count c.loop-count.waits so.so_far c.loop-count-test.true c.in-Some.ensures.ready on.params on.images led;
+      files_lead = g.met.F.Files.leads_through c.args.files.now c.loop-count.files c.next_step.new.files so.files_lead c.in_ok-next_step.ensures.files_lead;
+      swap_leads = g.met.D.SwapDev.leads_through c.args.swap.now c.loop-count.swap c.next_step.new.swap so.swap_leads c.in_ok-next_step.ensures.swap_leads;
+      holds = c.in_ok-next_step.ensures.holds ∙ so.holds;
+      blocks = c.in_ok-next_step.ensures.blocks ∙ so.blocks;
+      open_faults = c.in_ok-next_step.ensures.open_faults ∙ so.open_faults;
+      page_faults = c.in_ok-next_step.ensures.page_faults ∙ so.page_faults;
+      read_faults = c.in_ok-next_step.ensures.read_faults ∙ so.read_faults;
+      write_faults = c.in_ok-next_step.ensures.write_faults ∙ so.write_faults;
+    }
+
+pub returns-in-Stuck-clause-runs : goal.returns-in-Stuck-clause-runs
+returns-in-Stuck-clause-runs g c =
+    let so = c.loop-count.invariant in
+    let on : Continues c.loop-count.m c.next_step.new.m (counts advances.Stuck) = subst (λ a. Continues c.loop-count.m c.next_step.new.m (counts a)) c.in-Stuck.is c.in_ok-next_step.ensures.continues in
+    let led : Advances c.loop-count.m c.next_step.new.m c.args.pid (is_now c.args.patience) (g.F.Files.holds c.args.files.now) (g.D.SwapDev.image c.loop-count.swap) (g.D.SwapDev.image c.next_step.new.swap) advances.Stuck =
+    subst (λ hs. Advances c.loop-count.m c.next_step.new.m c.args.pid (is_now c.args.patience) hs (g.D.SwapDev.image c.loop-count.swap) (g.D.SwapDev.image c.next_step.new.swap) advances.Stuck) so.holds
+    (subst (λ a. Advances c.loop-count.m c.next_step.new.m c.args.pid (is_now c.args.patience) (g.F.Files.holds c.loop-count.files) (g.D.SwapDev.image c.loop-count.swap) (g.D.SwapDev.image c.next_step.new.swap) a) c.in-Stuck.is c.in_ok-next_step.ensures.advances) in
+    stuck_runs c.args.m.now c.loop-count.m c.next_step.new.m c.args.pid (is_now c.args.patience) c.args.counted c.args.until (g.F.Files.holds c.args.files.now) (g.D.SwapDev.image c.args.swap.now) (g.D.SwapDev.image c.loop-count.swap) (g.D.SwapDev.image c.next_step.new.swap) c.loop-count.count c.loop-count.waits so.so_far c.loop-count-test.true c.in-Some.ensures.ready on.params on.images led
+
+pub returns-else-waits-lt-MOST_WAITS-clause-runs : goal.returns-else-waits-lt-MOST_WAITS-clause-runs
+returns-else-waits-lt-MOST_WAITS-clause-runs g c =
+    let so = c.loop-count.invariant in
+    waited_runs c.args.m.now c.loop-count.m c.args.pid (is_now c.args.patience) c.args.counted c.args.until (g.F.Files.holds c.args.files.now) (g.D.SwapDev.image c.args.swap.now) (g.D.SwapDev.image c.loop-count.swap) c.loop-count.count c.loop-count.waits so.so_far c.if-waits-lt-MOST_WAITS.false
+
+pub returns-after-loop-count-clause-runs : goal.returns-after-loop-count-clause-runs
+returns-after-loop-count-clause-runs g c =
+    let so = c.loop-count.invariant in
+    done_runs c.args.m.now c.loop-count.m c.args.pid (is_now c.args.patience) c.args.counted c.args.until (g.F.Files.holds c.args.files.now) (g.D.SwapDev.image c.args.swap.now) (g.D.SwapDev.image c.loop-count.swap) c.loop-count.count c.loop-count.waits so.so_far c.loop-count-test.false

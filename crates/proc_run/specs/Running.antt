@@ -1,0 +1,60 @@
+-- What a process that runs leads to, in a dispatch and in a turn.
+use Rattle.std.specs.Prelude.{◌≡◌, ℕ, ◌+◌, ◌≤◌, min, Bool, true, false, List, Option, Some, None}
+use Rattle.vm_facts.specs.declared.entry.Entry.{Entry}
+use Rattle.vm_facts.specs.declared.stop.Stop.{Stop}
+use Rattle.io_edge.specs.FileHolding.{NamedFile}
+use Rattle.flat_state.specs.Flat.{Inputs}
+use Rattle.flat_state.specs.Journal.{instructions_of}
+use Rattle.kernel_model.specs.Kernel.{Kernel}
+use Rattle.page_model.specs.Swapper.{is_out}
+use Rattle.machine_state.specs.Machine.{Standing}
+use Rattle.proc_calls.specs.Reading.{AreNamed}
+use Rattle.run_model.specs.declared.mark.Mark.TheVariants as marks
+use Rattle.run_model.specs.State.{State}
+use Rattle.run_model.specs.Next.{turn_instructions, under}
+use Rattle.run_units.specs.Leads.{Leads}
+use Rattle.step_units.specs.Machines.{MachineAt}
+use Rattle.step_units.specs.Stepped.{StopLeads}
+use Rattle.line_units.specs.Lines.{IsClear}
+use Rattle.proc_run.specs.Runs.{IsSteady}
+
+-- the last mark is a dispatch of a process, or a turn, and asks for instructions up to this count
+abbrev pub AsksRun : Inputs → State → ℕ → Bool → ℕ → Type 0
+AsksRun A s pid false until = (n : ℕ) × (since : ℕ) × (s.mark ≡ marks.Dispatch pid n since) × (until ≡ min (since + n) A.limit)
+AsksRun A s pid true until = (since : ℕ) × (s.mark ≡ marks.Turn pid since) × (until ≡ min (since + turn_instructions) A.limit)
+
+-- The machine stands at a state under such a mark, with nothing due and no step begun, and a swap image that is told.
+pub record UnderMark (A : Inputs) (s : State) (m : Standing) (holds : Option (List NamedFile)) (i : Option (List ℕ)) (image : List ℕ) (pid : ℕ) (now : Bool) (counted until : ℕ) : Type 0 where
+  pub machine : MachineAt A s m holds image
+  pub named : AreNamed A.images m.images
+  pub told : i ≡ Some image
+  pub clear : IsClear s
+  pub count : s.count ≡ counted
+  pub asks : AsksRun A s pid now until
+
+-- Next units lead to where nothing more is to come of the mark, unless it is a turn whose process is out.
+pub record RunLeads (A : Inputs) (s : State) (k : Kernel) (image : List ℕ) (pid : ℕ) (now : Bool) (l : Kernel) (j : Option (List ℕ)) (count : ℕ) : Type 0 where
+  pub units : List Entry
+  pub state : State
+  pub leads : Leads A s k image units state l j
+  pub clear : IsClear state
+  pub over : (now ≡ true → is_out state.place pid ≡ false) → under A state state.mark ≡ None
+  pub counts : state.count ≡ count
+  pub lines : state.lines ≡ s.lines
+  pub mark : state.mark ≡ s.mark
+
+abbrev pub Runs : Standing → Standing → ℕ → Bool → ℕ → ℕ → Option (List NamedFile) → Option (List ℕ) → Option (List ℕ) → ℕ → Type 0
+Runs old new pid now counted until holds i j count =
+    (A : Inputs) (s : State) (image : List ℕ) → UnderMark A s old holds i image pid now counted until → RunLeads A s old.kernel image pid now new.kernel j count
+
+abbrev pub StopsRunning : Standing → Standing → ℕ → Bool → ℕ → ℕ → Option (List NamedFile) → Option (List ℕ) → Option (List ℕ) → Stop → Type 0
+StopsRunning old new pid now counted until holds i j stop =
+    (A : Inputs) (s : State) (image : List ℕ) → UnderMark A s old holds i image pid now counted until → StopLeads A s old.kernel image stop new j
+
+-- Whatever the devices tell: the machine goes on, with the sizes and images of before, and so many instructions are counted now.
+pub record CountsTo (old new : Standing) (counted count : ℕ) : Type 0 where
+  pub steady : IsSteady new
+  pub params : new.params ≡ old.params
+  pub images : new.images ≡ old.images
+  pub counts : instructions_of new.kernel.journal ≡ count
+  pub more : counted ≤ count

@@ -1,0 +1,63 @@
+//! A process runs, in a dispatch or in a turn.
+ghost use Rattle.std.specs.Prelude.{◌≡◌, ◌≤◌, IfOk, IfErr};
+ghost use Rattle.flat_state.specs.Journal.{instructions_of};
+ghost use Rattle.machine_state.specs.Done.{CountsPages, CountsReads, CountsWrites};
+ghost use Rattle.machine_state.specs.Files.{AreFiles};
+ghost use Rattle.proc_run.specs.Runs.{IsSteady, is_now};
+ghost use Rattle.proc_run.specs.Running.{Runs, StopsRunning, CountsTo};
+
+use crate::advancing::{Advance, Patience, next_step};
+use crate::choosing::ready_regs;
+use io_edge::{Files, SwapDev};
+use machine_state::Machine;
+use std::alloc::Global;
+use vm_facts::Stop;
+
+/// More pages than one instruction waits for: with its call it touches 28 at most.
+const MOST_WAITS: u32 = 32;
+
+/// Runs a process that is in until so many instructions are counted in all, of which there are `counted` so far, or it can't
+/// step, or it would have to wait for a page and is not to. The answer is how many are counted then.
+pub fn run<F: Files, D: SwapDev>(
+    alloc: Global,
+    m: &mut Machine,
+    files: &mut F,
+    swap: &mut D,
+    pid: u32,
+    counted: u32,
+    until: u32,
+    patience: Patience,
+) -> Result<u32, Stop>
+    requires steady { IsSteady m.old }
+    requires area { m.old.params.swap_blocks ≤ D.blocks swap.old }
+    requires files { AreFiles m.old.images (F.holds files.old) }
+    requires counted { instructions_of m.old.kernel.journal ≡ counted }
+    ensures runs { IfOk result (Runs m.old m.new pid (is_now patience) counted until (F.holds files.old) (D.image swap.old) (D.image swap.new)) }
+    ensures stops { IfErr result (StopsRunning m.old m.new pid (is_now patience) counted until (F.holds files.old) (D.image swap.old) (D.image swap.new)) }
+    ensures counts { IfOk result (λ count. CountsTo m.old m.new counted count) }
+    ensures files_lead { F.leads files.old files.new }
+    ensures swap_leads { D.leads swap.old swap.new }
+    ensures holds { F.holds files.new ≡ F.holds files.old }
+    ensures blocks { D.blocks swap.new ≡ D.blocks swap.old }
+    ensures open_faults { F.open_faults files.new ≡ F.open_faults files.old }
+    ensures page_faults { CountsPages result (F.page_faults files.old) (F.page_faults files.new) }
+    ensures read_faults { CountsReads result (D.read_faults swap.old) (D.read_faults swap.new) }
+    ensures write_faults { CountsWrites result (D.write_faults swap.old) (D.write_faults swap.new) }
+{
+    let mut count = counted;
+    let mut waits = 0;
+    while count < until && waits < MOST_WAITS {
+        let Some(regs) = ready_regs(m, pid) else {
+            return Ok(count);
+        };
+        match next_step(alloc, m, files, swap, pid, &regs, patience)? {
+            Advance::Counted => {
+                count += 1;
+                waits = 0;
+            }
+            Advance::Served => waits += 1,
+            Advance::Stuck => return Ok(count),
+        }
+    }
+    Ok(count)
+}
