@@ -5,3 +5,4 @@ pub mod Asking
 pub mod Choosing
 pub mod PuttingOut
 pub mod Longwords
+pub mod Residing

@@ -1,6 +1,7 @@
 ghost use Rattle.line_units.specs.Lines.{LineBegins, LineStops, InterruptIsMade, IdleInterruptEnds, InterruptStops, HandsAreMade, HandsStop};
 ghost use Rattle.line_units.specs.Lines.{SwapperIsMade, SwapperStops, AuditIsMade, AuditStops, TurnBegins, TurnStops, ComingInIsMade, ComingInStops};
 ghost use Rattle.line_units.specs.Registers.{LongwordsStay};
+ghost use Rattle.line_units.specs.Residing.{ClosingStaysIn};
 
 /// Between two lines the entry of the next one is the next unit, and its mark is the last then.
 pub fn lines_begin()
@@ -23,12 +24,14 @@ pub fn lines_are_made()
     ensures audit_stops { AuditStops }
 {}
 
-/// Behind the last line the entry of a turn is the next unit, and a process that is out comes in first.
+/// Behind the last line the entry of a turn is the next unit, and a process that is out comes in first. In the closing phase a
+/// process that is in stays in.
 pub fn turns_begin()
     ensures is { TurnBegins }
     ensures stops { TurnStops }
     ensures comes_in { ComingInIsMade }
     ensures coming_in_stops { ComingInStops }
+    ensures resident { ClosingStaysIn }
 {}
 
 /// Along a run the registers of each process are longwords, and its space is of bytes: next units keep that, while the numbers of

@@ -1,4 +1,5 @@
 use Rattle.line_units.proofs.Beginning.{turn_stops}
+use Rattle.line_units.proofs.Residing.{closing_stays_in}
 use Rattle.line_units.proofs.Turning.{turn_begins, comes_in, coming_in_stops}
 use Rattle.line_units.proofs.laws.turns_begin.Goals as goal
 
@@ -13,3 +14,6 @@ returns-clause-comes_in c = comes_in
 
 pub returns-clause-coming_in_stops : goal.returns-clause-coming_in_stops
 returns-clause-coming_in_stops c = coming_in_stops
+
+pub returns-clause-resident : goal.returns-clause-resident
+returns-clause-resident c = closing_stays_in
