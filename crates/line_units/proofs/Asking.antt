@@ -15,10 +15,11 @@ use Rattle.paging_units.specs.Made.{ground}
 use Rattle.paging_units.specs.Stops.{StopsAt}
 use Rattle.clock_hands.specs.Moved.{Moved, StopsMoving}
 use Rattle.span_laws.specs.Spans.{moves_of}
+use Rattle.run_model.specs.declared.mark.Mark.{Mark}
 use Rattle.run_model.specs.declared.mark.Mark.TheVariants as marks
 use Rattle.run_model.specs.State.{State}
 use Rattle.run_model.specs.After.{after, completed, audited, interrupt_mark}
-use Rattle.run_model.specs.Next.{under, move_unit, owners_of, next_unit}
+use Rattle.run_model.specs.Next.{under, move_unit, owners_of, last_turned, next_unit}
 use Rattle.run_units.specs.Leads.{Leads}
 use Rattle.run_units.specs.Moving.{AsksMoves, LeadsMoving}
 use Rattle.run_units.proofs.Units.{one_made, leads_at}
@@ -59,6 +60,7 @@ interrupt_made A s old l holds image j at c m n d i =
       point = refl;
       count = refl;
       lines = refl;
+      unturned = ap (λ (m : Mark). last_turned (completed m)) is;
     }
 
 pub interrupt_stops : (A : Inputs) (s : State) (old new : Standing) (holds : Option (List NamedFile)) (image : List ℕ) (j : Option (List ℕ)) (stop : Stop) → MachineAt A s old holds image → IsClear s
@@ -102,6 +104,7 @@ hands_made A s old new holds image j n made at c m h =
       point = led.point;
       count = led.count;
       lines = led.lines;
+      unturned = ap last_turned led.asks.mark;
     }
 
 pub hands_stop : (A : Inputs) (s : State) (old new : Standing) (holds : Option (List NamedFile)) (image : List ℕ) (j : Option (List ℕ)) (n : ℕ) (stop : Stop) → MachineAt A s old holds image
@@ -138,6 +141,7 @@ audit_made A s old l holds image at c m e =
       point = refl;
       count = refl;
       lines = refl;
+      unturned = ap (λ (x : Mark). last_turned (audited x)) m;
     }
 
 pub audit_stops : (A : Inputs) (s : State) (old new : Standing) (holds : Option (List NamedFile)) (image : List ℕ) (stop : Stop) → MachineAt A s old holds image → IsClear s → s.mark ≡ marks.Audit

@@ -34,10 +34,11 @@ use Rattle.swapper.specs.Runners.{runners_of, choice_of}
 use Rattle.swapper.specs.Putting.{HoldsThere, PutOut}
 use Rattle.swapper.specs.Turns.{Turns, StopsTurning}
 use Rattle.register_laws.specs.Longwords.{AllFit}
+use Rattle.run_model.specs.declared.mark.Mark.{Mark}
 use Rattle.run_model.specs.declared.mark.Mark.TheVariants as marks
 use Rattle.run_model.specs.State.{State, runners}
 use Rattle.run_model.specs.After.{after, swap_mark, put_out, brought_in}
-use Rattle.run_model.specs.Next.{under, next_unit}
+use Rattle.run_model.specs.Next.{under, last_turned, next_unit}
 use Rattle.run_units.specs.Leads.{Leads, MadeAs}
 use Rattle.run_units.specs.Serving.{At}
 use Rattle.run_units.specs.Swapping.{PutsProcess, LeadsPutting}
@@ -153,6 +154,7 @@ nothing_made A s old new image j c m e i = record {
   point = refl;
   count = refl;
   lines = refl;
+  unturned = ap last_turned m;
 }
 
 in_comes : (A : Inputs) (s : State) (old new : Standing) (image : List ℕ) (j : Option (List ℕ)) (pid : ℕ) → IsClear s → s.mark ≡ marks.BringIn pid → IsIn old.kernel new.kernel pid (Some image)
@@ -169,6 +171,7 @@ in_comes A s old new image j pid c m i e =
       point = refl;
       count = refl;
       lines = refl;
+      unturned = ap (λ (x : Mark). last_turned (brought_in x)) m;
     }
 
 puts_process : (s : State) (k : Kernel) (pid sid : ℕ) → IsClear s → s.mark ≡ marks.PutOut pid → Holder s.point.flat pid sid → PutsProcess s pid sid
@@ -190,6 +193,7 @@ last_out A s k l image j pid sid at b p h o fit e step w =
       point = refl;
       count = refl;
       lines = refl;
+      unturned = ap (λ (x : Mark). last_turned (put_out x)) p.mark;
     }
 
 out_comes : (A : Inputs) (s : State) (old new : Standing) (holds : Option (List NamedFile)) (image : List ℕ) (j : Option (List ℕ)) (pid sid : ℕ) → MachineAt A s old holds image → IsClear s
@@ -221,6 +225,7 @@ out_comes A s old new holds image j pid sid at c fit m there o =
       point = more.point ∙ led.same.point;
       count = more.count ∙ led.same.count;
       lines = more.lines ∙ led.same.lines;
+      unturned = more.unturned;
     }
 
 pub swapper_made : (A : Inputs) (s : State) (old new : Standing) (holds : Option (List NamedFile)) (image : List ℕ) (j : Option (List ℕ)) (t : Turned) → MachineAt A s old holds image → IsClear s

@@ -39,7 +39,7 @@ pub record IsClear (s : State) : Type 0 where
   pub clear : s.place.due ≡ []
   pub between : IsBetween s.point.last
 
--- Next units lead to a state between two lines. The flat machine is where it was.
+-- Next units lead to a state between two lines. The flat machine is where it was, and the last mark is no turn.
 pub record LineLeads (A : Inputs) (s : State) (k : Kernel) (image : List ℕ) (l : Kernel) (j : Option (List ℕ)) : Type 0 where
   pub units : List Entry
   pub state : State
@@ -48,6 +48,7 @@ pub record LineLeads (A : Inputs) (s : State) (k : Kernel) (image : List ℕ) (l
   pub point : state.point ≡ s.point
   pub count : state.count ≡ s.count
   pub lines : state.lines ≡ s.lines
+  pub unturned : last_turned state.mark ≡ 0
 
 -- A line begins.
 
