@@ -1,0 +1,60 @@
+-- Dispatches and turns, by what a process that runs leads to.
+use Rattle.std.proofs.Common.{◌≡◌, ℕ, ◌+◌, Bool, true, false, List, Option, Some, refl, sym, ap, ◌∙◌, subst}
+use Rattle.std.specs.Prelude.{min}
+use Rattle.vm_facts.specs.declared.event.Event.TheVariants as events
+use Rattle.vm_facts.specs.declared.params.Params.{Params}
+use Rattle.vm_facts.specs.declared.stop.Stop.{Stop}
+use Rattle.io_edge.specs.FileHolding.{NamedFile}
+use Rattle.flat_state.specs.Flat.{Inputs}
+use Rattle.page_model.specs.Swapper.{is_out}
+use Rattle.machine_state.specs.Machine.{Standing}
+use Rattle.run_model.specs.declared.mark.Mark.{Mark}
+use Rattle.run_model.specs.declared.mark.Mark.TheVariants as marks
+use Rattle.run_model.specs.State.{State}
+use Rattle.run_model.specs.Next.{turn_instructions, last_turned}
+use Rattle.line_units.proofs.Residing.{closing_stays_in}
+use Rattle.proc_run.specs.Running.{UnderMark, Runs, StopsRunning}
+use Rattle.vm_core.specs.Cores.{AskedAt, CarriesOut, StopsCarrying}
+use Rattle.vm_core.specs.Closing.{TurnAt, FinishesTurn, StopsFinishing}
+
+dispatched : (A : Inputs) (s : State) (m : Standing) (holds : Option (List NamedFile)) (i : Option (List ℕ)) (image : List ℕ) (pid n counted until : ℕ) → until ≡ min (counted + n) m.params.limit
+    → AskedAt A s m holds i image counted (events.Dispatch pid n) → UnderMark A s m holds i image pid false counted until
+dispatched A s m holds i image pid n counted until u at = record {
+  machine = at.stands.machine;
+  named = at.stands.inputs.named;
+  told = at.stands.told;
+  clear = at.clear;
+  count = at.stands.count;
+  asks = (n, s.count, at.mark, u ∙ ap (min (counted + n)) (sym at.stands.inputs.limit) ∙ ap (λ (c : ℕ). min (c + n) A.limit) (sym at.stands.count));
+}
+
+pub dispatch_done : (old new : Standing) (holds : Option (List NamedFile)) (i j : Option (List ℕ)) (pid n counted until count : ℕ) → until ≡ min (counted + n) old.params.limit
+    → Runs old new pid false counted until holds i j count → CarriesOut old new counted count (events.Dispatch pid n) holds i j
+dispatch_done old new holds i j pid n counted until count u f A s image at =
+    let l = f A s image (dispatched A s old holds i image pid n counted until u at) in
+    record { units = l.units; state = l.state; leads = l.leads; over = record { clear = l.clear.clear; between = l.clear.between; over = l.over (λ e. absurd cc) }; unturned = ap last_turned (l.mark ∙ at.mark); counts = l.counts; lines = l.lines }
+
+pub dispatch_stops : (old new : Standing) (holds : Option (List NamedFile)) (i j : Option (List ℕ)) (pid n counted until : ℕ) (stop : Stop) → until ≡ min (counted + n) old.params.limit
+    → StopsRunning old new pid false counted until holds i j stop → StopsCarrying old new counted (events.Dispatch pid n) holds i j stop
+dispatch_stops old new holds i j pid n counted until stop u f A s image at = f A s image (dispatched A s old holds i image pid n counted until u at)
+
+turning : (A : Inputs) (s : State) (m : Standing) (holds : Option (List NamedFile)) (i : Option (List ℕ)) (image : List ℕ) (pid counted until : ℕ) → until ≡ min (counted + turn_instructions) m.params.limit
+    → TurnAt A s m holds i image counted pid → UnderMark A s m holds i image pid true counted until
+turning A s m holds i image pid counted until u at = record {
+  machine = at.stands.machine;
+  named = at.stands.inputs.named;
+  told = at.stands.told;
+  clear = at.clear;
+  count = at.stands.count;
+  asks = (counted, at.mark, u ∙ ap (min (counted + turn_instructions)) (sym at.stands.inputs.limit));
+}
+
+pub finish_done : (old new : Standing) (holds : Option (List NamedFile)) (i j : Option (List ℕ)) (pid counted until count : ℕ) → until ≡ min (counted + turn_instructions) old.params.limit
+    → Runs old new pid true counted until holds i j count → FinishesTurn old new pid counted count holds i j
+finish_done old new holds i j pid counted until count u f A s image at in_ =
+    let l = f A s image (turning A s old holds i image pid counted until u at) in
+    record { units = l.units; state = l.state; leads = l.leads; over = record { clear = l.clear.clear; between = l.clear.between; over = l.over (λ e. closing_stays_in A s l.state old.kernel new.kernel image j l.units pid pid (record { since = counted; mark = at.mark; lines = at.lines }) l.leads in_) }; counts = l.counts; lines = l.lines; turned = ap last_turned (l.mark ∙ at.mark) }
+
+pub finish_stops : (old new : Standing) (holds : Option (List NamedFile)) (i j : Option (List ℕ)) (pid counted until : ℕ) (stop : Stop) → until ≡ min (counted + turn_instructions) old.params.limit
+    → StopsRunning old new pid true counted until holds i j stop → StopsFinishing old new pid counted holds i j stop
+finish_stops old new holds i j pid counted until stop u f A s image at in_ = f A s image (turning A s old holds i image pid counted until u at)

@@ -1,0 +1,11 @@
+pub mod Pieces
+pub mod Steadying
+pub mod Noting
+pub mod Asked
+pub mod Standing
+pub mod Taking
+pub mod Turns
+pub mod Outs
+pub mod Closings
+pub mod Dispatching
+pub mod Starts

@@ -1,0 +1,68 @@
+use Rattle.std.proofs.Common.{◌≡◌, ℕ, ◌+◌, IfOk, IfErr, sym, ◌∙◌, subst, arith}
+use Rattle.vm_facts.specs.declared.entry.Entry.TheVariants as entries
+use Rattle.proc_run.specs.Running.{CountsTo}
+use Rattle.vm_core.specs.Steady.{StaysSteady}
+use Rattle.vm_core.specs.Closing.{HasTurn, StopsTurn, FinishesTurn, StopsFinishing}
+use Rattle.vm_core.proofs.Noting.{stops_on, stops_weaker, noted_stop, ok_two}
+use Rattle.vm_core.proofs.Steadying.{noted_steady}
+use Rattle.vm_core.proofs.Turns.{has_turn, turn_noting_stops, turn_coming_stops, turn_finish_stops}
+use Rattle.vm_core.proofs.closing.turn.Goals as goal
+
+pub returns-in_err-note-clause-stops : goal.returns-in_err-note-clause-stops
+returns-in_err-note-clause-stops g c =
+    let old = c.args.m.now in
+    let holds = g.F.Files.holds c.args.files.now in
+    let i = g.D.SwapDev.image c.args.swap.now in
+    stops_on c.from_residual.result c.in_err-note.field-0.0 (StopsTurn old c.note.new.self c.args.pid c.args.counted holds i i) c.from_residual.ensures.1
+    (turn_noting_stops old c.note.new.self c.args.pid c.args.counted holds i c.in_err-note.field-0.0
+    (noted_stop c.in_err-note.field-0.0 old c.note.new.self c.in_err-note.ensures.stop c.in_err-note.ensures.cause c.in_err-note.ensures.full))
+
+pub come_in-requires-clause-steady : goal.come_in-requires-clause-steady
+come_in-requires-clause-steady g c =
+    let old = c.args.m.now in
+    (noted_steady old c.note.new.self (entries.Turn c.args.pid) c.requires.steady tt c.in_ok-note.ensures.step c.in_ok-note.ensures.rest).steady
+
+pub returns-in_err-come_in-clause-stops : goal.returns-in_err-come_in-clause-stops
+returns-in_err-come_in-clause-stops g c =
+    let old = c.args.m.now in
+    let holds = g.F.Files.holds c.args.files.now in
+    let i = g.D.SwapDev.image c.args.swap.now in
+    let j = g.D.SwapDev.image c.come_in.new.swap in
+    stops_on c.from_residual-in_err-come_in.result c.in_err-come_in.field-0.0 (StopsTurn old c.come_in.new.m c.args.pid c.args.counted holds i j) c.from_residual-in_err-come_in.ensures.1
+    (turn_coming_stops old c.note.new.self c.come_in.new.m c.args.pid c.args.counted holds i j c.in_err-come_in.field-0.0 (noted_steady old c.note.new.self (entries.Turn c.args.pid) c.requires.steady tt c.in_ok-note.ensures.step c.in_ok-note.ensures.rest) c.in_ok-note.ensures.step
+    (c.in_err-come_in.ensures.stops c.args.counted))
+
+pub finish-requires-clause-counted : goal.finish-requires-clause-counted
+finish-requires-clause-counted g c =
+    let old = c.args.m.now in
+    let a = (noted_steady old c.note.new.self (entries.Turn c.args.pid) c.requires.steady tt c.in_ok-note.ensures.step c.in_ok-note.ensures.rest).counted in
+    let b = c.in_ok-come_in.ensures.steady.counted in
+    let e = c.requires.counted in
+    omega arith
+
+pub returns-clause-had : goal.returns-clause-had
+returns-clause-had g c =
+    let old = c.args.m.now in
+    let holds = g.F.Files.holds c.args.files.now in
+    let i = g.D.SwapDev.image c.args.swap.now in
+    let in_ = c.come_in.new.m in
+    let new = c.finish.new.m in
+    let h = g.D.SwapDev.image c.come_in.new.swap in
+    let j = g.D.SwapDev.image c.finish.new.swap in
+    ok_two c.finish.result (λ count. FinishesTurn in_ new c.args.pid c.args.counted count holds h j) (λ count. CountsTo in_ new c.args.counted count)
+    (λ count. HasTurn old new c.args.pid c.args.counted count holds i j)
+    (λ count f to. has_turn old c.note.new.self in_ new c.args.pid c.args.counted count holds i h j (noted_steady old c.note.new.self (entries.Turn c.args.pid) c.requires.steady tt c.in_ok-note.ensures.step c.in_ok-note.ensures.rest) c.in_ok-note.ensures.step (c.in_ok-come_in.ensures.comes c.args.counted) f to)
+    (subst (λ hs. IfOk c.finish.result (λ count. FinishesTurn in_ new c.args.pid c.args.counted count hs h j)) c.in_ok-come_in.ensures.holds c.finish.ensures.done) c.finish.ensures.counts
+
+pub returns-clause-stops : goal.returns-clause-stops
+returns-clause-stops g c =
+    let old = c.args.m.now in
+    let holds = g.F.Files.holds c.args.files.now in
+    let i = g.D.SwapDev.image c.args.swap.now in
+    let in_ = c.come_in.new.m in
+    let new = c.finish.new.m in
+    let h = g.D.SwapDev.image c.come_in.new.swap in
+    let j = g.D.SwapDev.image c.finish.new.swap in
+    stops_weaker c.finish.result (λ stop. StopsFinishing in_ new c.args.pid c.args.counted holds h j stop) (λ stop. StopsTurn old new c.args.pid c.args.counted holds i j stop)
+    (λ stop f. turn_finish_stops old c.note.new.self in_ new c.args.pid c.args.counted holds i h j stop (noted_steady old c.note.new.self (entries.Turn c.args.pid) c.requires.steady tt c.in_ok-note.ensures.step c.in_ok-note.ensures.rest) c.in_ok-note.ensures.step (c.in_ok-come_in.ensures.comes c.args.counted) f)
+    (subst (λ hs. IfErr c.finish.result (λ stop. StopsFinishing in_ new c.args.pid c.args.counted hs h j stop)) c.in_ok-come_in.ensures.holds c.finish.ensures.stops)

@@ -1,0 +1,37 @@
+use Rattle.std.proofs.Common.{◌≡◌, ap, ◌∙◌, None}
+use Rattle.std.proofs.lemmas.Result.{on_ok_weaker}
+use Rattle.vm_facts.specs.declared.entry.Entry.{Entry}
+use Rattle.vm_facts.specs.declared.event.Event.TheVariants as events
+use Rattle.kernel_model.specs.Kernel.{note_step}
+use Rattle.machine_state.specs.Machine.{Standing}
+use Rattle.run_model.specs.Next.{owners_of}
+use Rattle.line_units.specs.Lines.{StopsNoting}
+use Rattle.vm_core.specs.Steady.{StaysSteady}
+use Rattle.vm_core.specs.Lines.{StopsLine}
+use Rattle.vm_core.proofs.Noting.{stops_noting, stops_weaker, ok_both}
+use Rattle.vm_core.proofs.Steadying.{noted_steady}
+use Rattle.vm_core.proofs.Asked.{audit_makes, audit_halts}
+use Rattle.vm_core.proofs.lines.audit.Goals as goal
+
+pub returns-clause-made : goal.returns-clause-made
+returns-clause-made g c =
+    let old = c.args.m.now in
+    on_ok_weaker c.note.result
+    (λ k. audit_makes old c.note.new.self (g.F.Files.holds c.args._files.now) (g.D.SwapDev.image c.args._swap.now) (k ∙ ap (λ (e : Entry). note_step old.kernel e) c.owners-entry.ensures))
+    c.note.ensures.step
+
+pub returns-clause-stops : goal.returns-clause-stops
+returns-clause-stops g c =
+    let old = c.args.m.now in
+    let holds = g.F.Files.holds c.args._files.now in
+    let i = g.D.SwapDev.image c.args._swap.now in
+    stops_weaker c.note.result (λ stop. StopsNoting old c.note.new.self stop) (λ stop. StopsLine events.Audit old c.note.new.self holds i i stop)
+    (λ stop h. audit_halts old c.note.new.self holds i stop h) (stops_noting c.note.result old c.note.new.self c.note.ensures.stop c.note.ensures.cause c.note.ensures.full)
+
+pub returns-clause-steady : goal.returns-clause-steady
+returns-clause-steady g c =
+    let old : Standing = c.args.m.now in
+    let new : Standing = c.note.new.self in
+    let e : Entry = owners_of old.kernel.place old.kernel.holdings in
+    ok_both c.note.result (new.kernel ≡ note_step old.kernel c.owners-entry.result) (new ≡ record old { kernel = new.kernel; room = None }) (StaysSteady old new 0)
+    (λ k r. noted_steady old new e c.requires.steady tt (k ∙ ap (λ (x : Entry). note_step old.kernel x) c.owners-entry.ensures) r) c.note.ensures.step c.note.ensures.rest

@@ -1,0 +1,23 @@
+use Rattle.vm_facts.specs.declared.event.Event.TheVariants as events
+use Rattle.vm_core.specs.Lines.{StopsLine}
+use Rattle.vm_core.proofs.Noting.{stops_on}
+use Rattle.vm_core.proofs.Asked.{swapper_makes, swapper_steady, swapper_halts}
+use Rattle.vm_core.proofs.lines.swapper.Goals as goal
+
+pub returns-clause-made : goal.returns-clause-made
+returns-clause-made g c =
+    swapper_makes c.args.m.now c.turn.new.m (g.F.Files.holds c.args.files.now) (g.D.SwapDev.image c.args.swap.now) (g.D.SwapDev.image c.turn.new.swap)
+    c.in_ok-turn.field-0 c.in_ok-turn.ensures.chosen c.in_ok-turn.ensures.did
+
+pub returns-clause-steady : goal.returns-clause-steady
+returns-clause-steady g c =
+    swapper_steady c.args.m.now c.turn.new.m (g.F.Files.holds c.args.files.now) (g.D.SwapDev.image c.args.swap.now) (g.D.SwapDev.image c.turn.new.swap)
+    c.in_ok-turn.field-0 c.requires.steady c.in_ok-turn.ensures.did
+
+pub returns-in_err-turn-clause-stops : goal.returns-in_err-turn-clause-stops
+returns-in_err-turn-clause-stops g c =
+    let holds = g.F.Files.holds c.args.files.now in
+    let i = g.D.SwapDev.image c.args.swap.now in
+    let j = g.D.SwapDev.image c.turn.new.swap in
+    stops_on c.from_residual.result c.in_err-turn.field-0.0 (StopsLine events.Swapper c.args.m.now c.turn.new.m holds i j) c.from_residual.ensures.1
+    (swapper_halts c.args.m.now c.turn.new.m holds i j c.in_err-turn.field-0.0 c.in_err-turn.ensures.stopped)

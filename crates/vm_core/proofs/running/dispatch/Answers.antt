@@ -1,0 +1,33 @@
+use Rattle.std.proofs.Common.{false}
+use Rattle.vm_facts.specs.declared.event.Event.TheVariants as events
+use Rattle.vm_core.specs.Cores.{CarriesOut, StopsCarrying}
+use Rattle.proc_run.specs.Running.{Runs, StopsRunning}
+use Rattle.vm_core.proofs.Noting.{ok_weaker, stops_weaker}
+use Rattle.vm_core.proofs.Dispatching.{dispatch_done, dispatch_stops}
+use Rattle.vm_core.proofs.running.dispatch.Goals as goal
+
+pub returns-clause-done : goal.returns-clause-done
+returns-clause-done g c =
+    let old = c.args.m.now in
+    let new = c.run.new.m in
+    let holds = g.F.Files.holds c.args.files.now in
+    let i = g.D.SwapDev.image c.args.swap.now in
+    let j = g.D.SwapDev.image c.run.new.swap in
+    let pid = c.args.pid in
+    let counted = c.args.counted in
+    let until = c.count_behind-until.result in
+    ok_weaker c.run.result (λ count. Runs old new pid false counted until holds i j count) (λ count. CarriesOut old new counted count (events.Dispatch pid c.args.count) holds i j)
+    (λ count f. dispatch_done old new holds i j pid c.args.count counted until count c.count_behind-until.ensures f) c.run.ensures.runs
+
+pub returns-clause-stops : goal.returns-clause-stops
+returns-clause-stops g c =
+    let old = c.args.m.now in
+    let new = c.run.new.m in
+    let holds = g.F.Files.holds c.args.files.now in
+    let i = g.D.SwapDev.image c.args.swap.now in
+    let j = g.D.SwapDev.image c.run.new.swap in
+    let pid = c.args.pid in
+    let counted = c.args.counted in
+    let until = c.count_behind-until.result in
+    stops_weaker c.run.result (λ stop. StopsRunning old new pid false counted until holds i j stop) (λ stop. StopsCarrying old new counted (events.Dispatch pid c.args.count) holds i j stop)
+    (λ stop f. dispatch_stops old new holds i j pid c.args.count counted until stop c.count_behind-until.ensures f) c.run.ensures.stops

@@ -1,0 +1,159 @@
+-- The closing phase: turns of processes, behind the last line.
+use Rattle.std.specs.Prelude.{◌≡◌, ◌⊎◌, ℕ, ◌+◌, ◌<◌, ◌≤◌, true, false, List, ◌∷◌, length, Option, None}
+use Rattle.vm_facts.specs.declared.entry.Entry.{Entry}
+use Rattle.vm_facts.specs.declared.entry.Entry.TheVariants as entries
+use Rattle.vm_facts.specs.declared.stop.Stop.{Stop}
+use Rattle.io_edge.specs.FileHolding.{NamedFile}
+use Rattle.flat_state.specs.Flat.{Inputs}
+use Rattle.page_model.specs.Swapper.{is_out}
+use Rattle.machine_state.specs.Machine.{Standing}
+use Rattle.run_model.specs.declared.mark.Mark.TheVariants as marks
+use Rattle.run_model.specs.State.{State}
+use Rattle.run_model.specs.Next.{goes_on, turn_instructions, last_turned, next_unit}
+use Rattle.run_model.specs.Lawful.{Follows}
+use Rattle.run_laws.specs.Running.{IsRun}
+use Rattle.economy_laws.specs.Stretch.{turns_of, NoneCounts}
+use Rattle.run_units.specs.Leads.{Leads}
+use Rattle.step_units.specs.Machines.{MachineAt}
+use Rattle.step_units.specs.Stepped.{StopLeads}
+use Rattle.line_units.specs.Lines.{IsOver, IsClear, TurnDue}
+use Rattle.proc_run.specs.Choosing.{next_turned as chosen_next}
+use Rattle.vm_core.specs.Cores.{Underway, StandsIn, CoreAt}
+
+-- A turn.
+
+-- The machine stands at a state at which a process has its turn, behind the last line, so many instructions being counted when it
+-- began.
+pub record TurnAt (A : Inputs) (s : State) (m : Standing) (holds : Option (List NamedFile)) (i : Option (List ℕ)) (image : List ℕ) (counted pid : ℕ) : Type 0 where
+  pub stands : StandsIn A s m holds i image counted
+  pub clear : IsClear s
+  pub mark : s.mark ≡ marks.Turn pid counted
+  pub on : goes_on A s pid (counted + turn_instructions) ≡ true
+  pub lines : length A.lines ≤ s.lines
+
+-- Next units lead to where the process is in, and has its turn yet.
+pub record InTurn (A : Inputs) (s : State) (old new : Standing) (holds : Option (List NamedFile)) (image : List ℕ) (j : Option (List ℕ)) (counted pid : ℕ) : Type 0 where
+  pub units : List Entry
+  pub state : State
+  pub behind : List ℕ
+  pub leads : Leads A s old.kernel image units state new.kernel j
+  pub at : TurnAt A state new holds j behind counted pid
+  pub resident : is_out state.place pid ≡ false
+  pub lines : state.lines ≡ s.lines
+
+abbrev pub ComesIn : Standing → Standing → ℕ → ℕ → Option (List NamedFile) → Option (List ℕ) → Option (List ℕ) → Type 0
+ComesIn old new pid counted holds i j =
+    (A : Inputs) (s : State) (image : List ℕ) → TurnAt A s old holds i image counted pid → InTurn A s old new holds image j counted pid
+
+abbrev pub StopsComingIn : Standing → Standing → ℕ → ℕ → Option (List NamedFile) → Option (List ℕ) → Option (List ℕ) → Stop → Type 0
+StopsComingIn old new pid counted holds i j stop =
+    (A : Inputs) (s : State) (image : List ℕ) → TurnAt A s old holds i image counted pid → StopLeads A s old.kernel image stop new j
+
+-- Next units lead to where the turn is over, with so many instructions counted.
+pub record TurnDone (A : Inputs) (s : State) (old new : Standing) (image : List ℕ) (j : Option (List ℕ)) (pid count : ℕ) : Type 0 where
+  pub units : List Entry
+  pub state : State
+  pub leads : Leads A s old.kernel image units state new.kernel j
+  pub over : IsOver A state
+  pub counts : state.count ≡ count
+  pub lines : state.lines ≡ s.lines
+  pub turned : last_turned state.mark ≡ pid
+
+abbrev pub FinishesTurn : Standing → Standing → ℕ → ℕ → ℕ → Option (List NamedFile) → Option (List ℕ) → Option (List ℕ) → Type 0
+FinishesTurn old new pid counted count holds i j =
+    (A : Inputs) (s : State) (image : List ℕ) → TurnAt A s old holds i image counted pid → is_out s.place pid ≡ false → TurnDone A s old new image j pid count
+
+abbrev pub StopsFinishing : Standing → Standing → ℕ → ℕ → Option (List NamedFile) → Option (List ℕ) → Option (List ℕ) → Stop → Type 0
+StopsFinishing old new pid counted holds i j stop =
+    (A : Inputs) (s : State) (image : List ℕ) → TurnAt A s old holds i image counted pid → is_out s.place pid ≡ false → StopLeads A s old.kernel image stop new j
+
+-- the whole turn, from its entry on
+pub record TurnHad (A : Inputs) (s : State) (old new : Standing) (holds : Option (List NamedFile)) (image : List ℕ) (j : Option (List ℕ)) (pid count : ℕ) : Type 0 where
+  pub more : List Entry
+  pub state : State
+  pub behind : List ℕ
+  pub leads : Leads A s old.kernel image (entries.Turn pid ∷ more) state new.kernel j
+  pub stands : StandsIn A state new holds j behind count
+  pub over : IsOver A state
+  pub lines : state.lines ≡ s.lines
+  pub turned : last_turned state.mark ≡ pid
+
+abbrev pub HasTurn : Standing → Standing → ℕ → ℕ → ℕ → Option (List NamedFile) → Option (List ℕ) → Option (List ℕ) → Type 0
+HasTurn old new pid counted count holds i j =
+    (A : Inputs) (s : State) (image : List ℕ) → StandsIn A s old holds i image counted → TurnDue A s pid → TurnHad A s old new holds image j pid count
+
+abbrev pub StopsTurn : Standing → Standing → ℕ → ℕ → Option (List NamedFile) → Option (List ℕ) → Option (List ℕ) → Stop → Type 0
+StopsTurn old new pid counted holds i j stop =
+    (A : Inputs) (s : State) (image : List ℕ) → StandsIn A s old holds i image counted → TurnDue A s pid → StopLeads A s old.kernel image stop new j
+
+-- The phase.
+
+-- So many turns in a row, or more, counted no instruction, since some state of the closing phase.
+pub record IdleSince (A : Inputs) (t : State) (idle : ℕ) : Type 0 where
+  pub from : State
+  pub run : IsRun A from
+  pub lines : length A.lines ≤ from.lines
+  pub crowd : length from.point.flat.processes ≤ 64
+  pub units : List Entry
+  pub follows : Follows A from units t
+  pub none : NoneCounts units
+  pub many : idle ≤ turns_of units
+
+-- Next units led from a state at the begin of the phase to one between two turns, of which this process had the last.
+pub record Closing (A : Inputs) (s : State) (old new : Standing) (holds : Option (List NamedFile)) (image : List ℕ) (j : Option (List ℕ)) (count last idle : ℕ) : Type 0 where
+  pub units : List Entry
+  pub state : State
+  pub behind : List ℕ
+  pub leads : Leads A s old.kernel image units state new.kernel j
+  pub stands : StandsIn A state new holds j behind count
+  pub over : IsOver A state
+  pub lines : length A.lines ≡ state.lines
+  pub turned : last_turned state.mark ≡ last
+  pub since : IdleSince A state idle
+
+-- The machine stands behind the last line.
+pub record LinesAre (A : Inputs) (s : State) (m : Standing) (holds : Option (List NamedFile)) (i : Option (List ℕ)) (image : List ℕ) (counted : ℕ) : Type 0 where
+  pub stands : StandsIn A s m holds i image counted
+  pub over : IsOver A s
+  pub lines : length A.lines ≡ s.lines
+  pub unturned : last_turned s.mark ≡ 0
+
+abbrev pub ClosesTo : Standing → Standing → ℕ → ℕ → ℕ → ℕ → Option (List NamedFile) → Option (List ℕ) → Option (List ℕ) → Type 0
+ClosesTo old new counted count last idle holds i j =
+    (A : Inputs) (s : State) (image : List ℕ) → LinesAre A s old holds i image counted → Closing A s old new holds image j count last idle
+
+-- Next units lead to a state that has none, at which the machine stands.
+pub record Closed (A : Inputs) (s : State) (old new : Standing) (holds : Option (List NamedFile)) (image : List ℕ) (j : Option (List ℕ)) (count : ℕ) : Type 0 where
+  pub units : List Entry
+  pub state : State
+  pub behind : List ℕ
+  pub leads : Leads A s old.kernel image units state new.kernel j
+  pub stands : StandsIn A state new holds j behind count
+  pub none : next_unit A state ≡ None
+
+abbrev pub Closes : Standing → Standing → ℕ → ℕ → Option (List NamedFile) → Option (List ℕ) → Option (List ℕ) → Type 0
+Closes old new counted count holds i j =
+    (A : Inputs) (s : State) (image : List ℕ) → LinesAre A s old holds i image counted → Closed A s old new holds image j count
+
+abbrev pub StopsClosing : Standing → Standing → ℕ → Option (List NamedFile) → Option (List ℕ) → Option (List ℕ) → Stop → Type 0
+StopsClosing old new counted holds i j stop =
+    (A : Inputs) (s : State) (image : List ℕ) → LinesAre A s old holds i image counted → StopLeads A s old.kernel image stop new j
+
+-- Of a run between two lines, all of which were taken.
+abbrev pub ClosesRun : Underway → Underway → Option (List NamedFile) → Option (List ℕ) → Option (List ℕ) → Type 0
+ClosesRun old new holds i j =
+    (A : Inputs) (s : State) (image : List ℕ) → CoreAt A s old holds i image → length A.lines ≡ s.lines → Closed A s old.machine new.machine holds image j new.counted
+
+abbrev pub StopsClosingRun : Underway → Underway → Option (List NamedFile) → Option (List ℕ) → Option (List ℕ) → Stop → Type 0
+StopsClosingRun old new holds i j stop =
+    (A : Inputs) (s : State) (image : List ℕ) → CoreAt A s old holds i image → length A.lines ≡ s.lines → StopLeads A s old.machine.kernel image stop new.machine j
+
+-- Turns in a row.
+
+-- behind a turn that counted something, or nothing
+abbrev pub CountsTurn : ℕ → ℕ → ℕ → ℕ → Type 0
+CountsTurn count more idle now = (now ≡ 0) ⊎ ((more ≡ count) × (now ≡ idle + 1))
+
+-- why no further turn comes
+abbrev pub EndsPhase : Standing → ℕ → ℕ → ℕ → Type 0
+EndsPhase m count last idle = (m.params.limit ≤ count) ⊎ ((64 < idle) ⊎ (chosen_next m.kernel last ≡ None))

@@ -1,0 +1,106 @@
+-- A whole run over the paged machine, between two of its calls.
+use Rattle.std.specs.Prelude.{◌≡◌, ℕ, ◌+◌, ◌<◌, ◌≤◌, ◌^◌, List, length, slice_get, Option, Some}
+use Rattle.vm_facts.specs.declared.entry.Entry.{Entry}
+use Rattle.vm_facts.specs.declared.event.Event.{Event}
+use Rattle.vm_facts.specs.declared.stop.Stop.{Stop}
+use Rattle.io_edge.specs.FileHolding.{NamedFile}
+use Rattle.flat_state.specs.Flat.{Inputs}
+use Rattle.flat_state.specs.Journal.{instructions_of}
+use Rattle.machine_state.specs.Machine.{Standing}
+use Rattle.proc_calls.specs.Reading.{AreNamed}
+use Rattle.register_laws.specs.Longwords.{AllImages}
+use Rattle.run_model.specs.State.{State}
+use Rattle.run_model.specs.After.{mark_of_event}
+use Rattle.run_model.specs.Next.{last_turned}
+use Rattle.run_units.specs.Leads.{Leads}
+use Rattle.step_units.specs.Machines.{MachineAt}
+use Rattle.step_units.specs.Stepped.{StopLeads}
+use Rattle.line_units.specs.Lines.{IsOver, IsClear}
+use Rattle.line_units.specs.Registers.{HasLongwords}
+use Rattle.proc_run.specs.Runs.{IsSteady}
+
+-- a run: its machine, and how many instructions were counted
+pub record Underway : Type 0 where
+  pub machine : Standing
+  pub counted : ℕ
+
+-- What stands of a run between two calls, whatever the devices tell.
+pub record GoesOn (c : Underway) : Type 0 where
+  pub steady : IsSteady c.machine
+  pub counted : instructions_of c.machine.kernel.journal ≡ c.counted
+
+-- The inputs are those of the machine: its images and its limit. The images fit their files, and the numbers of all processes that
+-- there can be are longwords.
+pub record InputsOf (A : Inputs) (m : Standing) : Type 0 where
+  pub named : AreNamed A.images m.images
+  pub limit : A.limit ≡ m.params.limit
+  pub images : AllImages A.images
+  pub few : length A.first + 1 + A.limit < 2 ^ 32
+
+-- The machine stands at a state of a run, with a swap image that is told: so many instructions are counted, registers are
+-- longwords, there are 64 processes at most, and no turn of the closing phase was had.
+pub record StandsIn (A : Inputs) (s : State) (m : Standing) (holds : Option (List NamedFile)) (i : Option (List ℕ)) (image : List ℕ) (counted : ℕ) : Type 0 where
+  pub machine : MachineAt A s m holds image
+  pub told : i ≡ Some image
+  pub inputs : InputsOf A m
+  pub longwords : HasLongwords A s
+  pub crowd : length s.point.flat.processes ≤ 64
+  pub count : s.count ≡ counted
+
+-- It does, between two lines, before the closing phase.
+pub record CoreAt (A : Inputs) (s : State) (c : Underway) (holds : Option (List NamedFile)) (i : Option (List ℕ)) (image : List ℕ) : Type 0 where
+  pub stands : StandsIn A s c.machine holds i image c.counted
+  pub over : IsOver A s
+  pub unturned : last_turned s.mark ≡ 0
+
+-- Lines.
+
+-- the next line of the schedule, and fewer instructions than the limit are counted
+pub record LineDue (A : Inputs) (s : State) (line : ℕ) (e : Event) : Type 0 where
+  pub number : s.lines + 1 ≡ line
+  pub event : slice_get A.lines s.lines ≡ Some e
+  pub below : s.count < A.limit
+
+-- Next units lead to where the core stands behind the line.
+pub record LineTaken (A : Inputs) (s : State) (old new : Underway) (holds : Option (List NamedFile)) (image : List ℕ) (j : Option (List ℕ)) : Type 0 where
+  pub units : List Entry
+  pub state : State
+  pub behind : List ℕ
+  pub leads : Leads A s old.machine.kernel image units state new.machine.kernel j
+  pub at : CoreAt A state new holds j behind
+  pub lines : state.lines ≡ s.lines + 1
+
+-- for every state at which the core stands, where this is the next line
+abbrev pub TakesLine : Underway → Underway → ℕ → Event → Option (List NamedFile) → Option (List ℕ) → Option (List ℕ) → Type 0
+TakesLine old new line e holds i j =
+    (A : Inputs) (s : State) (image : List ℕ) → CoreAt A s old holds i image → LineDue A s line e → LineTaken A s old new holds image j
+
+abbrev pub StopsTaking : Underway → Underway → ℕ → Event → Option (List NamedFile) → Option (List ℕ) → Option (List ℕ) → Stop → Type 0
+StopsTaking old new line e holds i j stop =
+    (A : Inputs) (s : State) (image : List ℕ) → CoreAt A s old holds i image → LineDue A s line e → StopLeads A s old.machine.kernel image stop new.machine j
+
+-- Under the mark of a line.
+
+-- The machine stands behind the entry of a line, so many instructions being counted.
+pub record AskedAt (A : Inputs) (s : State) (m : Standing) (holds : Option (List NamedFile)) (i : Option (List ℕ)) (image : List ℕ) (counted : ℕ) (e : Event) : Type 0 where
+  pub stands : StandsIn A s m holds i image counted
+  pub clear : IsClear s
+  pub mark : s.mark ≡ mark_of_event s e
+
+-- Next units lead to where the line is over, with so many instructions counted.
+pub record LineDone (A : Inputs) (s : State) (old new : Standing) (image : List ℕ) (j : Option (List ℕ)) (count : ℕ) : Type 0 where
+  pub units : List Entry
+  pub state : State
+  pub leads : Leads A s old.kernel image units state new.kernel j
+  pub over : IsOver A state
+  pub unturned : last_turned state.mark ≡ 0
+  pub counts : state.count ≡ count
+  pub lines : state.lines ≡ s.lines
+
+abbrev pub CarriesOut : Standing → Standing → ℕ → ℕ → Event → Option (List NamedFile) → Option (List ℕ) → Option (List ℕ) → Type 0
+CarriesOut old new counted count e holds i j =
+    (A : Inputs) (s : State) (image : List ℕ) → AskedAt A s old holds i image counted e → LineDone A s old new image j count
+
+abbrev pub StopsCarrying : Standing → Standing → ℕ → Event → Option (List NamedFile) → Option (List ℕ) → Option (List ℕ) → Stop → Type 0
+StopsCarrying old new counted e holds i j stop =
+    (A : Inputs) (s : State) (image : List ℕ) → AskedAt A s old holds i image counted e → StopLeads A s old.kernel image stop new j

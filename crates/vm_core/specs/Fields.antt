@@ -1,0 +1,6 @@
+-- The fields of a run.
+use Rattle.vm_core.specs.Cores.{Underway}
+use Rattle.vm_core.specs.declared.run.Core.TheInside.{Inside}
+
+abbrev pub underway_of : Inside → Underway
+underway_of c = record { machine = c.machine; counted = c.counted }

@@ -1,0 +1,192 @@
+//! The closing phase, behind the last line of the schedule.
+ghost use Rattle.std.specs.Prelude.{◌≡◌, ◌+◌, ◌<◌, ◌≤◌, ℕ, true, false, Some, None, OnOk, IfOk, IfErr, IfSome};
+ghost use Rattle.flat_state.specs.Journal.{instructions_of};
+ghost use Rattle.page_model.specs.Swapper.{is_out};
+ghost use Rattle.kernel_model.specs.Kernel.{HoldsSpace};
+ghost use Rattle.machine_state.specs.Calls.{life_in};
+ghost use Rattle.machine_state.specs.Files.{AreFiles};
+ghost use Rattle.machine_state.specs.Done.{CountsPages, CountsReads, CountsWrites};
+ghost use Rattle.proc_run.specs.Choosing.{next_turned};
+ghost use Rattle.proc_run.specs.Runs.{IsSteady};
+ghost use Rattle.proc_run.specs.Running.{CountsTo};
+ghost use Rattle.vm_core.specs.Steady.{StaysSteady};
+ghost use Rattle.vm_core.specs.Cores.{GoesOn};
+ghost use Rattle.vm_core.specs.Closing.{ComesIn, StopsComingIn, HasTurn, StopsTurn, Closes, StopsClosing, ClosesRun, StopsClosingRun, EndsPhase, CountsTurn};
+
+use crate::run::Core;
+use crate::running::finish;
+use io_edge::{Files, SwapDev};
+use machine_state::Machine;
+use proc_run::next_turned;
+use proc_table::Life;
+use std::alloc::Global;
+use swapper::swap_in;
+use vm_facts::{Entry, Stop};
+
+/// No more turns in a row count no instruction: there are no more processes.
+const MOST_IDLE: u32 = 64;
+
+// Whether a process that holds a space is out.
+fn is_out(m: &Machine, pid: u32) -> bool
+    requires { m.now.kernel.stopped ≡ false }
+    ensures out { result ≡ true → is_out m.now.kernel.place pid ≡ true }
+    ensures resident { result ≡ false → (sid : ℕ) → life_in m.now.kernel pid ≡ HoldsSpace sid → is_out m.now.kernel.place pid ≡ false }
+{
+    let Some(process) = m.processes().get(pid) else {
+        return false;
+    };
+    let Life::Holds(_) = process.state else {
+        return false;
+    };
+    process.out
+}
+
+// A process that is out comes in.
+fn come_in<F: Files, D: SwapDev>(
+    m: &mut Machine,
+    files: &mut F,
+    swap: &mut D,
+    pid: u32,
+) -> Result<(), Stop>
+    requires steady { IsSteady m.old }
+    requires area { m.old.params.swap_blocks ≤ D.blocks swap.old }
+    requires files { AreFiles m.old.images (F.holds files.old) }
+    ensures comes { OnOk result ((counted : ℕ) → ComesIn m.old m.new pid counted (F.holds files.old) (D.image swap.old) (D.image swap.new)) }
+    ensures stops { IfErr result (λ stop. (counted : ℕ) → StopsComingIn m.old m.new pid counted (F.holds files.old) (D.image swap.old) (D.image swap.new) stop) }
+    ensures steady { OnOk result (StaysSteady m.old m.new 0) }
+    ensures files_lead { F.leads files.old files.new }
+    ensures swap_leads { D.leads swap.old swap.new }
+    ensures holds { F.holds files.new ≡ F.holds files.old }
+    ensures blocks { D.blocks swap.new ≡ D.blocks swap.old }
+    ensures open_faults { F.open_faults files.new ≡ F.open_faults files.old }
+    ensures page_faults { CountsPages result (F.page_faults files.old) (F.page_faults files.new) }
+    ensures read_faults { CountsReads result (D.read_faults swap.old) (D.read_faults swap.new) }
+    ensures write_faults { CountsWrites result (D.write_faults swap.old) (D.write_faults swap.new) }
+{
+    if !is_out(m, pid) {
+        return Ok(());
+    }
+    swap_in(m, files, swap, pid)
+}
+
+// A turn of a process, which comes in first where it is out. The answer is how many instructions are counted then.
+fn turn<F: Files, D: SwapDev>(
+    alloc: Global,
+    m: &mut Machine,
+    files: &mut F,
+    swap: &mut D,
+    pid: u32,
+    counted: u32,
+) -> Result<u32, Stop>
+    requires steady { IsSteady m.old }
+    requires area { m.old.params.swap_blocks ≤ D.blocks swap.old }
+    requires files { AreFiles m.old.images (F.holds files.old) }
+    requires counted { instructions_of m.old.kernel.journal ≡ counted }
+    ensures had { IfOk result (λ count. HasTurn m.old m.new pid counted count (F.holds files.old) (D.image swap.old) (D.image swap.new)) }
+    ensures stops { IfErr result (StopsTurn m.old m.new pid counted (F.holds files.old) (D.image swap.old) (D.image swap.new)) }
+    ensures counts { IfOk result (λ count. CountsTo m.old m.new counted count) }
+    ensures files_lead { F.leads files.old files.new }
+    ensures swap_leads { D.leads swap.old swap.new }
+    ensures holds { F.holds files.new ≡ F.holds files.old }
+    ensures blocks { D.blocks swap.new ≡ D.blocks swap.old }
+    ensures open_faults { F.open_faults files.new ≡ F.open_faults files.old }
+    ensures page_faults { CountsPages result (F.page_faults files.old) (F.page_faults files.new) }
+    ensures read_faults { CountsReads result (D.read_faults swap.old) (D.read_faults swap.new) }
+    ensures write_faults { CountsWrites result (D.write_faults swap.old) (D.write_faults swap.new) }
+{
+    m.note(Entry::Turn { pid })?;
+    come_in(m, files, swap, pid)?;
+    finish(alloc, m, files, swap, pid, counted)
+}
+
+// The process of the next turn: none where as many instructions are counted as may, too many turns in a row counted none, or no
+// process can step.
+fn next_turn(m: &Machine, count: u32, last: u32, idle: u32) -> Option<u32>
+    requires { m.now.kernel.stopped ≡ false }
+    ensures some { IfSome result (λ pid. next_turned m.now.kernel last ≡ Some pid) }
+    ensures below { IfSome result (λ pid. count < m.now.params.limit) }
+    ensures few { IfSome result (λ pid. idle ≤ 64) }
+    ensures none { result ≡ None → EndsPhase m.now count last idle }
+{
+    if count >= m.params().limit || idle > MOST_IDLE {
+        return None;
+    }
+    next_turned(m, last)
+}
+
+// How many turns in a row counted no instruction, behind one more.
+fn idle_behind(idle: u32, before: u32, count: u32) -> u32
+    requires few { idle ≤ 64 }
+    requires more { before ≤ count }
+    ensures kind { CountsTurn before count idle result }
+    ensures few { result ≤ 65 }
+    ensures same { before < count → result ≡ 0 }
+    ensures on { count ≡ before → result ≡ idle + 1 }
+{
+    if count == before { idle + 1 } else { 0 }
+}
+
+// The whole phase. The answer is how many instructions are counted then.
+fn close<F: Files, D: SwapDev>(
+    alloc: Global,
+    m: &mut Machine,
+    files: &mut F,
+    swap: &mut D,
+    counted: u32,
+) -> Result<u32, Stop>
+    requires steady { IsSteady m.old }
+    requires area { m.old.params.swap_blocks ≤ D.blocks swap.old }
+    requires files { AreFiles m.old.images (F.holds files.old) }
+    requires counted { instructions_of m.old.kernel.journal ≡ counted }
+    ensures closes { IfOk result (λ count. Closes m.old m.new counted count (F.holds files.old) (D.image swap.old) (D.image swap.new)) }
+    ensures stops { IfErr result (StopsClosing m.old m.new counted (F.holds files.old) (D.image swap.old) (D.image swap.new)) }
+    ensures counts { IfOk result (λ count. CountsTo m.old m.new counted count) }
+    ensures files_lead { F.leads files.old files.new }
+    ensures swap_leads { D.leads swap.old swap.new }
+    ensures holds { F.holds files.new ≡ F.holds files.old }
+    ensures blocks { D.blocks swap.new ≡ D.blocks swap.old }
+    ensures open_faults { F.open_faults files.new ≡ F.open_faults files.old }
+    ensures page_faults { CountsPages result (F.page_faults files.old) (F.page_faults files.new) }
+    ensures read_faults { CountsReads result (D.read_faults swap.old) (D.read_faults swap.new) }
+    ensures write_faults { CountsWrites result (D.write_faults swap.old) (D.write_faults swap.new) }
+{
+    let mut count = counted;
+    let mut last = 0;
+    let mut idle = 0;
+    while let Some(pid) = next_turn(m, count, last, idle) {
+        let more = turn(alloc, m, files, swap, pid, count)?;
+        idle = idle_behind(idle, count, more);
+        count = more;
+        last = pid;
+    }
+    Ok(count)
+}
+
+impl Core {
+    /// The closing phase: processes that can step have turns, until none can or as many instructions are counted as may.
+    pub fn close_run<F: Files, D: SwapDev>(
+        &mut self,
+        files: &mut F,
+        swap: &mut D,
+    ) -> Result<(), Stop>
+        requires goes_on { GoesOn self.old }
+        requires area { self.old.machine.params.swap_blocks ≤ D.blocks swap.old }
+        requires files { AreFiles self.old.machine.images (F.holds files.old) }
+        ensures closes { OnOk result (ClosesRun self.old self.new (F.holds files.old) (D.image swap.old) (D.image swap.new)) }
+        ensures stops { IfErr result (StopsClosingRun self.old self.new (F.holds files.old) (D.image swap.old) (D.image swap.new)) }
+        ensures goes_on { OnOk result (GoesOn self.new) }
+        ensures params { OnOk result (self.new.machine.params ≡ self.old.machine.params) }
+        ensures images { OnOk result (self.new.machine.images ≡ self.old.machine.images) }
+        ensures files_lead { F.leads files.old files.new }
+        ensures swap_leads { D.leads swap.old swap.new }
+        ensures holds { F.holds files.new ≡ F.holds files.old }
+        ensures blocks { D.blocks swap.new ≡ D.blocks swap.old }
+        ensures open_faults { F.open_faults files.new ≡ F.open_faults files.old }
+        ensures page_faults { CountsPages result (F.page_faults files.old) (F.page_faults files.new) }
+        ensures read_faults { CountsReads result (D.read_faults swap.old) (D.read_faults swap.new) }
+        ensures write_faults { CountsWrites result (D.write_faults swap.old) (D.write_faults swap.new) }
+    {
+        self.counted = close(self.alloc, &mut self.machine, files, swap, self.counted)?;
+        Ok(())
+    }
+}

@@ -1,0 +1,113 @@
+//! The lines of a schedule.
+ghost use Rattle.std.specs.Prelude.{◌≡◌, ◌<◌, ◌≤◌, ◌↔◌, false, OnOk, IfOk, IfErr};
+ghost use Rattle.machine_state.specs.Files.{AreFiles};
+ghost use Rattle.machine_state.specs.Done.{CountsPages, CountsReads, CountsWrites};
+ghost use Rattle.paging_units.specs.LastMoves.{last_moves};
+ghost use Rattle.flat_state.specs.Journal.{instructions_of};
+ghost use Rattle.proc_run.specs.Runs.{IsSteady};
+ghost use Rattle.proc_run.specs.Running.{CountsTo};
+ghost use Rattle.vm_core.specs.Steady.{HasFewMoves};
+ghost use Rattle.vm_core.specs.Cores.{Underway, GoesOn, TakesLine, StopsTaking, CarriesOut, StopsCarrying};
+
+use crate::lines::{audit, hands, interrupt, swapper};
+use crate::run::Core;
+use crate::running::dispatch;
+use io_edge::{Files, SwapDev};
+use machine_state::Machine;
+use std::alloc::Global;
+use vm_facts::{Entry, Event, Stop};
+
+/// How a line went.
+#[derive(Clone, Copy, Debug, PartialEq, Eq, Drop)]
+pub enum Went {
+    /// The next line may come, or the closing phase.
+    Next,
+    /// As many instructions are counted as may.
+    LimitReached,
+}
+
+// Does what a line asks for, and tells how many instructions are counted then.
+fn carry_out<F: Files, D: SwapDev>(
+    alloc: Global,
+    m: &mut Machine,
+    files: &mut F,
+    swap: &mut D,
+    counted: u32,
+    e: Event,
+) -> Result<u32, Stop>
+    requires steady { IsSteady m.old }
+    requires area { m.old.params.swap_blocks ≤ D.blocks swap.old }
+    requires files { AreFiles m.old.images (F.holds files.old) }
+    requires few { HasFewMoves e }
+    requires first { last_moves m.old.kernel.journal ≡ 0 }
+    requires counted { instructions_of m.old.kernel.journal ≡ counted }
+    ensures done { IfOk result (λ count. CarriesOut m.old m.new counted count e (F.holds files.old) (D.image swap.old) (D.image swap.new)) }
+    ensures stops { IfErr result (StopsCarrying m.old m.new counted e (F.holds files.old) (D.image swap.old) (D.image swap.new)) }
+    ensures counts { IfOk result (λ count. CountsTo m.old m.new counted count) }
+    ensures files_lead { F.leads files.old files.new }
+    ensures swap_leads { D.leads swap.old swap.new }
+    ensures holds { F.holds files.new ≡ F.holds files.old }
+    ensures blocks { D.blocks swap.new ≡ D.blocks swap.old }
+    ensures open_faults { F.open_faults files.new ≡ F.open_faults files.old }
+    ensures page_faults { CountsPages result (F.page_faults files.old) (F.page_faults files.new) }
+    ensures read_faults { CountsReads result (D.read_faults swap.old) (D.read_faults swap.new) }
+    ensures write_faults { CountsWrites result (D.write_faults swap.old) (D.write_faults swap.new) }
+{
+    match e {
+        Event::Dispatch { pid, count } => dispatch(alloc, m, files, swap, pid, counted, count),
+        Event::Interrupt => {
+            interrupt(m, files, swap)?;
+            Ok(counted)
+        }
+        Event::Hands { count } => {
+            hands(m, files, swap, count)?;
+            Ok(counted)
+        }
+        Event::Swapper => {
+            swapper(m, files, swap)?;
+            Ok(counted)
+        }
+        Event::Audit => {
+            audit(m, files, swap)?;
+            Ok(counted)
+        }
+    }
+}
+
+impl Core {
+    /// Takes a line of the schedule, whose number is that of the lines so far and 1.
+    pub fn event<F: Files, D: SwapDev>(
+        &mut self,
+        files: &mut F,
+        swap: &mut D,
+        line: u32,
+        e: Event,
+    ) -> Result<Went, Stop>
+        requires goes_on { GoesOn self.old }
+        requires area { self.old.machine.params.swap_blocks ≤ D.blocks swap.old }
+        requires files { AreFiles self.old.machine.images (F.holds files.old) }
+        requires few { HasFewMoves e }
+        ensures takes { OnOk result (TakesLine self.old self.new line e (F.holds files.old) (D.image swap.old) (D.image swap.new)) }
+        ensures stops { IfErr result (StopsTaking self.old self.new line e (F.holds files.old) (D.image swap.old) (D.image swap.new)) }
+        ensures goes_on { OnOk result (GoesOn self.new) }
+        ensures limit { IfOk result (λ went. (went ≡ Went.LimitReached) ↔ (self.new.machine.params.limit ≤ self.new.counted)) }
+        ensures params { OnOk result (self.new.machine.params ≡ self.old.machine.params) }
+        ensures images { OnOk result (self.new.machine.images ≡ self.old.machine.images) }
+        ensures files_lead { F.leads files.old files.new }
+        ensures swap_leads { D.leads swap.old swap.new }
+        ensures holds { F.holds files.new ≡ F.holds files.old }
+        ensures blocks { D.blocks swap.new ≡ D.blocks swap.old }
+        ensures open_faults { F.open_faults files.new ≡ F.open_faults files.old }
+        ensures page_faults { CountsPages result (F.page_faults files.old) (F.page_faults files.new) }
+        ensures read_faults { CountsReads result (D.read_faults swap.old) (D.read_faults swap.new) }
+        ensures write_faults { CountsWrites result (D.write_faults swap.old) (D.write_faults swap.new) }
+    {
+        self.machine.note(Entry::Event { line })?;
+        self.counted = carry_out(self.alloc, &mut self.machine, files, swap, self.counted, e)?;
+        if self.is_over() {
+            Ok(Went::LimitReached)
+        } else {
+            Ok(Went::Next)
+        }
+    }
+}

@@ -1,0 +1,84 @@
+//! A process runs, for a dispatch or a turn.
+ghost use Rattle.std.specs.Prelude.{◌≡◌, ◌+◌, ◌≤◌, min, IfOk, IfErr};
+ghost use Rattle.machine_state.specs.Files.{AreFiles};
+ghost use Rattle.machine_state.specs.Done.{CountsPages, CountsReads, CountsWrites};
+ghost use Rattle.flat_state.specs.Journal.{instructions_of};
+ghost use Rattle.proc_run.specs.Runs.{IsSteady};
+ghost use Rattle.proc_run.specs.Running.{CountsTo};
+ghost use Rattle.vm_core.specs.Cores.{CarriesOut, StopsCarrying};
+ghost use Rattle.vm_core.specs.Closing.{FinishesTurn, StopsFinishing};
+
+use io_edge::{Files, SwapDev};
+use machine_state::Machine;
+use proc_run::{Patience, run};
+use std::alloc::Global;
+use vm_facts::{Event, Stop};
+
+/// The instructions of one turn.
+const TURN: u32 = 1000;
+
+// The count at which so many more instructions are counted, or as many as may.
+fn count_behind(m: &Machine, counted: u32, more: u32) -> u32
+    ensures { result ≡ min (counted + more) m.now.params.limit }
+{
+    counted.saturating_add(more).min(m.params().limit)
+}
+
+/// A process that is in runs so many instructions at most, and waits for no page.
+pub(crate) fn dispatch<F: Files, D: SwapDev>(
+    alloc: Global,
+    m: &mut Machine,
+    files: &mut F,
+    swap: &mut D,
+    pid: u32,
+    counted: u32,
+    count: u32,
+) -> Result<u32, Stop>
+    requires steady { IsSteady m.old }
+    requires area { m.old.params.swap_blocks ≤ D.blocks swap.old }
+    requires files { AreFiles m.old.images (F.holds files.old) }
+    requires counted { instructions_of m.old.kernel.journal ≡ counted }
+    ensures done { IfOk result (λ more. CarriesOut m.old m.new counted more (Event.Dispatch pid count) (F.holds files.old) (D.image swap.old) (D.image swap.new)) }
+    ensures stops { IfErr result (StopsCarrying m.old m.new counted (Event.Dispatch pid count) (F.holds files.old) (D.image swap.old) (D.image swap.new)) }
+    ensures counts { IfOk result (λ more. CountsTo m.old m.new counted more) }
+    ensures files_lead { F.leads files.old files.new }
+    ensures swap_leads { D.leads swap.old swap.new }
+    ensures holds { F.holds files.new ≡ F.holds files.old }
+    ensures blocks { D.blocks swap.new ≡ D.blocks swap.old }
+    ensures open_faults { F.open_faults files.new ≡ F.open_faults files.old }
+    ensures page_faults { CountsPages result (F.page_faults files.old) (F.page_faults files.new) }
+    ensures read_faults { CountsReads result (D.read_faults swap.old) (D.read_faults swap.new) }
+    ensures write_faults { CountsWrites result (D.write_faults swap.old) (D.write_faults swap.new) }
+{
+    let until = count_behind(m, counted, count);
+    run(alloc, m, files, swap, pid, counted, until, Patience::Stops)
+}
+
+/// A process that is in has its turn: so many instructions at most, and it waits for its pages.
+pub(crate) fn finish<F: Files, D: SwapDev>(
+    alloc: Global,
+    m: &mut Machine,
+    files: &mut F,
+    swap: &mut D,
+    pid: u32,
+    counted: u32,
+) -> Result<u32, Stop>
+    requires steady { IsSteady m.old }
+    requires area { m.old.params.swap_blocks ≤ D.blocks swap.old }
+    requires files { AreFiles m.old.images (F.holds files.old) }
+    requires counted { instructions_of m.old.kernel.journal ≡ counted }
+    ensures done { IfOk result (λ more. FinishesTurn m.old m.new pid counted more (F.holds files.old) (D.image swap.old) (D.image swap.new)) }
+    ensures stops { IfErr result (StopsFinishing m.old m.new pid counted (F.holds files.old) (D.image swap.old) (D.image swap.new)) }
+    ensures counts { IfOk result (λ more. CountsTo m.old m.new counted more) }
+    ensures files_lead { F.leads files.old files.new }
+    ensures swap_leads { D.leads swap.old swap.new }
+    ensures holds { F.holds files.new ≡ F.holds files.old }
+    ensures blocks { D.blocks swap.new ≡ D.blocks swap.old }
+    ensures open_faults { F.open_faults files.new ≡ F.open_faults files.old }
+    ensures page_faults { CountsPages result (F.page_faults files.old) (F.page_faults files.new) }
+    ensures read_faults { CountsReads result (D.read_faults swap.old) (D.read_faults swap.new) }
+    ensures write_faults { CountsWrites result (D.write_faults swap.old) (D.write_faults swap.new) }
+{
+    let until = count_behind(m, counted, TURN);
+    run(alloc, m, files, swap, pid, counted, until, Patience::Waits)
+}

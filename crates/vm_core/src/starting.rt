@@ -1,0 +1,51 @@
+//! The start of a run.
+ghost use Rattle.std.specs.Prelude.{◌≡◌, ◌≤◌, ℕ, true, List, [], length, Some, IfOk, IfErr, OnErr, Ok};
+ghost use Rattle.flat_state.specs.Flat.{Inputs};
+ghost use Rattle.flat_model.specs.Asked.{start_held};
+ghost use Rattle.machine_state.specs.Done.{CountsPages, CountsReads, CountsWrites};
+ghost use Rattle.machine_state.specs.Files.{AreFiles};
+ghost use Rattle.run_start.specs.Starting.{AreAmong, StartsFrom, started_by};
+ghost use Rattle.run_start.specs.Leading.{IsTold, StartStops};
+ghost use Rattle.vm_core.specs.Cores.{GoesOn};
+ghost use Rattle.vm_core.specs.Starting.{IsFresh, StartsRun};
+
+use crate::run::Core;
+use io_edge::{Files, SwapDev};
+use run_start::{Started, start};
+use vm_facts::Stop;
+
+impl Core {
+    /// Starts the first processes, in images of these numbers, and fills their stack pages. It is the first call.
+    pub fn start<F: Files, D: SwapDev>(
+        &mut self,
+        files: &mut F,
+        swap: &mut D,
+        first: &[u32],
+    ) -> Result<Started, Stop>
+        requires fresh { IsFresh self.old }
+        requires frames { 64 ≤ self.old.machine.params.frames }
+        requires few { length first.now ≤ 16 }
+        requires numbers { AreAmong self.old.machine.images first.now }
+        requires area { self.old.machine.params.swap_blocks ≤ D.blocks swap.old }
+        requires files { AreFiles self.old.machine.images (F.holds files.old) }
+        ensures space { (A : Inputs) → StartsFrom A self.old.machine first.now → IfOk result (λ started. started ≡ started_by (start_held A)) }
+        ensures none_made { (pid : ℕ) → result ≡ Ok (Started.NoSpace pid) → self.new.machine.kernel.journal ≡ [] }
+        ensures starts { result ≡ Ok Started.Ok → StartsRun self.old self.new first.now (F.holds files.old) (D.image swap.old) (D.image swap.new) }
+        ensures stops { (A : Inputs) (image : List ℕ) → IsTold A self.old.machine first.now (F.holds files.old) image → D.image swap.old ≡ Some image
+            → IfErr result (λ stop. StartStops A self.new.machine image stop (D.image swap.new)) }
+        ensures goes_on { result ≡ Ok Started.Ok → GoesOn self.new }
+        ensures params { result ≡ Ok Started.Ok → self.new.machine.params ≡ self.old.machine.params }
+        ensures images { result ≡ Ok Started.Ok → self.new.machine.images ≡ self.old.machine.images }
+        ensures stopped { OnErr result (self.new.machine.kernel.stopped ≡ true) }
+        ensures files_lead { F.leads files.old files.new }
+        ensures swap_leads { D.leads swap.old swap.new }
+        ensures holds { F.holds files.new ≡ F.holds files.old }
+        ensures blocks { D.blocks swap.new ≡ D.blocks swap.old }
+        ensures open_faults { F.open_faults files.new ≡ F.open_faults files.old }
+        ensures page_faults { CountsPages result (F.page_faults files.old) (F.page_faults files.new) }
+        ensures read_faults { CountsReads result (D.read_faults swap.old) (D.read_faults swap.new) }
+        ensures write_faults { CountsWrites result (D.write_faults swap.old) (D.write_faults swap.new) }
+    {
+        start(&mut self.machine, files, swap, first)
+    }
+}
