@@ -6,10 +6,10 @@ ghost use Rattle.proc_calls.specs.Callers.{IsCaller};
 
 use crate::paging::{
     area, bring, data, file, filled, lines_of_filled, moved, of_two_text_pages, of_zeros,
-    see_lines, with_stack,
+    see_frames, see_lines, with_stack,
 };
 use machine_state::Machine;
-use proc_calls::{Called, brk, exit, fork, getpid, kill, vfork, wait};
+use proc_calls::{Called, brk, execve, exit, fork, getpid, kill, vfork, wait, write};
 use proc_table::Life;
 use std::process::Abort;
 use vm_facts::Regs;
@@ -26,6 +26,10 @@ fn with_arguments(address: u32) -> Regs {
         c: false,
     }
 }
+
+// Where the number of the arguments lies at the start of a process in the image `first`, with its name as the only one: below a 0,
+// the name in 8 bytes, two more 0s and the pointer to the name.
+const ARGUMENTS: u32 = 0x7fff_ec00 - 28;
 
 // That the first process may make a call.
 fn see_caller(rt: &impl Abort, m: &Machine)
@@ -139,6 +143,50 @@ fn a_fork_whose_pieces_find_no_place_fails(rt: HostRuntime) {
     fork(&mut m, &mut files, &mut swap, 1, &regs).expect(&rt, "a reply");
     let lines = Ok(String::new(alloc));
     see_lines(&rt, alloc, &m, lines, "Z s 1 0\nf 1\nc 1 2 1 12 0\n");
+    m.end();
+}
+
+#[test]
+fn an_execve_fills_its_new_stack_page(rt: HostRuntime) {
+    let alloc = rt.alloc();
+    let mut files = file(&rt, alloc);
+    let mut swap = area(&rt, alloc, Vec::new(alloc));
+    let mut m = with_stack(&rt, alloc, &files, &swap, of_two_text_pages());
+    see_caller(&rt, &m);
+    see_frames(&rt, &m);
+    let regs = with_arguments(ARGUMENTS);
+    execve(alloc, &mut m, &mut files, &mut swap, 1, &regs).expect(&rt, "a reply");
+    let lines = Ok(String::new(alloc));
+    see_lines(&rt, alloc, &m, lines, "Z s 1 0\nc 1 59 0 0 0\nZ s 2 0\n");
+    m.end();
+}
+
+#[test]
+fn an_execve_whose_pieces_find_no_place_fails(rt: HostRuntime) {
+    let alloc = rt.alloc();
+    let mut files = file(&rt, alloc);
+    let mut swap = area(&rt, alloc, Vec::new(alloc));
+    let mut m = with_stack(&rt, alloc, &files, &swap, of_zeros());
+    see_caller(&rt, &m);
+    see_frames(&rt, &m);
+    let regs = with_arguments(ARGUMENTS);
+    execve(alloc, &mut m, &mut files, &mut swap, 1, &regs).expect(&rt, "a reply");
+    let lines = Ok(String::new(alloc));
+    see_lines(&rt, alloc, &m, lines, "Z s 1 0\nf 1\nc 1 59 1 12 0\n");
+    m.end();
+}
+
+#[test]
+fn a_write_of_no_bytes_only_replies(rt: HostRuntime) {
+    let alloc = rt.alloc();
+    let mut files = file(&rt, alloc);
+    let mut swap = area(&rt, alloc, Vec::new(alloc));
+    let mut m = with_stack(&rt, alloc, &files, &swap, of_two_text_pages());
+    see_caller(&rt, &m);
+    let regs = with_arguments(ARGUMENTS - 4);
+    write(alloc, &mut m, &mut files, &mut swap, 1, &regs).expect(&rt, "a reply");
+    let lines = Ok(String::new(alloc));
+    see_lines(&rt, alloc, &m, lines, "Z s 1 0\nc 1 4 0 0 0\n");
     m.end();
 }
 

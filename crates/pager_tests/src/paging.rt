@@ -163,7 +163,7 @@ fn see_served(rt: &impl Abort, m: &Machine, page: Page)
 }
 
 // That there are 64 frames.
-fn see_frames(rt: &impl Abort, m: &Machine)
+pub(crate) fn see_frames(rt: &impl Abort, m: &Machine)
     requires { m.now.kernel.stopped ≡ false }
     ensures { HasRoom m.now.kernel.place [] }
 {
