@@ -1,5 +1,5 @@
 -- Why the relation of a pair of devices is one of a device.
-use Rattle.std.proofs.Common.{◌≤◌, ℕ, zero, suc, Option, inl, inr, arith, le_refl, le_trans, sym}
+use Rattle.std.proofs.Common.{◌≤◌, ℕ, zero, suc, Option, inl, inr, arith, le_refl, le_trans, refl, sym, ◌∙◌}
 use Rattle.std.proofs.Math.Nat.{eq-or-lt_of_le}
 use Rattle.io_edge.specs.Count.{Rose}
 use Rattle.io_edge.specs.Striping.{of_device}
@@ -23,7 +23,7 @@ then_rose a b c grows (inr stands) =
     elim (eq-or-lt_of_le still) [ inl same ↦ inr (omega (arith, stands.0, stands.1), sym same) | inr rises ↦ inl rises ]
 
 pub adds_nothing : (count : ℕ) (last : Option ℕ) (even odd : ℕ) → AddsFailures count count last last even even odd odd
-adds_nothing count last even odd = record { grows = le_refl count; named = λ device same. inl same }
+adds_nothing count last even odd = record { grows = le_refl count; named = λ device same. inl same; still = λ same below. (refl, refl) }
 
 pub adds_through : (count_a count_b count_c : ℕ) (last_a last_b last_c : Option ℕ) (zero_a zero_b zero_c one_a one_b one_c : ℕ) → zero_a ≤ zero_b → zero_b ≤ zero_c → one_a ≤ one_b → one_b ≤ one_c → AddsFailures count_a count_b last_a last_b zero_a zero_b one_a one_b → AddsFailures count_b count_c last_b last_c zero_b zero_c one_b one_c → AddsFailures count_a count_c last_a last_c zero_a zero_c one_a one_c
 adds_through count_a count_b count_c last_a last_b last_c zero_a zero_b zero_c one_a one_b one_c zero_first zero_then one_first one_then first then = record {
@@ -36,4 +36,10 @@ adds_through count_a count_b count_c last_a last_b last_c zero_a zero_b zero_c o
         ]
         | inr rose ↦ inr (then_rose (of_device device zero_a one_a) (of_device device zero_b one_b) (of_device device zero_c one_c) (each_grows device zero_a zero_b one_a one_b zero_first one_first) rose)
       ];
+  still = λ same below.
+      let a = first.grows in
+      let b = then.grows in
+      let x = first.still (omega (arith, same)) below in
+      let y = then.still (omega (arith, same)) (omega (arith, same)) in
+      (y.0 ∙ x.0, y.1 ∙ x.1);
 }
