@@ -8,7 +8,7 @@ use Rattle.transfer_ring.specs.declared.transfer.Transfer.TheVariants.{Read, Wri
 use Rattle.transfer_ring.specs.declared.transfer.Inbound.{Inbound}
 use Rattle.transfer_ring.specs.declared.transfer.Finished.{Finished}
 use Rattle.transfer_ring.specs.declared.transfer.Finished.TheVariants.{Done, FileFault, SwapReadFault, SwapWriteFault, Idle}
-use Rattle.transfer_ring.specs.Parts.{AreSameParts, AreRead, WritesParts, SpoilsParts}
+use Rattle.transfer_ring.specs.Parts.{AreSameParts, AreRead, WritesParts, SpoilsParts, IsSwap, IsFile, SomeFrom}
 
 -- the same read: its pages, frames and sources
 abbrev pub IsSameRead : Page → List Inbound → Transfer → Type 0
@@ -20,15 +20,15 @@ abbrev pub IsReadWhole : Option (List NamedFile) → Option (List ℕ) → Trans
 IsReadWhole holds image (Read page parts) = AreRead holds image parts.items
 IsReadWhole holds image (Write parts) = ⊥
 
--- how a read of these parts ends; the swap image stays as it is
+-- how a read of these parts ends, a fault only where some part has a source of its kind
 abbrev pub EndsRead : Page → List Inbound → Option (List NamedFile) → Option (List ℕ) → Finished → Type 0
 EndsRead demanded parts holds image (Done transfer) = IsSameRead demanded parts transfer × IsReadWhole holds image transfer
-EndsRead demanded parts holds image (FileFault transfer) = IsSameRead demanded parts transfer
-EndsRead demanded parts holds image (SwapReadFault transfer) = IsSameRead demanded parts transfer
+EndsRead demanded parts holds image (FileFault transfer) = IsSameRead demanded parts transfer × SomeFrom IsFile parts
+EndsRead demanded parts holds image (SwapReadFault transfer) = IsSameRead demanded parts transfer × SomeFrom IsSwap parts
 EndsRead demanded parts holds image (SwapWriteFault transfer) = ⊥
 EndsRead demanded parts holds image Idle = ⊥
 
--- how a transfer ends, by the swap image before and after
+-- how a transfer ends, by the swap image before and after, which a read leaves as it is
 abbrev pub Ends : Transfer → Option (List NamedFile) → Option (List ℕ) → Option (List ℕ) → Finished → Type 0
 Ends (Read demanded parts) holds old new finished = EndsRead demanded parts.items holds old finished × (new ≡ old)
 Ends (Write parts) holds old new (Done transfer) = (transfer ≡ Write parts) × WritesParts parts.items old new

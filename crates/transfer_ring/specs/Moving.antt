@@ -1,14 +1,29 @@
--- What a read's end says of the counts of faults.
-use Rattle.std.specs.Prelude.{◌≡◌, ℕ, ⊤}
+-- What a read's end says of its sources and of the counts of faults.
+use Rattle.std.specs.Prelude.{◌≡◌, ℕ, List, ⊤}
 use Rattle.io_edge.specs.Count.{Rose}
 use Rattle.transfer_ring.specs.declared.moving.Filled.{Filled}
 use Rattle.transfer_ring.specs.declared.moving.Filled.TheVariants.{Done, FileFault, SwapFault}
+use Rattle.transfer_ring.specs.declared.transfer.Inbound.{Inbound}
+use Rattle.transfer_ring.specs.declared.transfer.Source.{Source}
+use Rattle.transfer_ring.specs.Parts.{IsSwap, IsFile, SomeFrom}
 
 -- the fact holds where all was read
 abbrev pub OnFilled : Filled → Type 0 → Type 0
 OnFilled Done P = P
 OnFilled FileFault P = ⊤
 OnFilled SwapFault P = ⊤
+
+-- a read of this source fails as those of its kind do
+abbrev pub FailsFrom : Filled → Source → Type 0
+FailsFrom Done source = ⊤
+FailsFrom FileFault source = IsFile source
+FailsFrom SwapFault source = IsSwap source
+
+-- of these parts, some part is of the kind that failed
+abbrev pub FailsFromSome : Filled → List Inbound → Type 0
+FailsFromSome Done parts = ⊤
+FailsFromSome FileFault parts = SomeFrom IsFile parts
+FailsFromSome SwapFault parts = SomeFrom IsSwap parts
 
 -- the files' count of faults rises where a file's read failed, and nowhere else
 abbrev pub CountsFile : Filled → ℕ → ℕ → Type 0

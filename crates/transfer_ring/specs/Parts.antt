@@ -13,6 +13,20 @@ abbrev pub HasRead : Option (List NamedFile) → Option (List ℕ) → Source �
 HasRead holds image (Swap block) bytes = HoldsPage image block bytes
 HasRead holds image (File id offset count) bytes = HoldsRange holds id offset (take count bytes) × (drop count bytes ≡ replicate (1024 - count) 0)
 
+-- the two kinds of sources
+abbrev pub IsSwap : Source → Type 0
+IsSwap (Swap block) = ⊤
+IsSwap (File id offset count) = ⊥
+
+abbrev pub IsFile : Source → Type 0
+IsFile (Swap block) = ⊥
+IsFile (File id offset count) = ⊤
+
+-- some part has a source of this kind
+abbrev pub SomeFrom : (Source → Type 0) → List Inbound → Type 0
+SomeFrom IsKind [] = ⊥
+SomeFrom IsKind (part ∷ rest) = IsKind part.source ⊎ SomeFrom IsKind rest
+
 -- the same page, frame and source; the bytes may be others
 pub record IsSamePart (old new : Inbound) : Type 0 where
   pub page : new.page ≡ old.page
