@@ -48,6 +48,7 @@ pub mod Reaches
 pub mod Ends
 pub mod ReadBytes
 pub mod Dones
+pub mod FailedReads
 pub mod Settles
 pub mod Settling
 pub mod Sources

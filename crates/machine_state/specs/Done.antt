@@ -5,7 +5,7 @@ use Rattle.vm_facts.specs.declared.stop.Stop.{Stop}
 use Rattle.vm_facts.specs.declared.stop.Stop.TheVariants as stops
 use Rattle.io_edge.specs.Count.{Rose}
 use Rattle.io_edge.specs.FileHolding.{NamedFile}
-use Rattle.page_model.specs.Placement.{Transfer, Part, Errand, Writes, Reads}
+use Rattle.page_model.specs.Placement.{Transfer, Part, Source, FromSwap, FromFile, Errand, Writes, Reads}
 use Rattle.page_model.specs.Ownership.{block_of}
 use Rattle.kernel_model.specs.Kernel.{Kernel, done_step, image_after, frame_bytes}
 use Rattle.kernel_model.specs.Sound.{TextFits}
@@ -94,13 +94,13 @@ CountsWrites (Err stops.SwapWriteFault) old new = Rose old new
 CountsWrites _ old new = new ≡ old
 
 -- what the oldest transfer is for
-abbrev pub IsReading : Errand → Type 0
-IsReading Writes = ⊥
-IsReading (Reads source demanded) = Unit {0}
+abbrev pub IsReadFrom : Source → Errand → Type 0
+IsReadFrom source Writes = ⊥
+IsReadFrom source (Reads from demanded) = from ≡ source
 
-abbrev pub OldestReads : List Transfer → Type 0
-OldestReads [] = ⊥
-OldestReads (t ∷ ts) = IsReading t.errand
+abbrev pub OldestReadsFrom : Source → List Transfer → Type 0
+OldestReadsFrom source [] = ⊥
+OldestReadsFrom source (t ∷ ts) = IsReadFrom source t.errand
 
 abbrev pub OldestWrites : List Transfer → Type 0
 OldestWrites [] = ⊥
@@ -111,8 +111,8 @@ abbrev pub StopsFor : Result Bool Stop → List Transfer → Type 0
 StopsFor (Ok b) ts = Unit {0}
 StopsFor (Err stops.NoMemory) ts = 0 < length ts
 StopsFor (Err stops.JournalFull) ts = 0 < length ts
-StopsFor (Err stops.FileFault) ts = OldestReads ts
-StopsFor (Err stops.SwapReadFault) ts = OldestReads ts
+StopsFor (Err stops.FileFault) ts = OldestReadsFrom FromFile ts
+StopsFor (Err stops.SwapReadFault) ts = OldestReadsFrom FromSwap ts
 StopsFor (Err stops.SwapWriteFault) ts = OldestWrites ts
 
 -- the swap image behind a call that stopped: only a write that failed changes it

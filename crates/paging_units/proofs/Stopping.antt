@@ -8,11 +8,11 @@ use Rattle.vm_facts.specs.declared.stop.Stop.{Stop}
 use Rattle.vm_facts.specs.declared.stop.Stop.TheVariants as stops
 use Rattle.flat_state.specs.Journal.{append, IsPlain}
 use Rattle.flat_state.proofs.Joins.{append_plain}
-use Rattle.page_model.specs.Placement.{Transfer}
+use Rattle.page_model.specs.Placement.{Transfer, Source, FromSwap, FromFile}
 use Rattle.kernel_model.specs.Kernel.{Kernel}
 use Rattle.machine_state.specs.Machine.{Standing}
 use Rattle.machine_state.specs.Conditions.{HasStopped}
-use Rattle.machine_state.specs.Done.{ImageAfter, StopsFor, SwapAfter, OldestReads, OldestWrites}
+use Rattle.machine_state.specs.Done.{ImageAfter, StopsFor, SwapAfter, OldestReadsFrom, OldestWrites}
 use Rattle.paging_units.specs.Stops.{CauseBy, SpoilsBy, StopsAt}
 
 -- an entry that is never joined makes the journal longer
@@ -54,9 +54,9 @@ pub plain_full : (e : Entry) (journal : List Entry) (limit : ℕ) (P : Type 0) �
 plain_full e journal limit P p f = ((λ h. (f.0 h, plain_longer journal e p)), (λ h. f.1 h.0))
 
 -- some transfer was in flight
-some_reads : (ts : List Transfer) → OldestReads ts → 0 < length ts
-some_reads [] h = absurd h
-some_reads (t ∷ ts) h = omega arith
+some_reads : (source : Source) (ts : List Transfer) → OldestReadsFrom source ts → 0 < length ts
+some_reads source [] h = absurd h
+some_reads source (t ∷ ts) h = omega arith
 
 some_writes : (ts : List Transfer) → OldestWrites ts → 0 < length ts
 some_writes [] h = absurd h
@@ -65,8 +65,8 @@ some_writes (t ∷ ts) h = omega arith
 pub stops_some : (ts : List Transfer) (stop : Stop) → StopsFor (Err stop) ts → 0 < length ts
 stops_some ts stops.NoMemory h = h
 stops_some ts stops.JournalFull h = h
-stops_some ts stops.FileFault h = some_reads ts h
-stops_some ts stops.SwapReadFault h = some_reads ts h
+stops_some ts stops.FileFault h = some_reads FromFile ts h
+stops_some ts stops.SwapReadFault h = some_reads FromSwap ts h
 stops_some ts stops.SwapWriteFault h = some_writes ts h
 
 -- the call that ends the oldest transfer

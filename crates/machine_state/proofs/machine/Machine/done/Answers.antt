@@ -2,11 +2,12 @@ use Rattle.std.proofs.Common.{◌≡◌, ℕ, ◌*◌, ◌<◌, ◌≤◌, Bool,
 use Rattle.vm_facts.specs.declared.entry.Entry.{Entry}
 use Rattle.swap_book.specs.Holdings.{Holdings}
 use Rattle.transfer_ring.specs.declared.transfer.Finished.TheVariants as answers
+use Rattle.page_model.specs.Placement.{FromSwap, FromFile}
 use Rattle.kernel_model.specs.Kernel.{Kernel, done_step}
 use Rattle.kernel_model.specs.Sound.{TextFits}
 use Rattle.machine_state.specs.Known.{Known}
 use Rattle.machine_state.specs.View.{transfer_shown}
-use Rattle.machine_state.specs.Done.{sources, ReadsTold, StandsTold, ImageAfter, SpoilsAfter}
+use Rattle.machine_state.specs.Done.{sources, ReadsTold, StandsTold, ImageAfter, SpoilsAfter, OldestReadsFrom}
 use Rattle.machine_state.proofs.Ends.{brought}
 use Rattle.transfer_ring.specs.declared.transfer.Transfer.{Transfer as Flight}
 use Rattle.machine_state.specs.declared.tables.Tables.{Tables}
@@ -17,6 +18,7 @@ use Rattle.machine_state.proofs.Knows.{known_of}
 use Rattle.machine_state.proofs.Standings.{no_room, running, stands_now, whole_now, Still, still_along, stands_on, pushed}
 use Rattle.machine_state.proofs.Reaches.{reachable}
 use Rattle.machine_state.proofs.Dones.{Came, came, done_back, was_lists, back_known, Doing, done_kernel, done_runs, Before, head_sourced, rest_sourced, done_image, done_told, spoiled_image, done_keeps}
+use Rattle.machine_state.proofs.FailedReads.{file_failed, swap_read_failed}
 use Rattle.machine_state.proofs.machine.Machine.done.Goals as goal
 
 pub complete_oldest-requires : goal.complete_oldest-requires
@@ -193,3 +195,19 @@ returns-in-SwapWriteFault-clause-spoiled g c =
       sourced = head_sourced (images_of t) (image_at t) t.book.holdings t.book.size t.ring e.rest e.oldest e.ring_is (subst (λ (hs : Holdings). AreSourced (images_of t) (image_at t) hs t.book.size t.ring) whole now.stands.ring);
     } in
     subst (λ (s : Standing). SpoilsAfter s.kernel (g.D.SwapDev.image c.args.swap.now) (g.D.SwapDev.image c.complete_oldest.new.swap)) c.self.view_is (spoiled_image t (images_of t) b e.oldest c.in-SwapWriteFault.transfer e.rest t.book.size (g.F.Files.holds c.args.files.now) (g.D.SwapDev.image c.args.swap.now) (g.D.SwapDev.image c.complete_oldest.new.swap) f e.ends)
+
+pub returns-in-FileFault-clause-cause : goal.returns-in-FileFault-clause-cause
+returns-in-FileFault-clause-cause g c =
+    let t : Tables = c.self.inside.tables in
+    let now = stands_now c.self.inside c.args.self.now c.self.invariant c.self.view_is c.requires.running in
+    subst (λ (s : Standing). OldestReadsFrom FromFile s.kernel.place.transfers) c.self.view_is
+    (file_failed (images_of t) (image_at t) (before_of t) t.book.size t.ring c.in-FileFault.transfer (g.F.Files.holds c.args.files.now) (g.D.SwapDev.image c.args.swap.now)
+    (g.D.SwapDev.image c.complete_oldest.new.swap) now.stands.ring c.in-FileFault.ensures.ends)
+
+pub returns-in-SwapReadFault-clause-cause : goal.returns-in-SwapReadFault-clause-cause
+returns-in-SwapReadFault-clause-cause g c =
+    let t : Tables = c.self.inside.tables in
+    let now = stands_now c.self.inside c.args.self.now c.self.invariant c.self.view_is c.requires.running in
+    subst (λ (s : Standing). OldestReadsFrom FromSwap s.kernel.place.transfers) c.self.view_is
+    (swap_read_failed (images_of t) (image_at t) (before_of t) t.book.size t.ring c.in-SwapReadFault.transfer (g.F.Files.holds c.args.files.now) (g.D.SwapDev.image c.args.swap.now)
+    (g.D.SwapDev.image c.complete_oldest.new.swap) now.stands.ring c.in-SwapReadFault.ensures.ends)
