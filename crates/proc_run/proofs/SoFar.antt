@@ -26,7 +26,7 @@ use Rattle.run_units.proofs.Units.{none_leads, leads_at}
 use Rattle.step_units.specs.Machines.{MachineAt}
 use Rattle.step_units.specs.Stepped.{StepLeads}
 use Rattle.step_units.proofs.Entering.{leads_both, stops_then}
-use Rattle.line_units.specs.Lines.{IsClear}
+use Rattle.step_units.specs.Lines.{IsClear}
 use Rattle.holder_laws.specs.Holders.{HoldersStand}
 use Rattle.ready_laws.specs.Ready.{Continues}
 use Rattle.proc_run.specs.declared.advancing.Advance.TheVariants as advances

@@ -15,7 +15,7 @@ use Rattle.run_model.specs.Next.{turn_instructions, under}
 use Rattle.run_units.specs.Leads.{Leads}
 use Rattle.step_units.specs.Machines.{MachineAt}
 use Rattle.step_units.specs.Stepped.{StopLeads}
-use Rattle.line_units.specs.Lines.{IsClear}
+use Rattle.step_units.specs.Lines.{IsClear}
 use Rattle.proc_run.specs.Runs.{IsSteady}
 
 -- the last mark is a dispatch of a process, or a turn, and asks for instructions up to this count

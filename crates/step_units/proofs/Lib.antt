@@ -30,3 +30,11 @@ pub mod Grown
 pub mod Falling
 pub mod Growing
 pub mod Accessing
+pub mod Stopping
+pub mod Beginning
+pub mod Turning
+pub mod Asking
+pub mod Choosing
+pub mod PuttingOut
+pub mod Longwords
+pub mod Residing

@@ -5,3 +5,6 @@ pub mod Making
 pub mod Leaving
 pub mod Sizing
 pub mod Running
+pub mod Lines
+pub mod Registers
+pub mod Residing

@@ -1,11 +1,13 @@
-//! What a machine makes of each instruction and call of a process is next units of a run: the calls of `proc_calls` and the serving
-//! of `fault_fill`, joined with the laws of `run_units`. There is no code here: each law is the clause of a function with an empty
-//! body.
+//! What a machine makes of each instruction and call of a process, of the lines of a schedule, and of the turns of the closing phase,
+//! is next units of a run: the calls of `proc_calls` and the serving of `fault_fill`, joined with the laws of `run_units`. There is no
+//! code here: each law is the clause of a function with an empty body.
 #![tactic(auto)]
 
 mod laws;
+mod lines;
 
 pub use laws::{
     breaks_are_steps, calls_are_steps, ends_are_steps, forks_are_steps, images_are_steps,
     instructions_are_steps,
 };
+pub use lines::{lines_are_made, lines_begin, longwords_stay, turns_begin};

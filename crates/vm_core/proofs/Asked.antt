@@ -28,9 +28,9 @@ use Rattle.run_model.specs.Next.{owners_of, last_turned}
 use Rattle.run_units.specs.Leads.{Leads}
 use Rattle.run_units.proofs.Units.{none_leads}
 use Rattle.step_units.specs.Stepped.{StopLeads}
-use Rattle.line_units.specs.Lines.{LineLeads, StopsNoting}
-use Rattle.line_units.proofs.Asking.{interrupt_made, idle_ends, interrupt_stops, hands_made, hands_stop, audit_made, audit_stops}
-use Rattle.line_units.proofs.PuttingOut.{swapper_made, swapper_stops}
+use Rattle.step_units.specs.Lines.{LineLeads, StopsNoting}
+use Rattle.step_units.proofs.Asking.{interrupt_made, idle_ends, interrupt_stops, hands_made, hands_stop, audit_made, audit_stops}
+use Rattle.step_units.proofs.PuttingOut.{swapper_made, swapper_stops}
 use Rattle.proc_run.specs.Runs.{IsSteady}
 use Rattle.vm_core.specs.Steady.{StaysSteady}
 use Rattle.vm_core.specs.Lines.{LineAt, MakesLine, StopsLine}

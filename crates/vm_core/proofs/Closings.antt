@@ -24,7 +24,7 @@ use Rattle.economy_laws.proofs.Idle.{count_most, few_turns}
 use Rattle.run_units.specs.Leads.{Leads}
 use Rattle.run_units.proofs.Units.{none_leads, both_lead}
 use Rattle.step_units.specs.Stepped.{StopLeads}
-use Rattle.line_units.specs.Lines.{IsOver, TurnDue}
+use Rattle.step_units.specs.Lines.{IsOver, TurnDue}
 use Rattle.proc_run.specs.Choosing.{next_turned as chosen_next}
 use Rattle.proc_run.proofs.Ready.{turned_same}
 use Rattle.vm_core.specs.Cores.{Underway, StandsIn, CoreAt}

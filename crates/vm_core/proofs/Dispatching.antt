@@ -12,7 +12,7 @@ use Rattle.run_model.specs.declared.mark.Mark.{Mark}
 use Rattle.run_model.specs.declared.mark.Mark.TheVariants as marks
 use Rattle.run_model.specs.State.{State}
 use Rattle.run_model.specs.Next.{turn_instructions, last_turned}
-use Rattle.line_units.proofs.Residing.{closing_stays_in}
+use Rattle.step_units.proofs.Residing.{closing_stays_in}
 use Rattle.proc_run.specs.Running.{UnderMark, Runs, StopsRunning}
 use Rattle.vm_core.specs.Cores.{AskedAt, CarriesOut, StopsCarrying}
 use Rattle.vm_core.specs.Closing.{TurnAt, FinishesTurn, StopsFinishing}

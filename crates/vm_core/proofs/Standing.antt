@@ -18,7 +18,7 @@ use Rattle.run_units.specs.Leads.{Leads}
 use Rattle.run_units.proofs.Units.{both_lead, leads_at}
 use Rattle.step_units.specs.Machines.{MachineAt}
 use Rattle.step_units.specs.Stepped.{StopLeads}
-use Rattle.line_units.proofs.Longwords.{longwords_stay}
+use Rattle.step_units.proofs.Longwords.{longwords_stay}
 use Rattle.vm_core.specs.Cores.{InputsOf, StandsIn}
 
 pub inputs_on : (A : Inputs) (old new : Standing) → InputsOf A old → new.params ≡ old.params → new.images ≡ old.images → InputsOf A new

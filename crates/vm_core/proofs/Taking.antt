@@ -22,8 +22,8 @@ use Rattle.run_laws.proofs.Machines.{makes_follows}
 use Rattle.run_units.specs.Leads.{Leads}
 use Rattle.run_units.proofs.Units.{both_lead}
 use Rattle.step_units.specs.Stepped.{StopLeads}
-use Rattle.line_units.specs.Lines.{LineBegun, StopsNoting}
-use Rattle.line_units.proofs.Beginning.{line_begins, line_stops}
+use Rattle.step_units.specs.Lines.{LineBegun, StopsNoting}
+use Rattle.step_units.proofs.Beginning.{line_begins, line_stops}
 use Rattle.proc_run.specs.Runs.{IsSteady}
 use Rattle.proc_run.specs.Running.{CountsTo}
 use Rattle.vm_core.specs.Steady.{StaysSteady}

@@ -18,9 +18,9 @@ use Rattle.run_model.specs.Next.{goes_on, turn_instructions}
 use Rattle.run_units.specs.Leads.{Leads}
 use Rattle.run_units.proofs.Units.{none_leads, both_lead}
 use Rattle.step_units.specs.Stepped.{StopLeads}
-use Rattle.line_units.specs.Lines.{TurnDue, TurnBegun, CameIn, StopsNoting}
-use Rattle.line_units.proofs.Beginning.{turn_stops}
-use Rattle.line_units.proofs.Turning.{turn_begins, comes_in, coming_in_stops}
+use Rattle.step_units.specs.Lines.{TurnDue, TurnBegun, CameIn, StopsNoting}
+use Rattle.step_units.proofs.Beginning.{turn_stops}
+use Rattle.step_units.proofs.Turning.{turn_begins, comes_in, coming_in_stops}
 use Rattle.run_model.specs.declared.mark.Mark.TheVariants as marks
 use Rattle.run_laws.proofs.Finishing.{units_below}
 use Rattle.run_laws.proofs.Machines.{makes_follows}

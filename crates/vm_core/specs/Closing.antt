@@ -16,7 +16,7 @@ use Rattle.economy_laws.specs.Stretch.{turns_of, NoneCounts}
 use Rattle.run_units.specs.Leads.{Leads}
 use Rattle.step_units.specs.Machines.{MachineAt}
 use Rattle.step_units.specs.Stepped.{StopLeads}
-use Rattle.line_units.specs.Lines.{IsOver, IsClear, TurnDue}
+use Rattle.step_units.specs.Lines.{IsOver, IsClear, TurnDue}
 use Rattle.proc_run.specs.Choosing.{next_turned as chosen_next}
 use Rattle.vm_core.specs.Cores.{Underway, StandsIn, CoreAt}
 

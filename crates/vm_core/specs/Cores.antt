@@ -15,8 +15,8 @@ use Rattle.run_model.specs.Next.{last_turned}
 use Rattle.run_units.specs.Leads.{Leads}
 use Rattle.step_units.specs.Machines.{MachineAt}
 use Rattle.step_units.specs.Stepped.{StopLeads}
-use Rattle.line_units.specs.Lines.{IsOver, IsClear}
-use Rattle.line_units.specs.Registers.{HasLongwords}
+use Rattle.step_units.specs.Lines.{IsOver, IsClear}
+use Rattle.step_units.specs.Registers.{HasLongwords}
 use Rattle.proc_run.specs.Runs.{IsSteady}
 
 -- a run: its machine, and how many instructions were counted

@@ -10,7 +10,7 @@ use Rattle.run_model.specs.State.{State}
 use Rattle.run_model.specs.After.{mark_of_event}
 use Rattle.step_units.specs.Machines.{MachineAt}
 use Rattle.step_units.specs.Stepped.{StopLeads}
-use Rattle.line_units.specs.Lines.{IsClear, LineLeads}
+use Rattle.step_units.specs.Lines.{IsClear, LineLeads}
 
 -- The machine stands at a state under the mark of a line, with a swap image that is told.
 pub record LineAt (A : Inputs) (s : State) (m : Standing) (holds : Option (List NamedFile)) (i : Option (List ℕ)) (image : List ℕ) (e : Event) : Type 0 where

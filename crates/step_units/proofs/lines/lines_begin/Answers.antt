@@ -1,5 +1,5 @@
-use Rattle.line_units.proofs.Beginning.{line_begins, line_stops}
-use Rattle.line_units.proofs.laws.lines_begin.Goals as goal
+use Rattle.step_units.proofs.Beginning.{line_begins, line_stops}
+use Rattle.step_units.proofs.lines.lines_begin.Goals as goal
 
 pub returns-clause-is : goal.returns-clause-is
 returns-clause-is c = line_begins

@@ -22,7 +22,7 @@ use Rattle.run_laws.proofs.Execs.{execs_fit}
 use Rattle.kernel_model.specs.Start.{ImagesFit}
 use Rattle.run_units.specs.Leads.{Leads}
 use Rattle.run_units.specs.Serving.{At}
-use Rattle.line_units.specs.Registers.{HasLongwords}
+use Rattle.step_units.specs.Registers.{HasLongwords}
 
 -- each next unit is an entry of the flat machine's run, or none of a process
 plain_entry : (A : Inputs) (s : State) (u : Entry) → process_of_entry u ≡ None → flat_entry A s.point u ≡ Some (after A s u).point

@@ -1,7 +1,7 @@
-ghost use Rattle.line_units.specs.Lines.{LineBegins, LineStops, InterruptIsMade, IdleInterruptEnds, InterruptStops, HandsAreMade, HandsStop};
-ghost use Rattle.line_units.specs.Lines.{SwapperIsMade, SwapperStops, AuditIsMade, AuditStops, TurnBegins, TurnStops, ComingInIsMade, ComingInStops};
-ghost use Rattle.line_units.specs.Registers.{LongwordsStay};
-ghost use Rattle.line_units.specs.Residing.{ClosingStaysIn};
+ghost use Rattle.step_units.specs.Lines.{LineBegins, LineStops, InterruptIsMade, IdleInterruptEnds, InterruptStops, HandsAreMade, HandsStop};
+ghost use Rattle.step_units.specs.Lines.{SwapperIsMade, SwapperStops, AuditIsMade, AuditStops, TurnBegins, TurnStops, ComingInIsMade, ComingInStops};
+ghost use Rattle.step_units.specs.Registers.{LongwordsStay};
+ghost use Rattle.step_units.specs.Residing.{ClosingStaysIn};
 
 /// Between two lines the entry of the next one is the next unit, and its mark is the last then.
 pub fn lines_begin()

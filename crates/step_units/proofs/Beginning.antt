@@ -19,8 +19,8 @@ use Rattle.run_units.proofs.Units.{none_leads, first_leads}
 use Rattle.run_units.proofs.Swapping.{note_made, line_comes, turn_comes}
 use Rattle.step_units.specs.Machines.{MachineAt}
 use Rattle.step_units.specs.Stepped.{StopLeads}
-use Rattle.line_units.specs.Lines.{IsOver, LineBegun, StopsNoting, TurnDue}
-use Rattle.line_units.proofs.Stopping.{note_stops}
+use Rattle.step_units.specs.Lines.{IsOver, LineBegun, StopsNoting, TurnDue}
+use Rattle.step_units.proofs.Stopping.{note_stops}
 
 -- one unit leads to the state behind it
 pub one_leads : (A : Inputs) (s : State) (k l : Kernel) (image : List ℕ) (j : Option (List ℕ)) (u : Entry) → next_unit A s ≡ Some u → MadeAs A s k image u l j

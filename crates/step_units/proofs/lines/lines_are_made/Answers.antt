@@ -1,6 +1,6 @@
-use Rattle.line_units.proofs.Asking.{interrupt_made, idle_ends, interrupt_stops, hands_made, hands_stop, audit_made, audit_stops}
-use Rattle.line_units.proofs.PuttingOut.{swapper_made, swapper_stops}
-use Rattle.line_units.proofs.laws.lines_are_made.Goals as goal
+use Rattle.step_units.proofs.Asking.{interrupt_made, idle_ends, interrupt_stops, hands_made, hands_stop, audit_made, audit_stops}
+use Rattle.step_units.proofs.PuttingOut.{swapper_made, swapper_stops}
+use Rattle.step_units.proofs.lines.lines_are_made.Goals as goal
 
 pub returns-clause-interrupt : goal.returns-clause-interrupt
 returns-clause-interrupt c = interrupt_made

@@ -27,9 +27,9 @@ use Rattle.run_units.proofs.Moving.{moving, move_next, moves_end}
 use Rattle.run_units.proofs.Swapping.{line_asks, note_made}
 use Rattle.step_units.specs.Machines.{MachineAt}
 use Rattle.step_units.specs.Stepped.{StopLeads}
-use Rattle.line_units.specs.Lines.{IsOver, IsClear, LineLeads, StopsNoting}
-use Rattle.line_units.proofs.Stopping.{one_longer, stops_by, stops_behind, note_stops}
-use Rattle.line_units.proofs.Beginning.{one_leads}
+use Rattle.step_units.specs.Lines.{IsOver, IsClear, LineLeads, StopsNoting}
+use Rattle.step_units.proofs.Stopping.{one_longer, stops_by, stops_behind, note_stops}
+use Rattle.step_units.proofs.Beginning.{one_leads}
 
 -- The end of a transfer.
 

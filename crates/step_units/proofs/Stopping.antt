@@ -16,7 +16,7 @@ use Rattle.run_laws.specs.Machine.{IsNote}
 use Rattle.run_units.specs.Leads.{Leads}
 use Rattle.run_units.proofs.Units.{none_leads}
 use Rattle.step_units.specs.Stepped.{StopsNext, StopsBy, StopLeads}
-use Rattle.line_units.specs.Lines.{StopsNoting}
+use Rattle.step_units.specs.Lines.{StopsNoting}
 
 -- At a unit that a call names.
 

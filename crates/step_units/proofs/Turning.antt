@@ -24,9 +24,9 @@ use Rattle.page_model.specs.Placement.{Due}
 use Rattle.run_units.proofs.Swapping.{note_made, in_made}
 use Rattle.step_units.specs.Machines.{MachineAt}
 use Rattle.step_units.specs.Stepped.{StopLeads}
-use Rattle.line_units.specs.Lines.{IsClear, TurnDue, TurnBegun, CameIn}
-use Rattle.line_units.proofs.Stopping.{stops_here}
-use Rattle.line_units.proofs.Beginning.{one_leads, next_turn}
+use Rattle.step_units.specs.Lines.{IsClear, TurnDue, TurnBegun, CameIn}
+use Rattle.step_units.proofs.Stopping.{stops_here}
+use Rattle.step_units.proofs.Beginning.{one_leads, next_turn}
 
 -- Who has a turn can step.
 

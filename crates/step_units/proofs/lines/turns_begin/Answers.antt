@@ -1,7 +1,7 @@
-use Rattle.line_units.proofs.Beginning.{turn_stops}
-use Rattle.line_units.proofs.Residing.{closing_stays_in}
-use Rattle.line_units.proofs.Turning.{turn_begins, comes_in, coming_in_stops}
-use Rattle.line_units.proofs.laws.turns_begin.Goals as goal
+use Rattle.step_units.proofs.Beginning.{turn_stops}
+use Rattle.step_units.proofs.Residing.{closing_stays_in}
+use Rattle.step_units.proofs.Turning.{turn_begins, comes_in, coming_in_stops}
+use Rattle.step_units.proofs.lines.turns_begin.Goals as goal
 
 pub returns-clause-is : goal.returns-clause-is
 returns-clause-is c = turn_begins

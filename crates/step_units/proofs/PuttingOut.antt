@@ -46,10 +46,10 @@ use Rattle.run_units.proofs.Units.{none_leads, both_lead, leads_at}
 use Rattle.run_units.proofs.Swapping.{putting, put_next, out_made, in_made, line_asks}
 use Rattle.step_units.specs.Machines.{MachineAt}
 use Rattle.step_units.specs.Stepped.{StopLeads}
-use Rattle.line_units.specs.Lines.{IsClear, LineLeads}
-use Rattle.line_units.proofs.Stopping.{stops_here, stops_behind}
-use Rattle.line_units.proofs.Beginning.{one_leads}
-use Rattle.line_units.proofs.Choosing.{runners_same}
+use Rattle.step_units.specs.Lines.{IsClear, LineLeads}
+use Rattle.step_units.proofs.Stopping.{stops_here, stops_behind}
+use Rattle.step_units.proofs.Beginning.{one_leads}
+use Rattle.step_units.proofs.Choosing.{runners_same}
 
 -- the mark is that of the choice that was made
 chosen_mark : (A : Inputs) (s : State) (old : Standing) (holds : Option (List NamedFile)) (image : List ℕ) (t : Turned) → MachineAt A s old holds image
