@@ -6,7 +6,7 @@ use Rattle.run_files.specs.declared.answers.Unread.TheVariants as unreads
 use Rattle.command_ending.specs.declared.lines.Line.{Line}
 use Rattle.command_ending.specs.declared.lines.Line.TheVariants.{Fixed, Made}
 use Rattle.command_ending.specs.declared.fault.Fault.{Fault}
-use Rattle.command_ending.specs.declared.fault.Fault.TheVariants.{Absent, NotImage, FileFault, NoMemory, NotFlatRun, BadTranscript, TooLong, BadSource}
+use Rattle.command_ending.specs.declared.fault.Fault.TheVariants.{BadWords, Absent, NotImage, BadSchedule, FileFault, SwapReadFault, SwapWriteFault, NoMemory, JournalFull, NoSpace, ShortDevice, NotFlatRun, BadTranscript, TooLong, BadSource}
 
 -- what a command makes, or why it doesn't
 abbrev pub Ending : Type 0
@@ -24,10 +24,17 @@ fault_of name unreads.FileFault = FileFault
 fault_of name unreads.NoMemory = NoMemory
 
 abbrev pub fault_status : Fault → ℕ
+fault_status BadWords = 1
 fault_status (Absent name) = 2
 fault_status (NotImage name reason) = 3
+fault_status (BadSchedule line) = 4
 fault_status FileFault = 5
+fault_status (SwapReadFault device) = 6
+fault_status (SwapWriteFault device) = 7
 fault_status NoMemory = 9
+fault_status JournalFull = 10
+fault_status (NoSpace pid) = 11
+fault_status (ShortDevice device blocks needed) = 12
 fault_status (NotFlatRun line) = 14
 fault_status (BadTranscript line) = 15
 fault_status TooLong = 16
@@ -48,12 +55,23 @@ not_image_line name reason = codes "vmrun: not an image: " ++ name ++ codes " re
 abbrev pub numbered_line : List ℕ → ℕ → List ℕ
 numbered_line words number = words ++ decimal number ++ codes "\n"
 
+abbrev pub short_device_line : ℕ → ℕ → ℕ → List ℕ
+short_device_line device blocks needed =
+    codes "vmrun: swap device " ++ decimal device ++ codes " has " ++ decimal blocks ++ codes " blocks, " ++ decimal needed ++ codes " needed\n"
+
 -- the line of a fault
 abbrev pub fault_line : Fault → List ℕ
+fault_line BadWords = codes "vmrun: bad words\n"
 fault_line (Absent name) = absent_line name.now
 fault_line (NotImage name reason) = not_image_line name.now reason
+fault_line (BadSchedule line) = numbered_line (codes "vmrun: bad schedule line ") line
 fault_line FileFault = codes "vmrun: file fault\n"
+fault_line (SwapReadFault device) = numbered_line (codes "vmrun: swap read fault on device ") device
+fault_line (SwapWriteFault device) = numbered_line (codes "vmrun: swap write fault on device ") device
 fault_line NoMemory = codes "vmrun: no memory\n"
+fault_line JournalFull = codes "vmrun: journal full\n"
+fault_line (NoSpace pid) = numbered_line (codes "vmrun: no swap for process ") pid
+fault_line (ShortDevice device blocks needed) = short_device_line device blocks needed
 fault_line (NotFlatRun line) = numbered_line (codes "not a flat run: line ") line
 fault_line (BadTranscript line) = numbered_line (codes "vmrun: bad transcript line ") line
 fault_line TooLong = codes "vmrun: transcript too long\n"
@@ -61,10 +79,17 @@ fault_line (BadSource line) = numbered_line (codes "vmrun: bad source line ") li
 
 -- a fault whose line has a name or a number in it, so that memory is needed to write it
 abbrev pub NeedsMemory : Fault → Type 0
+NeedsMemory BadWords = ⊥
 NeedsMemory (Absent name) = Unit {0}
 NeedsMemory (NotImage name reason) = Unit {0}
+NeedsMemory (BadSchedule line) = Unit {0}
 NeedsMemory FileFault = ⊥
+NeedsMemory (SwapReadFault device) = Unit {0}
+NeedsMemory (SwapWriteFault device) = Unit {0}
 NeedsMemory NoMemory = ⊥
+NeedsMemory JournalFull = ⊥
+NeedsMemory (NoSpace pid) = Unit {0}
+NeedsMemory (ShortDevice device blocks needed) = Unit {0}
 NeedsMemory (NotFlatRun line) = Unit {0}
 NeedsMemory (BadTranscript line) = Unit {0}
 NeedsMemory TooLong = ⊥

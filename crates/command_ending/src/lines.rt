@@ -1,6 +1,6 @@
 // The lines about faults, which the commands share.
 ghost use Rattle.std.specs.Prelude.{◌≡◌, ◌++◌, IfOk, OnOk, decimal};
-ghost use Rattle.command_ending.specs.Ending.{bytes_of, absent_line, not_image_line, numbered_line};
+ghost use Rattle.command_ending.specs.Ending.{bytes_of, absent_line, not_image_line, numbered_line, short_device_line};
 
 use itoa::Buffer;
 use std::alloc::{AllocError, Global};
@@ -66,5 +66,24 @@ pub fn numbered_line(alloc: Global, words: &[u8], number: u32) -> Result<Vec<u8>
     let mut line = Vec::from_slice(alloc, words)?;
     put_number(&mut line, number)?;
     line.push(b'\n')?;
+    Ok(line)
+}
+
+/// The line about a swap device that has fewer blocks than are needed.
+pub fn short_device_line(
+    alloc: Global,
+    device: u32,
+    blocks: u32,
+    needed: u32,
+) -> Result<Vec<u8>, AllocError>
+    ensures { IfOk result (λ line. line.items ≡ short_device_line device blocks needed) }
+{
+    let mut line = Vec::from_slice(alloc, b"vmrun: swap device ")?;
+    put_number(&mut line, device)?;
+    line.extend_from_slice(b" has ")?;
+    put_number(&mut line, blocks)?;
+    line.extend_from_slice(b" blocks, ")?;
+    put_number(&mut line, needed)?;
+    line.extend_from_slice(b" needed\n")?;
     Ok(line)
 }

@@ -1,4 +1,3 @@
 pub mod LastLines
 pub mod Transcripts
-pub mod Loadings
 pub mod Replays

@@ -11,9 +11,10 @@ use Rattle.replay_check.specs.Images.{FlatFile}
 use Rattle.command_ending.specs.declared.fault.Fault.{Fault}
 use Rattle.command_ending.specs.declared.fault.Fault.TheVariants as faults
 use Rattle.command_ending.specs.Ending.{Ending}
+use Rattle.command_ending.specs.Named.{Why, AnswersNamed}
 use Rattle.command_ending.specs.Command.{Faults, NoFaults, OneFailed, Made}
 use Rattle.command_ending.proofs.Makings.{made_where, made_nothing}
-use Rattle.replay_command.specs.Reading.{Why, Read, HasEntries, EndsTranscript, AnswersNamed, FaultsBy, images_told, read_told}
+use Rattle.replay_command.specs.Reading.{Read, HasEntries, EndsTranscript, FaultsBy, images_told, read_told}
 use Rattle.replay_command.specs.Command.{EndsVerdict, EndsReplay}
 
 abbrev whole : List ℕ → List NamedFile → Result (Option (List ℕ)) Unread
@@ -22,13 +23,11 @@ whole name list = whole_told list name 67108864
 -- the transcript's fault is that of the replay
 transcript_fault : (name : List ℕ) (words : List (List ℕ)) (f : Faults) (fault : Fault) (read : Read) → EndsTranscript name read.transcript f (Err fault) → EndsReplay name words read f (Err fault)
 transcript_fault name words f (faults.Absent absent) read ends = inl ends
-transcript_fault name words f (faults.NotImage file reason) read ends = absurd ends
 transcript_fault name words f faults.FileFault read ends = inl ends
 transcript_fault name words f faults.NoMemory read ends = tt
-transcript_fault name words f (faults.NotFlatRun line) read ends = absurd ends
 transcript_fault name words f (faults.BadTranscript line) read ends = ends
 transcript_fault name words f faults.TooLong read ends = ends
-transcript_fault name words f (faults.BadSource line) read ends = absurd ends
+transcript_fault name words f _ read ends = absurd ends
 
 pub transcript_ends : (name : List ℕ) (words : List (List ℕ)) (holds : Option (List NamedFile)) (f : Faults) (fault : Fault)
     → Made {E = Result (List Entry) Fault} (EndsTranscript name) (whole name) holds f (Err fault) → Made (EndsReplay name words) (read_told name words) holds f (Err fault)
@@ -92,25 +91,17 @@ images_end name words holds open_before open_between open_after page_before page
     made.ends.1 (λ list told. subst (λ (read : Result (Option (List ℕ)) Unread). HasEntries read entries) (made.is_told list told) made.ends.1)
     (λ read has. elim (none_before open_before open_between open_after page_before page_between page_after made.ends.0 by) [ inl first ↦ inl first | inr behind ↦ inr (behind, (entries, has)) ])
 images_end name words holds open_before open_between open_after page_before page_between page_after entries faults.NoMemory made view answers by = refused name words holds _
-images_end name words holds open_before open_between open_after page_before page_between page_after entries (faults.NotFlatRun line) made view answers by = absurd by
-images_end name words holds open_before open_between open_after page_before page_between page_after entries (faults.BadTranscript line) made view answers by = absurd by
-images_end name words holds open_before open_between open_after page_before page_between page_after entries faults.TooLong made view answers by = absurd by
-images_end name words holds open_before open_between open_after page_before page_between page_after entries (faults.BadSource line) made view answers by = absurd by
+images_end name words holds open_before open_between open_after page_before page_between page_after entries _ made view answers by = absurd by
 
 -- the verdict is that of the replay
 verdict_ends : (name : List ℕ) (words : List (List ℕ)) (f : Faults) (entries : List Entry) (images : List FlatFile) (ending : Ending) (read : Read)
     → NoFaults f → EndsVerdict images (first_images (image_names words) words) entries ending → HasRead entries (Ok images) read → EndsReplay name words read f ending
 verdict_ends name words f entries images (Ok output) read none verdict has =
     (none, (entries, record { has = has.has; images = images; are = has.images_are; verdict = verdict.0 }, verdict.1))
-verdict_ends name words f entries images (Err (faults.Absent absent)) read none verdict has = absurd verdict
-verdict_ends name words f entries images (Err (faults.NotImage file reason)) read none verdict has = absurd verdict
-verdict_ends name words f entries images (Err faults.FileFault) read none verdict has = absurd verdict
 verdict_ends name words f entries images (Err faults.NoMemory) read none verdict has = tt
 verdict_ends name words f entries images (Err (faults.NotFlatRun line)) read none verdict has =
     (entries, record { has = has.has; images = images; are = has.images_are; verdict = verdict })
-verdict_ends name words f entries images (Err (faults.BadTranscript line)) read none verdict has = absurd verdict
-verdict_ends name words f entries images (Err faults.TooLong) read none verdict has = absurd verdict
-verdict_ends name words f entries images (Err (faults.BadSource line)) read none verdict has = absurd verdict
+verdict_ends name words f entries images (Err _) read none verdict has = absurd verdict
 
 pub judged_ends : (name : List ℕ) (words : List (List ℕ)) (holds : Option (List NamedFile)) (open_before open_between open_after page_before page_between page_after : ℕ) (entries : List Entry) (images : List FlatFile) (ending : Ending)
     → Made {E = Result (List Entry) Fault} (EndsTranscript name) (whole name) holds (record { open_before = open_before; open_after = open_between; page_before = page_before; page_after = page_between }) (Ok entries)

@@ -28,14 +28,9 @@ few_entries entries bytes whole most are shorter few = omega (arith, entries_cou
 -- what the bytes give is what the transcript gives
 pub ends_read : (name bytes : List ℕ) (f : Faults) (result : Result (List Entry) Fault) → NoFaults f → EndsLines bytes result → EndsTranscript name (Ok (Some bytes)) f result
 ends_read name bytes f (Ok entries) none ends = (none, ends)
-ends_read name bytes f (Err (faults.Absent absent)) none ends = absurd ends
-ends_read name bytes f (Err (faults.NotImage file reason)) none ends = absurd ends
-ends_read name bytes f (Err faults.FileFault) none ends = absurd ends
 ends_read name bytes f (Err faults.NoMemory) none ends = tt
-ends_read name bytes f (Err (faults.NotFlatRun line)) none ends = absurd ends
 ends_read name bytes f (Err (faults.BadTranscript line)) none ends = ends
-ends_read name bytes f (Err faults.TooLong) none ends = absurd ends
-ends_read name bytes f (Err (faults.BadSource line)) none ends = absurd ends
+ends_read name bytes f (Err _) none ends = absurd ends
 
 -- a transcript that wasn't read
 pub unread_transcript : {A : Type 0} (view : A → Option (List ℕ)) (name : Bor (List ℕ)) (told : List NamedFile → Result (Option (List ℕ)) Unread) (holds : Option (List NamedFile)) (f : Faults) (unread : Unread)

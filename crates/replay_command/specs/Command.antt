@@ -9,8 +9,9 @@ use Rattle.replay_check.specs.Images.{FlatFile, images_of}
 use Rattle.replay_check.specs.Verdicts.{first_bad}
 use Rattle.command_ending.specs.declared.fault.Fault.TheVariants.{Absent, NotImage, FileFault, NoMemory, NotFlatRun, BadTranscript, TooLong}
 use Rattle.command_ending.specs.Ending.{Ending}
+use Rattle.command_ending.specs.Named.{Why}
 use Rattle.command_ending.specs.Command.{Faults, NoFaults, FailedBehind, Completes}
-use Rattle.replay_command.specs.Reading.{Why, Read, HasEntries, HasBadLine, read_told}
+use Rattle.replay_command.specs.Reading.{Read, HasEntries, HasBadLine, read_told}
 
 -- the line of a run
 abbrev pub run_line : ℕ → List ℕ

@@ -12,12 +12,9 @@ use Rattle.run_text.specs.Transcript.{IsEntryLine}
 use Rattle.replay_check.specs.Images.{FlatFile}
 use Rattle.command_ending.specs.declared.fault.Fault.{Fault}
 use Rattle.command_ending.specs.declared.fault.Fault.TheVariants.{Absent, NotImage, FileFault, NoMemory, BadTranscript, TooLong}
+use Rattle.command_ending.specs.Named.{Why, before}
 use Rattle.command_ending.specs.Command.{Faults, NoFaults, OpenFailed, OneFailed}
 use Rattle.replay_command.specs.LastLine.{without_fault_line}
-
--- a name, and why its file isn't read
-abbrev pub Why : Type 0
-Why = List ℕ × Unread
 
 -- a transcript's bytes, none of one that is too long; and the images
 pub record Read : Type 0 where
@@ -31,25 +28,10 @@ abbrev pub flat_in : List ℕ → Result (Image × List ℕ) Unread → Result F
 flat_in name (Ok image) = Ok (record { name = name; bytes = image.1 })
 flat_in name (Err unread) = Err (name, unread)
 
--- an image before others; the first that isn't read decides
-abbrev pub before : Result FlatFile Why → Result (List FlatFile) Why → Result (List FlatFile) Why
-before (Ok image) (Ok images) = Ok (image ∷ images)
-before (Ok image) (Err why) = Err why
-before (Err why) images = Err why
-
 -- the images of these names
 abbrev pub images_told : List NamedFile → List (List ℕ) → Result (List FlatFile) Why
 images_told files [] = Ok []
 images_told files (name ∷ names) = before (flat_in name (image_told files name)) (images_told files names)
-
--- an answer is what is told, unless a file failed or memory was refused
-abbrev pub AnswersNamed : {A B : Type 0} → (A → B) → Result B Why → Result A Fault → Type 0
-AnswersNamed view told (Ok x) = told ≡ Ok (view x)
-AnswersNamed view told (Err (Absent name)) = told ≡ Err (name.now, unreads.Absent)
-AnswersNamed view told (Err (NotImage name reason)) = told ≡ Err (name.now, unreads.NotImage reason)
-AnswersNamed view told (Err FileFault) = Unit {0}
-AnswersNamed view told (Err NoMemory) = Unit {0}
-AnswersNamed view told (Err _) = ⊥
 
 -- the counts of faults over a call that reads images, and the faults that it may have
 abbrev pub FaultsBy : {A : Type 0} → Result A Fault → Faults → Type 0

@@ -3,7 +3,8 @@ ghost use Rattle.std.specs.Prelude.{◌≡◌, ◌<◌, ℕ, List, Some, map, le
 ghost use Rattle.io_edge.specs.FileHolding.{NamedFile};
 ghost use Rattle.run_files.specs.Told.{image_told};
 ghost use Rattle.replay_check.specs.Images.{IsImageFile};
-ghost use Rattle.replay_command.specs.Reading.{AnswersNamed, FaultsBy, flat_in, images_told};
+ghost use Rattle.command_ending.specs.Named.{AnswersNamed};
+ghost use Rattle.replay_command.specs.Reading.{FaultsBy, flat_in, images_told};
 
 use command_ending::Fault;
 use io_edge::Files;

@@ -3,8 +3,9 @@ use Rattle.vm_facts.specs.declared.entry.Entry.{Entry}
 use Rattle.run_files.specs.ImageWords.{image_names, first_images}
 use Rattle.replay_check.specs.Images.{FlatFile}
 use Rattle.command_ending.specs.Ending.{Ending, ending_of}
+use Rattle.command_ending.specs.Named.{AnswersNamed}
 use Rattle.command_ending.specs.Command.{Faults, Made}
-use Rattle.replay_command.specs.Reading.{AnswersNamed, images_told, read_told}
+use Rattle.replay_command.specs.Reading.{images_told, read_told}
 use Rattle.replay_command.specs.Command.{EndsVerdict, EndsReplay}
 use Rattle.replay_command.proofs.Replays.{transcript_ends, refused, images_end, judged_ends}
 use Rattle.replay_command.proofs.command.line_from.Goals as goal
