@@ -1,5 +1,5 @@
 -- The images that words name: their numbers, and those that the first processes start with.
-use Rattle.std.specs.Prelude.{ℕ, ◌+◌, ◌==◌, Bool, not, if◌then◌else◌, List, [], ◌∷◌, map, drop, slice_index, Option, None, position, bytes_eq}
+use Rattle.std.specs.Prelude.{ℕ, ◌+◌, ◌<◌, ◌==◌, Bool, not, if◌then◌else◌, List, [], ◌∷◌, length, map, drop, slice_index, Option, None, position, bytes_eq}
 use Rattle.std.specs.List.{filter, filter_map}
 use Rattle.std.specs.Option.{option_map}
 
@@ -10,6 +10,10 @@ starts word = not (slice_index word 0 == 61)
 -- the name in a word
 abbrev pub name_in : List ℕ → List ℕ
 name_in word = if starts word then word else drop 1 word
+
+-- a name of 1 to 63 bytes
+abbrev pub IsShortName : List ℕ → Type 0
+IsShortName name = (0 < length name) × (length name < 64)
 
 -- each name once, where it first appears
 abbrev pub distinct : List (List ℕ) → List (List ℕ)

@@ -1,0 +1,4 @@
+pub mod Finding
+pub mod Lists
+pub mod Schedules
+pub mod Openings

@@ -1,0 +1,4 @@
+pub mod Schedules
+pub mod Images
+pub mod Devices
+pub mod Opening

@@ -1,0 +1,13 @@
+//! What a run reads before it begins: its schedule, the headers of its images, and the sizes of its swap devices.
+#![tactic(auto)]
+
+mod devices;
+mod images;
+mod opening;
+mod schedule;
+
+pub use images::OpenedImage;
+pub use opening::{Opening, open_run};
+
+#[cfg(test)]
+mod tests;
