@@ -1,0 +1,3 @@
+mod WordLists
+mod Numerals
+mod RunWords

@@ -1,0 +1,80 @@
+-- What the words of a command line ask for.
+use Rattle.std.specs.Prelude.{ℕ, Bool, ◌&&◌, not, List, [], ◌∷◌, Option, Some, None, option_and_then, if◌then◌else◌, bytes_eq, codes}
+use Rattle.std.specs.List.{list_all, list_any}
+use Rattle.std.specs.Option.{option_map}
+use Rattle.run_files.specs.ImageWords.{starts}
+use Rattle.command_words.specs.declared.command.Numbers.{Numbers}
+use Rattle.command_words.specs.Words.{is_plain, number_in, is_name, are_image_words, is_trace, without_trace}
+
+-- a command, with the numbers and the names that its words give
+pub data Asked : Type 0 where
+  Run : (traced : Bool) → Numbers → (schedule : List ℕ) → (images : List (List ℕ)) → Asked
+  Load : (number : ℕ) → Asked
+  Replay : (transcript : List ℕ) → (images : List (List ℕ)) → Asked
+  Assemble : (source : List ℕ) → Asked
+  Show : (image : List ℕ) → Asked
+  Optimum : (size : ℕ) → Numbers → (schedule : List ℕ) → (images : List (List ℕ)) → Asked
+  Curve : Numbers → (schedule : List ℕ) → (images : List (List ℕ)) → Asked
+
+-- the three numbers, where each is one
+unfoldable pub all_numbers : Option ℕ → Option ℕ → Option ℕ → Option Numbers
+all_numbers (Some frames) (Some swap) (Some limit) = Some (record { frames = frames; swap = swap; limit = limit })
+all_numbers _ _ _ = None
+
+-- `FRAMES SWAP LIMIT`, with a limit up to so many
+unfoldable pub run_numbers : ℕ → List ℕ → List ℕ → List ℕ → Option Numbers
+run_numbers most frames swap limit = all_numbers (number_in 64 4096 frames) (number_in 256 131072 swap) (number_in 1 most limit)
+
+-- `FRAMES SWAP LIMIT SCHED IMAGE..`, with a limit up to so many: the command over these numbers, this schedule and
+-- these images
+unfoldable pub asked_with_run : ℕ → (Numbers → List ℕ → List (List ℕ) → Asked) → List (List ℕ) → Option Asked
+asked_with_run most command (frames ∷ swap ∷ limit ∷ schedule ∷ images) =
+    if is_name schedule && are_image_words images then option_map (λ numbers. command numbers schedule images) (run_numbers most frames swap limit) else None
+asked_with_run most command _ = None
+
+-- `NUMBER`
+unfoldable pub asked_load : List (List ℕ) → Option Asked
+asked_load (number ∷ []) = option_map Load (number_in 0 9999 number)
+asked_load _ = None
+
+-- `TRANSCRIPT IMAGE..`
+unfoldable pub asked_replay : List (List ℕ) → Option Asked
+asked_replay (transcript ∷ images) = if is_name transcript && are_image_words images then Some (Replay transcript images) else None
+asked_replay [] = None
+
+-- `SOURCE`
+unfoldable pub asked_assemble : List (List ℕ) → Option Asked
+asked_assemble (source ∷ []) = if is_name source then Some (Assemble source) else None
+asked_assemble _ = None
+
+-- `IMAGE`, with no equals sign before it
+unfoldable pub asked_show : List (List ℕ) → Option Asked
+asked_show (image ∷ []) = if is_name image && starts image then Some (Show image) else None
+asked_show _ = None
+
+-- `N FRAMES SWAP LIMIT SCHED IMAGE..`
+unfoldable pub asked_optimum : List (List ℕ) → Option Asked
+asked_optimum (size ∷ words) = option_and_then (λ n. asked_with_run 100000 (Optimum n) words) (number_in 1 4096 size)
+asked_optimum [] = None
+
+-- the words behind `run`: one of them may be `--trace`; of the others none is empty or begins with a hyphen
+unfoldable pub asked_run : List (List ℕ) → Option Asked
+asked_run words =
+    if list_all is_plain (without_trace words) then asked_with_run 1000000 (Run (list_any is_trace words)) (without_trace words) else None
+
+-- the words behind the name of another command: none of them is empty or begins with a hyphen
+unfoldable pub asked_other : List ℕ → List (List ℕ) → Option Asked
+asked_other name words =
+    if not (list_all is_plain words) then None
+    else (if bytes_eq name (codes "load") then asked_load words
+    else (if bytes_eq name (codes "replay") then asked_replay words
+    else (if bytes_eq name (codes "as") then asked_assemble words
+    else (if bytes_eq name (codes "dis") then asked_show words
+    else (if bytes_eq name (codes "opt") then asked_optimum words
+    else (if bytes_eq name (codes "curve") then asked_with_run 100000 Curve words
+    else None))))))
+
+-- what the words behind the program's name ask for, and `None` where they are no command's
+unfoldable pub asked_of : List (List ℕ) → Option Asked
+asked_of [] = None
+asked_of (name ∷ words) = if bytes_eq name (codes "run") then asked_run words else asked_other name words

@@ -1,0 +1,58 @@
+-- A command that was read: what it asks for, and what holds of its parts.
+use Rattle.std.specs.Prelude.{◌≤◌, ◌<◌, ℕ, IsTrue, List, ◌++◌, length, map, All}
+use Rattle.std.specs.List.{list_any}
+use Rattle.run_files.specs.ImageWords.{IsShortName, starts, name_in}
+use Rattle.command_words.specs.declared.command.Numbers.{Numbers}
+use Rattle.command_words.specs.declared.command.Command.{Command}
+use Rattle.command_words.specs.declared.command.Command.TheVariants as commands
+use Rattle.command_words.specs.declared.image_words.ImageWords.{ImageWords}
+use Rattle.command_words.specs.Asked.{Asked, Run, Load, Replay, Assemble, Show, Optimum, Curve}
+use denote.Ref.{Bor}
+
+-- the words, as one list
+abbrev pub word_list : ImageWords → List (Bor (List ℕ))
+word_list words = words.before.now ++ words.after.now
+
+-- what a command asks for
+abbrev pub asked_by : Command → Asked
+asked_by (commands.Run traced numbers schedule images) = Run traced numbers schedule.now (map (λ word. word.now) (word_list images))
+asked_by (commands.Load number) = Load number
+asked_by (commands.Replay transcript images) = Replay transcript.now (map (λ word. word.now) images.now)
+asked_by (commands.Assemble source) = Assemble source.now
+asked_by (commands.Show image) = Show image.now
+asked_by (commands.Optimum size numbers schedule images) = Optimum size numbers schedule.now (map (λ word. word.now) images.now)
+asked_by (commands.Curve numbers schedule images) = Curve numbers schedule.now (map (λ word. word.now) images.now)
+
+-- each number is in its range
+pub record AreAllowed (numbers : Numbers) : Type 0 where
+  pub least_frames : 64 ≤ numbers.frames
+  pub most_frames : numbers.frames ≤ 4096
+  pub least_swap : 256 ≤ numbers.swap
+  pub most_swap : numbers.swap ≤ 131072
+  pub least_limit : 1 ≤ numbers.limit
+  pub most_limit : numbers.limit ≤ 1000000
+
+-- 1 to 16 words of images, each with a name of 1 to 63 bytes, and at least one of them starts a process
+pub record AreImageWords (words : List (Bor (List ℕ))) : Type 0 where
+  pub some : 0 < length words
+  pub few : length words ≤ 16
+  pub names : All (λ word. IsShortName (name_in word.now)) words
+  pub starting : IsTrue (list_any starts (map (λ word. word.now) words))
+
+-- the numbers of a run are in their ranges, its limit is at most so many, the name of its schedule is short, and its
+-- images are few
+pub record IsFittingRun (most : ℕ) (numbers : Numbers) (schedule : Bor (List ℕ)) (images : List (Bor (List ℕ))) : Type 0 where
+  pub allowed : AreAllowed numbers
+  pub limit : numbers.limit ≤ most
+  pub named : IsShortName schedule.now
+  pub images_are : AreImageWords images
+
+-- the numbers of a command are in their ranges, its names are short, and its images few
+abbrev pub IsFitting : Command → Type 0
+IsFitting (commands.Run traced numbers schedule images) = IsFittingRun 1000000 numbers schedule (word_list images)
+IsFitting (commands.Load number) = number ≤ 9999
+IsFitting (commands.Replay transcript images) = IsShortName transcript.now × AreImageWords images.now
+IsFitting (commands.Assemble source) = IsShortName source.now
+IsFitting (commands.Show image) = IsShortName image.now × IsTrue (starts image.now)
+IsFitting (commands.Optimum size numbers schedule images) = ((1 ≤ size) × (size ≤ 4096)) × IsFittingRun 100000 numbers schedule images.now
+IsFitting (commands.Curve numbers schedule images) = IsFittingRun 100000 numbers schedule images.now

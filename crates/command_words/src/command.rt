@@ -1,0 +1,265 @@
+// The commands, and the words that ask for them.
+ghost use Rattle.std.specs.Prelude.{◌≡◌, ◌≤◌, ℕ, List, drop, map, IsSome, IfSome};
+ghost use Rattle.std.specs.Option.{option_map};
+ghost use Rattle.run_files.specs.ImageWords.{IsShortName};
+ghost use Rattle.command_words.specs.Asked.{Asked, asked_of, asked_run, asked_other, asked_load, asked_replay, asked_assemble, asked_show, asked_optimum, asked_with_run, run_numbers, Curve};
+ghost use Rattle.command_words.specs.Command.{word_list, asked_by, AreAllowed, AreImageWords, IsFitting};
+
+use crate::image_words::{ImageWords, from_place, has_trace};
+use crate::word::{is_name, read_number, starts};
+
+/// The numbers of a run (this project's profile).
+#[derive(Clone, Copy, Debug, PartialEq, Eq, Drop)]
+pub struct Numbers {
+    /// The page frames of the machine: 64 to 4,096.
+    pub frames: u32,
+    /// The blocks of 512 bytes of the swap device: 256 to 131,072.
+    pub swap: u32,
+    /// The most instructions that may run in all: 1 to 1,000,000, but at most 100,000 for `opt` and `curve`.
+    pub limit: u32,
+}
+
+/// What the words behind the program's name ask for, with the numbers and the names in them (this project's
+/// profile). A word of an image is a name, which starts a process, or one behind a `=`, which only makes the image
+/// known. All names have 1 to 63 bytes.
+#[derive(Clone, Copy, Debug, Drop)]
+pub enum Command<'a> {
+    /// `run [--trace] FRAMES SWAP LIMIT SCHED IMAGE..`: a run, whose transcript has its paging entries where it is
+    /// traced.
+    Run {
+        traced: bool,
+        numbers: Numbers,
+        schedule: &'a str,
+        images: ImageWords<'a>,
+    },
+    /// `load NUMBER`: a run that loads the machine, which is made of a number from 0 to 9,999.
+    Load {
+        number: u32,
+    },
+    /// `replay TRANSCRIPT IMAGE..`: a transcript is judged as a run of these images.
+    Replay {
+        transcript: &'a str,
+        images: &'a [&'a str],
+    },
+    /// `as SOURCE`: an image is made of a source.
+    Assemble {
+        source: &'a str,
+    },
+    /// `dis IMAGE`: the instructions of an image are listed.
+    Show {
+        image: &'a str,
+    },
+    /// `opt N FRAMES SWAP LIMIT SCHED IMAGE..`: the fewest page faults that any replacement with 1 to 4,096 frames
+    /// has on the references of a run.
+    Optimum {
+        size: u32,
+        numbers: Numbers,
+        schedule: &'a str,
+        images: &'a [&'a str],
+    },
+    /// `curve FRAMES SWAP LIMIT SCHED IMAGE..`: the page faults of least-recently-used replacement with each number
+    /// of frames, on the references of a run.
+    Curve {
+        numbers: Numbers,
+        schedule: &'a str,
+        images: &'a [&'a str],
+    },
+}
+
+/// Reads the words behind the program's name. They are one of
+///
+/// - `run [--trace] FRAMES SWAP LIMIT SCHED IMAGE..`, where `--trace` may stand at any place behind `run`
+/// - `load NUMBER`, `replay TRANSCRIPT IMAGE..`, `as SOURCE`, `dis IMAGE`
+/// - `opt N FRAMES SWAP LIMIT SCHED IMAGE..`, `curve FRAMES SWAP LIMIT SCHED IMAGE..`
+///
+/// and it is `None` where they are any others. No other word begins with `-` or is empty. A number has 1 to 8 ASCII
+/// digits, leading zeros among them: FRAMES is 64 to 4,096, SWAP 256 to 131,072, LIMIT 1 to 1,000,000 but at most
+/// 100,000 for `opt` and `curve`, N 1 to 4,096 and NUMBER 0 to 9,999. A name has 1 to 63 bytes. There are 1 to 16
+/// words of images: a name starts a process, and one behind a `=` only makes the image known; at least one starts. The
+/// image of `dis` has no `=`. It takes no memory. Source: this project's profile.
+#[tactic(auto, unfolding(crate::specs::Asked::asked_of))]
+pub fn read_words<'a>(words: &'a [&'a str]) -> Option<Command<'a>>
+    ensures exact { option_map asked_by result ≡ asked_of (map (λ word. word.now) words.now) }
+    ensures fits { IfSome result IsFitting }
+{
+    let [name, words @ ..] = words else {
+        return None;
+    };
+    if *name == "run" {
+        read_run(words)
+    } else {
+        read_other(name, words)
+    }
+}
+
+// The words behind `run`.
+#[tactic(auto, unfolding(crate::specs::Asked::asked_run))]
+fn read_run<'a>(words: &'a [&'a str]) -> Option<Command<'a>>
+    ensures exact { option_map asked_by result ≡ asked_run (map (λ word. word.now) words.now) }
+    ensures fits { IfSome result IsFitting }
+{
+    let kept = ImageWords::without_trace(words);
+    if !kept.are_plain() {
+        return None;
+    }
+    let head = RunHead::of(kept, 1_000_000)?;
+    Some(Command::Run {
+        traced: has_trace(words),
+        numbers: head.numbers,
+        schedule: head.schedule,
+        images: kept.from(4),
+    })
+}
+
+// The words behind the name of another command.
+#[tactic(auto, unfolding(crate::specs::Asked::asked_other))]
+fn read_other<'a>(name: &str, words: &'a [&'a str]) -> Option<Command<'a>>
+    ensures exact { option_map asked_by result ≡ asked_other name.now (map (λ word. word.now) words.now) }
+    ensures fits { IfSome result IsFitting }
+{
+    if !ImageWords::all(words).are_plain() {
+        return None;
+    }
+    match name {
+        "load" => read_load(words),
+        "replay" => read_replay(words),
+        "as" => read_assemble(words),
+        "dis" => read_show(words),
+        "opt" => read_optimum(words),
+        "curve" => read_curve(words),
+        _ => None,
+    }
+}
+
+#[tactic(auto, unfolding(crate::specs::Asked::asked_load))]
+fn read_load<'a>(words: &[&str]) -> Option<Command<'a>>
+    ensures exact { option_map asked_by result ≡ asked_load (map (λ word. word.now) words.now) }
+    ensures fits { IfSome result IsFitting }
+{
+    let [number] = words else {
+        return None;
+    };
+    Some(Command::Load {
+        number: read_number(number, 0, 9_999)?,
+    })
+}
+
+#[tactic(auto, unfolding(crate::specs::Asked::asked_replay))]
+fn read_replay<'a>(words: &'a [&'a str]) -> Option<Command<'a>>
+    ensures exact { option_map asked_by result ≡ asked_replay (map (λ word. word.now) words.now) }
+    ensures fits { IfSome result IsFitting }
+{
+    let [transcript, images @ ..] = words else {
+        return None;
+    };
+    if is_name(transcript) && ImageWords::all(images).are_image_words() {
+        Some(Command::Replay { transcript, images })
+    } else {
+        None
+    }
+}
+
+#[tactic(auto, unfolding(crate::specs::Asked::asked_assemble))]
+fn read_assemble<'a>(words: &[&'a str]) -> Option<Command<'a>>
+    ensures exact { option_map asked_by result ≡ asked_assemble (map (λ word. word.now) words.now) }
+    ensures fits { IfSome result IsFitting }
+{
+    let [source] = words else {
+        return None;
+    };
+    if is_name(source) {
+        Some(Command::Assemble { source })
+    } else {
+        None
+    }
+}
+
+#[tactic(auto, unfolding(crate::specs::Asked::asked_show))]
+fn read_show<'a>(words: &[&'a str]) -> Option<Command<'a>>
+    ensures exact { option_map asked_by result ≡ asked_show (map (λ word. word.now) words.now) }
+    ensures fits { IfSome result IsFitting }
+{
+    let [image] = words else {
+        return None;
+    };
+    if is_name(image) && starts(image) {
+        Some(Command::Show { image })
+    } else {
+        None
+    }
+}
+
+#[tactic(auto, unfolding(crate::specs::Asked::asked_optimum))]
+fn read_optimum<'a>(words: &'a [&'a str]) -> Option<Command<'a>>
+    ensures exact { option_map asked_by result ≡ asked_optimum (map (λ word. word.now) words.now) }
+    ensures fits { IfSome result IsFitting }
+{
+    let [size, words @ ..] = words else {
+        return None;
+    };
+    let size = read_number(size, 1, 4_096)?;
+    let head = RunHead::of(ImageWords::all(words), 100_000)?;
+    Some(Command::Optimum {
+        size,
+        numbers: head.numbers,
+        schedule: head.schedule,
+        images: from_place(words, 4),
+    })
+}
+
+fn read_curve<'a>(words: &'a [&'a str]) -> Option<Command<'a>>
+    ensures exact { option_map asked_by result ≡ asked_with_run 100000 Curve (map (λ word. word.now) words.now) }
+    ensures fits { IfSome result IsFitting }
+{
+    let head = RunHead::of(ImageWords::all(words), 100_000)?;
+    Some(Command::Curve {
+        numbers: head.numbers,
+        schedule: head.schedule,
+        images: from_place(words, 4),
+    })
+}
+
+#[tactic(auto, unfolding(crate::specs::Asked::run_numbers, crate::specs::Asked::all_numbers))]
+fn read_numbers(frames: &str, swap: &str, limit: &str, most: u32) -> Option<Numbers>
+    requires { most ≤ 1000000 }
+    ensures exact { result ≡ run_numbers most frames.now swap.now limit.now }
+    ensures allowed { IfSome result AreAllowed }
+    ensures limit { IfSome result (λ numbers. numbers.limit ≤ most) }
+{
+    Some(Numbers {
+        frames: read_number(frames, 64, 4_096)?,
+        swap: read_number(swap, 256, 131_072)?,
+        limit: read_number(limit, 1, most)?,
+    })
+}
+
+// The words of a run before those of its images.
+#[derive(Clone, Copy, Drop)]
+struct RunHead<'a> {
+    numbers: Numbers,
+    schedule: &'a str,
+}
+
+impl<'a> RunHead<'a> {
+    // Reads `FRAMES SWAP LIMIT SCHED IMAGE..`, with a limit up to `most`.
+    fn of(words: ImageWords<'a>, most: u32) -> Option<Self>
+        requires { most ≤ 1000000 }
+        ensures exact { (command : Numbers → List ℕ → List (List ℕ) → Asked)
+            → option_map (λ head. command head.numbers head.schedule.now (drop 4 (map (λ word. word.now) (word_list words.entry)))) result
+            ≡ asked_with_run most command (map (λ word. word.now) (word_list words.entry)) }
+        ensures allowed { IfSome result (λ head. AreAllowed head.numbers) }
+        ensures limit { IfSome result (λ head. head.numbers.limit ≤ most) }
+        ensures named { IfSome result (λ head. IsShortName head.schedule.now) }
+        ensures images { IsSome result → AreImageWords (drop 4 (word_list words.entry)) }
+    {
+        let schedule = words.word(3);
+        if is_name(schedule) && words.from(4).are_image_words() {
+            Some(RunHead {
+                numbers: read_numbers(words.word(0), words.word(1), words.word(2), most)?,
+                schedule,
+            })
+        } else {
+            None
+        }
+    }
+}
