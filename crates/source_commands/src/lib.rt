@@ -9,6 +9,7 @@ mod text;
 
 pub use laws::programs_are_images;
 pub use listing::list_file;
+pub use program_file::file_of;
 pub use source::assemble_file;
 
 #[cfg(test)]
