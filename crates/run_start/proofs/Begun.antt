@@ -1,5 +1,5 @@
 -- What is so of a machine in which first processes begin.
-use Rattle.std.proofs.Common.{◌≡◌, ℕ, ◌+◌, ◌/◌, ◌<◌, ◌≤◌, List, [], ◌∷◌, ◌++◌, length, sym, ap, ◌∙◌, subst, arith}
+use Rattle.std.proofs.Common.{◌≡◌, inl, inr, ℕ, ◌+◌, ◌/◌, ◌<◌, ◌≤◌, List, [], ◌∷◌, ◌++◌, length, sym, ap, ◌∙◌, subst, arith}
 use Rattle.std.specs.Prelude.{None}
 use Rattle.std.proofs.lemmas.List.{length-replicate}
 use Rattle.vm_facts.specs.declared.page.Page.{Page}
@@ -20,7 +20,7 @@ use Rattle.ready_laws.proofs.Lines.{begin_continues}
 use Rattle.run_start.specs.Starting.{IsNew}
 use Rattle.run_start.specs.declared.starting.Started.{Started}
 use Rattle.run_start.specs.declared.starting.Started.TheVariants as starteds
-use Rattle.run_start.specs.Beginning.{BeginsAll, Begins}
+use Rattle.run_start.specs.Beginning.{BeginsAll, BeginsUntil, Begins}
 use Rattle.run_start.specs.Filling.{AreStarts}
 
 -- a machine in which a first process may begin
@@ -79,6 +79,21 @@ room_in old new n l on =
     let r = roomy old.params.frames l in
     let e : old.params.frames ≡ length new.kernel.place.holds = sym (on.frames ∙ new_frames old n) in
     record { quarter = subst (λ (c : ℕ). 0 < c / 4) e r.0; rest = subst (λ (c : ℕ). 0 + c / 4 < c) e r.1 }
+
+-- where one finds no place the machine has its sizes and its images still
+until_kept : (pid : ℕ) (ns : List ℕ) (old new : Standing) → BeginsUntil pid ns old new → (new.params ≡ old.params) × (new.images ≡ old.images)
+until_kept pid [] old new h = absurd h
+until_kept pid (n ∷ ns) old new h = elim h [
+  | inl x ↦ (ap (λ (m : Standing). m.params) x.0, ap (λ (m : Standing). m.images) x.0)
+  | inr x ↦
+      let one : StartedFirst old x.0 n = x.1 in
+      let more = until_kept pid ns x.0 new x.2 in
+      (more.0 ∙ ap (λ (m : Standing). m.params) one.step, more.1 ∙ ap (λ (m : Standing). m.images) one.step)
+]
+
+pub space_kept : (started : Started) (pid : ℕ) (numbers : List ℕ) (old new : Standing) → started ≡ starteds.NoSpace pid → Begins started numbers old new
+    → (new.params ≡ old.params) × (new.images ≡ old.images)
+space_kept started pid numbers old new e b = until_kept pid numbers old new (subst (λ (s : Started). Begins s numbers old new) e b)
 
 -- All of it.
 

@@ -1,5 +1,5 @@
 -- The fills of the start are next units of the run.
-use Rattle.std.proofs.Common.{◌≡◌, true, inl, inr, ℕ, ◌≤◌, List, [], ◌∷◌, replicate, Option, Some, refl, sym, ap, ◌∙◌, subst, arith}
+use Rattle.std.proofs.Common.{◌≡◌, true, inl, inr, ℕ, ◌*◌, ◌≤◌, List, [], ◌∷◌, length, replicate, Option, Some, refl, sym, ap, ◌∙◌, subst, arith}
 use Rattle.std.proofs.lemmas.List.{length-replicate}
 use Rattle.vm_facts.specs.declared.entry.Entry.TheVariants as entries
 use Rattle.vm_facts.specs.declared.page.Page.{Page}
@@ -93,6 +93,14 @@ fills_stop (CopyOf q parent ∷ ds) A s old new holds image j stop at images due
 
 -- The whole start.
 
+-- the machine at the start stands there
+pub stands_at_start : (A : Inputs) (hs : Holdings) (image : List ℕ) → CanRun A hs → 512 * A.swap_blocks ≤ length image → At A (start A hs) (machine_at_start A hs) image
+stands_at_start A hs image can room = record {
+  fit = can.images;
+  run = run_start A hs can.images can.first can.frames can.pieces;
+  stands = start_keeps A hs (replicate A.frames zeros) image can (length-replicate {A = List ℕ} A.frames zeros) room;
+}
+
 module _ (A : Inputs) (numbers : List ℕ) (old begun : Standing) (holds : Option (List NamedFile)) (image : List ℕ) (is_new : IsNew old) (big : 64 ≤ old.params.frames)
     (told : IsTold A old numbers holds image) (began : BeginsAll numbers old begun) (on : RunsOn old begun 0) where
   abbrev hs : Holdings
@@ -110,11 +118,7 @@ module _ (A : Inputs) (numbers : List ℕ) (old begun : Standing) (holds : Optio
   }
 
   at_start : At A (start A begun.kernel.holdings) (machine_at_start A begun.kernel.holdings) image
-  at_start = record {
-    fit = told.fit;
-    run = run_start A hs can.images can.first can.frames can.pieces;
-    stands = start_keeps A hs (replicate A.frames zeros) image can (length-replicate {A = List ℕ} A.frames zeros) told.room;
-  }
+  at_start = stands_at_start A hs image can told.room
 
   begun_at_start : At A (start A begun.kernel.holdings) begun.kernel image
   begun_at_start = subst (λ (k : Kernel). At A (start A hs) k image) (sym is_begun.kernel) at_start

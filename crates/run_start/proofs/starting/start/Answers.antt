@@ -1,7 +1,7 @@
 use Rattle.std.proofs.Common.{refl}
 use Rattle.std.proofs.lemmas.Result.{err_from_is_err_and}
 use Rattle.proc_calls.proofs.CopiedPages.{area_next, files_next}
-use Rattle.run_start.proofs.Begun.{AllBegan, all_began, room_in, never_both}
+use Rattle.run_start.proofs.Begun.{AllBegan, all_began, room_in, never_both, space_kept}
 use Rattle.run_start.proofs.Filled.{filling_stopped}
 use Rattle.run_start.proofs.Going.{goes_on}
 use Rattle.run_start.proofs.Led.{start_leads, start_stops, begin_stops}
@@ -84,3 +84,18 @@ returns-in-NoSpace-clause-none_made g c pid e = c.begin_all.ensures.journal
 
 pub returns-in_ok-fill_due-in-Ok-clause-none_made : goal.returns-in_ok-fill_due-in-Ok-clause-none_made
 returns-in_ok-fill_due-in-Ok-clause-none_made g c pid e = never_both c.in_ok-started.started pid c.in-Ok.is (cc)
+
+pub returns-in_ok-fill_due-in-Ok-clause-untouched : goal.returns-in_ok-fill_due-in-Ok-clause-untouched
+returns-in_ok-fill_due-in-Ok-clause-untouched g c pid e = never_both c.in_ok-started.started pid c.in-Ok.is (cc)
+
+pub returns-in-NoSpace-clause-kept_params : goal.returns-in-NoSpace-clause-kept_params
+returns-in-NoSpace-clause-kept_params g c pid e = (space_kept c.in_ok-started.started pid c.args.first.now c.args.m.now c.begin_all.new.m (cc) c.in_ok-started.ensures.began).0
+
+pub returns-in_ok-fill_due-in-Ok-clause-kept_params : goal.returns-in_ok-fill_due-in-Ok-clause-kept_params
+returns-in_ok-fill_due-in-Ok-clause-kept_params g c pid e = never_both c.in_ok-started.started pid c.in-Ok.is (cc)
+
+pub returns-in-NoSpace-clause-kept_images : goal.returns-in-NoSpace-clause-kept_images
+returns-in-NoSpace-clause-kept_images g c pid e = (space_kept c.in_ok-started.started pid c.args.first.now c.args.m.now c.begin_all.new.m (cc) c.in_ok-started.ensures.began).1
+
+pub returns-in_ok-fill_due-in-Ok-clause-kept_images : goal.returns-in_ok-fill_due-in-Ok-clause-kept_images
+returns-in_ok-fill_due-in-Ok-clause-kept_images g c pid e = never_both c.in_ok-started.started pid c.in-Ok.is (cc)

@@ -1,0 +1,64 @@
+-- From the start of a run.
+use Rattle.std.proofs.Common.{◌≡◌, ℕ, ◌+◌, ◌≤◌, List, [], ◌∷◌, ◌++◌, length, Option, Some, None, refl, sym, ap, ◌∙◌, arith}
+use Rattle.vm_facts.specs.declared.entry.Entry.{Entry}
+use Rattle.swap_book.specs.Holdings.{Holdings}
+use Rattle.flat_state.specs.Flat.{NamedImage, Inputs, image_numbered, start_if, start_processes}
+use Rattle.flat_state.specs.Journal.{appended}
+use Rattle.kernel_model.specs.Kernel.{Kernel}
+use Rattle.run_model.specs.State.{State, start}
+use Rattle.run_model.specs.Lawful.{Follows, IsLawful}
+use Rattle.run_model.specs.Swapped.{swapped_from, swapped}
+use Rattle.run_model.proofs.After.{units_journal}
+use Rattle.run_laws.specs.Machine.{StandsAt}
+use Rattle.run_laws.specs.Running.{CanRun}
+use Rattle.run_laws.proofs.Lawful.{follows_state}
+use Rattle.run_laws.proofs.Machines.{makes_follows}
+use Rattle.run_laws.proofs.SwapImages.{images_same, swapped_same}
+use Rattle.run_laws.proofs.Wholes.{start_run, reached_lawful}
+use Rattle.run_units.specs.Leads.{Leads}
+use Rattle.run_units.specs.Serving.{At}
+use Rattle.journal_laws.specs.Accounts.{Account}
+use Rattle.journal_laws.specs.Economy.{Economy}
+use Rattle.journal_laws.proofs.Accounts.{units_accounted}
+use Rattle.journal_laws.proofs.Stretches.{units_economical}
+
+-- Machines.
+
+pub leads_follow : (A : Inputs) (s t : State) (k l : Kernel) (image : List ℕ) (us : List Entry) (j : Option (List ℕ)) → Leads A s k image us t l j → Follows A s us t
+leads_follow A s t k l image us j a = makes_follows A us s t k l image a.behind a.makes
+
+pub leads_image : (A : Inputs) (s t : State) (k l : Kernel) (image : List ℕ) (us : List Entry) (j : Option (List ℕ)) → At A s k image → (a : Leads A s k image us t l j) → a.behind ≡ swapped_from A s us image
+leads_image A s t k l image us j at a = images_same A us s t k l image a.behind at.fit at.run at.stands a.makes
+
+pub leads_told : (A : Inputs) (s t : State) (k l : Kernel) (image : List ℕ) (us : List Entry) (j : Option (List ℕ)) → At A s k image → Leads A s k image us t l j → j ≡ Some (swapped_from A s us image)
+leads_told A s t k l image us j at a = a.told ∙ ap (λ (x : List ℕ). Some x) (leads_image A s t k l image us j at a)
+
+-- The start.
+
+-- there are no more processes at the start than were asked for
+pub few_started : (images : List NamedImage) (pid : ℕ) (first : List ℕ) → length (start_processes images pid first) ≤ length first
+few_started images pid [] = omega arith
+few_started images pid (n ∷ ns) = go (image_numbered images n) (few_started images (pid + 1) ns)
+  where
+    go : (o : Option NamedImage) → length (start_processes images (pid + 1) ns) ≤ length ns → length (start_if pid n o ++ start_processes images (pid + 1) ns) ≤ length (n ∷ ns)
+    go None h = omega arith
+    go (Some named) h = omega arith
+
+module _ (A : Inputs) (hs : Holdings) (us : List Entry) (t : State) (can : CanRun A hs) (f : Follows A (start A hs) us t) where
+  pub journal_lawful : (t.journal ≡ appended [] us) × IsLawful A (appended [] us) t
+  journal_lawful = (
+    ap (λ (x : State). x.journal) (sym (follows_state A us (start A hs) t f)) ∙ units_journal A (start A hs) us,
+    reached_lawful A hs (appended [] us) t can (record { holdings = hs; found = can.pieces; units = us; follows = f; joined = refl }),
+  )
+
+  pub journal_accounted : Account A (start A hs) us
+  journal_accounted = units_accounted A (start A hs) t us can.images (start_run A hs can) f
+
+  pub journal_economical : length A.first ≤ 64 → Economy A (start A hs) us
+  journal_economical l = units_economical A (start A hs) t us can.images (start_run A hs can) f (let few = few_started A.images 1 A.first in omega (arith, few, l))
+
+pub journal_image : (A : Inputs) (hs : Holdings) (t : State) (k l : Kernel) (image : List ℕ) (us : List Entry) (j : Option (List ℕ)) → CanRun A hs → StandsAt A (start A hs) k image
+    → Leads A (start A hs) k image us t l j → j ≡ Some (swapped A (appended [] us) image)
+journal_image A hs t k l image us j can at a =
+    leads_told A (start A hs) t k l image us j (record { fit = can.images; run = start_run A hs can; stands = at }) a
+    ∙ ap (λ (x : List ℕ). Some x) (swapped_same A hs us (appended [] us) t image can (leads_follow A (start A hs) t k l image us j a) refl)

@@ -1,0 +1,6 @@
+pub mod Owners
+pub mod Refusals
+pub mod Accounts
+pub mod Parts
+pub mod Stretches
+pub mod Journals
