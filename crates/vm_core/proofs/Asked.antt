@@ -8,7 +8,7 @@ use Rattle.io_edge.specs.FileHolding.{NamedFile}
 use Rattle.flat_state.specs.Flat.{Inputs}
 use Rattle.page_model.specs.Placement.{Placement, Transfer}
 use Rattle.page_model.specs.Swapper.{swap_choice}
-use Rattle.kernel_model.specs.Kernel.{Kernel, note_step, image_after_of}
+use Rattle.kernel_model.specs.Kernel.{note_step, image_after_of}
 use Rattle.machine_state.specs.Machine.{Standing}
 use Rattle.machine_state.specs.Conditions.{HasStopped}
 use Rattle.machine_state.specs.Done.{sources, IsDone, ImageAfter, StopsFor, SwapAfter, StopsEnding}
@@ -16,7 +16,6 @@ use Rattle.clock_hands.specs.Moved.{Moved, StopsMoving}
 use Rattle.swapper.specs.declared.Turned.{Turned}
 use Rattle.swapper.specs.Runners.{runners_of, choice_of}
 use Rattle.swapper.specs.Turns.{Turns, StopsTurning}
-use Rattle.holder_laws.specs.Holders.{HoldersStand}
 use Rattle.holder_laws.proofs.Kernels.{is_done_keeps}
 use Rattle.holder_laws.proofs.Pages.{moved_keeps, turn_keeps}
 use Rattle.ready_laws.proofs.Transfers.{done_continues}

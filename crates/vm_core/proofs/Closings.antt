@@ -1,6 +1,5 @@
 -- Turns in a row, up to the end of the closing phase.
-use Rattle.std.proofs.Common.{◌≡◌, ◌⊎◌, inl, inr, ℕ, ◌+◌, ◌<◌, ◌≤◌, nat_lt, ◌&&◌, Bool, true, false, List, [], ◌∷◌, ◌++◌, length, Option, Some, None, refl, sym, ap, ◌∙◌, subst, arith}
-use Rattle.std.proofs.lemmas.Bool.{ltb-true, ltb-false}
+use Rattle.std.proofs.Common.{◌≡◌, ◌⊎◌, inl, inr, ℕ, ◌+◌, ◌<◌, ◌≤◌, nat_lt, Bool, true, false, List, [], ◌∷◌, ◌++◌, length, Option, Some, None, refl, sym, ap, ◌∙◌, subst, arith}
 use Rattle.std.proofs.lemmas.Bool.Decides.{nat_tests}
 use Rattle.std.proofs.lemmas.Option.{same_Some}
 use Rattle.vm_facts.specs.declared.entry.Entry.{Entry}
@@ -10,7 +9,6 @@ use Rattle.io_edge.specs.FileHolding.{NamedFile}
 use Rattle.flat_state.specs.Flat.{Inputs}
 use Rattle.flat_state.specs.Journal.{counted, IsUnit}
 use Rattle.page_model.specs.Placement.{Due}
-use Rattle.kernel_model.specs.Kernel.{Kernel}
 use Rattle.machine_state.specs.Machine.{Standing}
 use Rattle.run_model.specs.State.{State}
 use Rattle.run_model.specs.After.{after}
@@ -23,12 +21,12 @@ use Rattle.economy_laws.specs.Stretch.{turns_of, counts, NoneCounts}
 use Rattle.economy_laws.proofs.Idle.{count_most, few_turns}
 use Rattle.run_units.specs.Leads.{Leads}
 use Rattle.run_units.proofs.Units.{none_leads, both_lead}
-use Rattle.step_units.specs.Stepped.{StopLeads}
 use Rattle.step_units.specs.Lines.{IsOver, TurnDue}
 use Rattle.proc_run.specs.Choosing.{next_turned as chosen_next}
 use Rattle.proc_run.proofs.Ready.{turned_same}
 use Rattle.vm_core.specs.Cores.{Underway, StandsIn, CoreAt}
-use Rattle.vm_core.specs.Closing.{TurnHad, HasTurn, StopsTurn, IdleSince, Closing, LinesAre, ClosesTo, Closed, Closes, StopsClosing, ClosesRun, StopsClosingRun, CountsTurn, EndsPhase}
+use Rattle.vm_core.specs.Closing.{TurnHad, HasTurn, StopsTurn, IdleSince, LinesAre, ClosesTo, Closes, StopsClosing, ClosesRun, StopsClosingRun, CountsTurn, EndsPhase}
+use Rattle.vm_core.proofs.Accounts.{leads_accounted, leads_economical, leads_swapped, stop_accounted}
 use Rattle.vm_core.proofs.Standing.{leads_to_stop}
 
 -- Units that count nothing.
@@ -192,7 +190,17 @@ closing_ends old new holds i j counted count last idle f e A s image at =
       | inr (inl l) ↦ absurd (let few = few_idle A c.state new holds j c.behind count idle c.stands c.since in omega arith)
       | inr (inr n) ↦ inr (ap (next_turned c.state.point.flat) c.turned ∙ sym (turned_same new.kernel c.state.point.flat last c.stands.machine.at.stands.keeps.coupled.tables) ∙ n)
     ] in
-    record { units = c.units; state = c.state; behind = c.behind; leads = c.leads; stands = c.stands; none = none_comes A c.state c.over c.lines why }
+    record {
+      units = c.units;
+      state = c.state;
+      behind = c.behind;
+      leads = c.leads;
+      stands = c.stands;
+      none = none_comes A c.state c.over c.lines why;
+      account = leads_accounted A s c.state old.kernel new.kernel image c.units j at.stands.machine.at c.leads;
+      economy = leads_economical A s c.state old.kernel new.kernel image c.units j at.stands.machine.at c.leads at.stands.crowd;
+      swapped = leads_swapped A s c.state old.kernel new.kernel image c.units j at.stands.machine.at c.leads c.behind c.stands.told;
+    }
 
 -- Of a run.
 
@@ -204,4 +212,5 @@ pub run_closes : (old new : Underway) (holds : Option (List NamedFile)) (i j : O
 run_closes old new holds i j f A s image at lines = f A s image (lines_are A s old holds i image at lines)
 
 pub run_stops : (old new : Underway) (holds : Option (List NamedFile)) (i j : Option (List ℕ)) (stop : Stop) → StopsClosing old.machine new.machine old.counted holds i j stop → StopsClosingRun old new holds i j stop
-run_stops old new holds i j stop f A s image at lines = f A s image (lines_are A s old holds i image at lines)
+run_stops old new holds i j stop f A s image at lines =
+    stop_accounted A s old.machine.kernel image stop new.machine j at.stands.machine.at at.stands.crowd (f A s image (lines_are A s old holds i image at lines))

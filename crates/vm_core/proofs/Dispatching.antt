@@ -1,15 +1,11 @@
 -- Dispatches and turns, by what a process that runs leads to.
-use Rattle.std.proofs.Common.{◌≡◌, ℕ, ◌+◌, Bool, true, false, List, Option, Some, refl, sym, ap, ◌∙◌, subst}
+use Rattle.std.proofs.Common.{◌≡◌, ℕ, ◌+◌, true, false, List, Option, sym, ap, ◌∙◌}
 use Rattle.std.specs.Prelude.{min}
 use Rattle.vm_facts.specs.declared.event.Event.TheVariants as events
-use Rattle.vm_facts.specs.declared.params.Params.{Params}
 use Rattle.vm_facts.specs.declared.stop.Stop.{Stop}
 use Rattle.io_edge.specs.FileHolding.{NamedFile}
 use Rattle.flat_state.specs.Flat.{Inputs}
-use Rattle.page_model.specs.Swapper.{is_out}
 use Rattle.machine_state.specs.Machine.{Standing}
-use Rattle.run_model.specs.declared.mark.Mark.{Mark}
-use Rattle.run_model.specs.declared.mark.Mark.TheVariants as marks
 use Rattle.run_model.specs.State.{State}
 use Rattle.run_model.specs.Next.{turn_instructions, last_turned}
 use Rattle.step_units.proofs.Residing.{closing_stays_in}

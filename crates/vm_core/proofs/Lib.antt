@@ -1,4 +1,5 @@
 pub mod Pieces
+pub mod Accounts
 pub mod Steadying
 pub mod Noting
 pub mod Asked
@@ -9,3 +10,6 @@ pub mod Outs
 pub mod Closings
 pub mod Dispatching
 pub mod Starts
+pub mod Going
+pub mod Journals
+pub mod Ending

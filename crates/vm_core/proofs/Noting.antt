@@ -1,5 +1,5 @@
 -- Calls that stop before an entry of the journal, and calls that end with the stop of another.
-use Rattle.std.proofs.Common.{◌≡◌, ◌⊎◌, inl, inr, ◌≤◌, length, Result, Ok, Err, refl, sym, ap, ◌∙◌, subst}
+use Rattle.std.proofs.Common.{◌≡◌, ◌⊎◌, inl, inr, ◌≤◌, length, Result, Ok, Err, sym, ap, subst}
 use Rattle.std.specs.Prelude.{◌↔◌, IfErr, IfOk, OnErr, OnOk}
 use Rattle.std.specs.Result.{IsErrAnd}
 use Rattle.std.proofs.lemmas.Result.{err_from_is_err_and}
@@ -33,7 +33,11 @@ pub stops_weaker : {T : Type 0} (r : Result T Stop) (P Q : Stop → Type 0) → 
 stops_weaker (Ok x) P Q f h = tt
 stops_weaker (Err stop) P Q f h = f stop h
 
--- what follows from two facts of a call that did not stop
+-- what follows from a fact of a call that did not stop, and from two
+pub ok_so : {T : Type 0} (r : Result T Stop) (P Q : Type 0) → (P → Q) → OnOk r P → OnOk r Q
+ok_so (Ok x) P Q f p = f p
+ok_so (Err stop) P Q f p = tt
+
 pub ok_both : {T : Type 0} (r : Result T Stop) (P Q R : Type 0) → (P → Q → R) → OnOk r P → OnOk r Q → OnOk r R
 ok_both (Ok x) P Q R f p q = f p q
 ok_both (Err stop) P Q R f p q = tt

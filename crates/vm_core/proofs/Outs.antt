@@ -1,17 +1,16 @@
 -- Whether a process is out, by its record.
-use Rattle.std.proofs.Common.{◌≡◌, ℕ, ◌+◌, ◌-◌, nat_lt, ◌&&◌, Bool, true, false, List, Option, Some, None, refl, sym, ap, ◌∙◌, subst}
+use Rattle.std.proofs.Common.{◌≡◌, ℕ, ◌+◌, ◌-◌, nat_lt, ◌&&◌, true, false, List, Option, Some, None, refl, sym, ap, ◌∙◌}
 use Rattle.std.proofs.lemmas.Bool.{and_parts}
 use Rattle.proc_table.specs.declared.process.Proc.{Proc as Record}
 use Rattle.proc_table.specs.declared.process.Life.{Life as RecordLife}
 use Rattle.proc_table.specs.declared.process.Life.TheVariants as lives
 use Rattle.proc_table.specs.Records.{find}
 use Rattle.io_edge.specs.FileHolding.{NamedFile}
-use Rattle.flat_state.specs.Flat.{Inputs, FlatState, Process, can_step}
-use Rattle.flat_state.specs.Space.{Space}
+use Rattle.flat_state.specs.Flat.{Inputs, FlatState, can_step}
 use Rattle.page_model.specs.Pages.{numbered}
 use Rattle.page_model.specs.Placement.{Placement}
 use Rattle.page_model.specs.Swapper.{is_out}
-use Rattle.kernel_model.specs.Kernel.{Kernel, Life, New, HoldsSpace, Proc, life_of}
+use Rattle.kernel_model.specs.Kernel.{Kernel, New, HoldsSpace, Proc, life_of}
 use Rattle.kernel_model.specs.ChangeStep.{life_of_proc}
 use Rattle.kernel_model.specs.Coupled.{Outline, SameTables}
 use Rattle.kernel_laws.proofs.Machine.Swaps.{found_at}
@@ -23,7 +22,7 @@ use Rattle.machine_state.proofs.Listed.{process_is}
 use Rattle.machine_state.proofs.Records.{found_pid}
 use Rattle.run_laws.proofs.Acts.{Stepper, stepper}
 use Rattle.run_model.specs.State.{State}
-use Rattle.run_model.specs.Next.{goes_on, turn_instructions}
+use Rattle.run_model.specs.Next.{turn_instructions}
 use Rattle.swapper.proofs.Numbers.{placed}
 use Rattle.vm_core.specs.Closing.{TurnAt}
 

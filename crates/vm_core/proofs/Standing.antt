@@ -1,5 +1,5 @@
 -- Where a machine stands behind next units.
-use Rattle.std.proofs.Common.{◌≡◌, ℕ, ◌+◌, ◌<◌, ◌≤◌, ◌^◌, List, ◌++◌, length, Option, Some, refl, sym, ap, ◌∙◌, subst, arith}
+use Rattle.std.proofs.Common.{◌≡◌, ℕ, ◌+◌, ◌≤◌, List, ◌++◌, Option, Some, sym, ap, ◌∙◌, subst, arith}
 use Rattle.std.proofs.lemmas.Option.{same_Some}
 use Rattle.vm_facts.specs.declared.entry.Entry.{Entry}
 use Rattle.vm_facts.specs.declared.params.Params.{Params}
@@ -16,7 +16,6 @@ use Rattle.run_laws.proofs.Machines.{makes_follows}
 use Rattle.economy_laws.proofs.Idle.{many_on}
 use Rattle.run_units.specs.Leads.{Leads}
 use Rattle.run_units.proofs.Units.{both_lead, leads_at}
-use Rattle.step_units.specs.Machines.{MachineAt}
 use Rattle.step_units.specs.Stepped.{StopLeads}
 use Rattle.step_units.proofs.Longwords.{longwords_stay}
 use Rattle.vm_core.specs.Cores.{InputsOf, StandsIn}

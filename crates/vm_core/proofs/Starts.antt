@@ -1,32 +1,43 @@
 -- The start of a run, by that of its machine.
-use Rattle.std.proofs.Common.{◌≡◌, ℕ, ◌+◌, ◌≤◌, List, [], ◌∷◌, ◌++◌, length, Option, Some, None, sym, ap, ◌∙◌, subst, arith}
+use Rattle.std.proofs.Common.{◌≡◌, inl, inr, ℕ, ◌≤◌, List, length, Option, Some, Result, sym, ap, ◌∙◌, subst, arith}
+use Rattle.std.specs.Prelude.{IfErr}
+use Rattle.vm_facts.specs.declared.stop.Stop.{Stop}
 use Rattle.io_edge.specs.FileHolding.{NamedFile}
-use Rattle.flat_state.specs.Flat.{NamedImage, Inputs, image_numbered, start_if, start_processes}
+use Rattle.swap_book.specs.Holdings.{Holdings}
+use Rattle.flat_state.specs.Flat.{Inputs}
 use Rattle.flat_model.specs.Run.{Point}
 use Rattle.machine_state.specs.Machine.{Standing}
 use Rattle.register_laws.specs.Longwords.{AllFit}
 use Rattle.register_laws.proofs.Registers.{start_regs_are}
+use Rattle.run_model.specs.State.{start}
 use Rattle.run_model.specs.Next.{under, last_turned}
 use Rattle.run_units.specs.Acting.{IsBetween}
+use Rattle.run_units.specs.Serving.{At}
 use Rattle.run_start.specs.Starting.{HasStarted}
-use Rattle.run_start.specs.Leading.{IsTold, StartLeads}
+use Rattle.run_start.specs.Leading.{IsTold, machine_at_start, StartLeads, StartStops}
+use Rattle.run_start.proofs.Led.{stands_at_start}
+use Rattle.run_start.specs.declared.starting.Started.{Started}
+use Rattle.journal_laws.proofs.Journals.{few_started}
 use Rattle.vm_core.specs.Cores.{Underway, GoesOn, InputsOf, StandsIn}
-use Rattle.vm_core.specs.Starting.{CoreStarted, StartsRun}
+use Rattle.vm_core.specs.Starting.{CoreStarted, StartsRun, StopsStartingRun}
+use Rattle.vm_core.proofs.Accounts.{leads_accounted, leads_economical, leads_swapped, stop_accounted}
+use Rattle.vm_core.proofs.Noting.{stops_weaker}
 use Rattle.vm_core.proofs.Standing.{inputs_on}
 
--- there are no more processes at the start than were asked for
-few_started : (images : List NamedImage) (pid : ℕ) (first : List ℕ) → length (start_processes images pid first) ≤ length first
-few_started images pid [] = omega arith
-few_started images pid (n ∷ ns) = go (image_numbered images n) (few_started images (pid + 1) ns)
-  where
-    go : (o : Option NamedImage) → length (start_processes images (pid + 1) ns) ≤ length ns → length (start_if pid n o ++ start_processes images (pid + 1) ns) ≤ length (n ∷ ns)
-    go None h = omega arith
-    go (Some named) h = omega arith
+-- no more processes start than were asked for
+start_crowd : (A : Inputs) (hs : Holdings) (numbers : List ℕ) → A.first ≡ numbers → length numbers ≤ 16 → length (start A hs).point.flat.processes ≤ 64
+start_crowd A hs numbers e few =
+    let most = few_started A.images 1 A.first in
+    let less : length A.first ≤ 16 = subst (λ (ns : List ℕ). length ns ≤ 16) (sym e) few in
+    omega (arith, most, less)
 
 module _ (A : Inputs) (old new : Underway) (numbers : List ℕ) (holds : Option (List NamedFile)) (image : List ℕ) (j : Option (List ℕ)) (few : length numbers ≤ 16) (told : IsTold A old.machine numbers holds image)
     (inputs : InputsOf A old.machine) (on : HasStarted old.machine new.machine) (none : new.counted ≡ 0) (l : StartLeads A new.machine holds image j) where
-  first_few : length A.first ≤ 16
-  first_few = subst (λ (ns : List ℕ). length ns ≤ 16) (sym told.starts.first) few
+  crowd : length (start A l.holdings).point.flat.processes ≤ 64
+  crowd = start_crowd A l.holdings numbers told.starts.first few
+
+  at_start : At A (start A l.holdings) (machine_at_start A l.holdings) image
+  at_start = stands_at_start A l.holdings image l.can told.room
 
   stands : StandsIn A l.state new.machine holds j l.leads.behind new.counted
   stands = record {
@@ -37,7 +48,7 @@ module _ (A : Inputs) (old new : Underway) (numbers : List ℕ) (holds : Option 
       fit = subst (λ (p : Point). AllFit p.flat.processes) (sym l.same.point) (start_regs_are A inputs.images);
       next = let e = ap (λ (p : Point). p.flat.next_pid) l.same.point in omega (arith, e);
     };
-    crowd = subst (λ (p : Point). length p.flat.processes ≤ 64) (sym l.same.point) (let most = few_started A.images 1 A.first in let less = first_few in omega (arith, most, less));
+    crowd = subst (λ (p : Point). length p.flat.processes ≤ 64) (sym l.same.point) crowd;
     count = l.same.count ∙ sym none;
   }
 
@@ -59,11 +70,32 @@ module _ (A : Inputs) (old new : Underway) (numbers : List ℕ) (holds : Option 
       };
       unturned = ap last_turned l.same.mark;
     };
+    account = leads_accounted A (start A l.holdings) l.state (machine_at_start A l.holdings) new.machine.kernel image l.units j at_start l.leads;
+    economy = leads_economical A (start A l.holdings) l.state (machine_at_start A l.holdings) new.machine.kernel image l.units j at_start l.leads crowd;
+    swapped = leads_swapped A (start A l.holdings) l.state (machine_at_start A l.holdings) new.machine.kernel image l.units j at_start l.leads l.leads.behind l.leads.told;
   }
 
 pub starts_run : (old new : Underway) (numbers : List ℕ) (holds : Option (List NamedFile)) (i j : Option (List ℕ)) → length numbers ≤ 16 → new.counted ≡ 0 → HasStarted old.machine new.machine
     → ((A : Inputs) (image : List ℕ) → IsTold A old.machine numbers holds image → i ≡ Some image → StartLeads A new.machine holds image j) → StartsRun old new numbers holds i j
 starts_run old new numbers holds i j few none on f A image told inputs e = core_started A old new numbers holds image j few told inputs on none (f A image told e)
+
+-- Where it stops.
+
+start_accounted : (A : Inputs) (old new : Standing) (numbers : List ℕ) (holds : Option (List NamedFile)) (image : List ℕ) (j : Option (List ℕ)) → length numbers ≤ 16 → IsTold A old numbers holds image
+    → (stop : Stop) → StartStops A new image stop j → StopsStartingRun A new image stop j
+start_accounted A old new numbers holds image j few told stop h = elim h [
+  | inl x ↦ inl x
+  | inr x ↦ inr (x.0, x.1, stop_accounted A (start A x.0) (machine_at_start A x.0) image stop new j (stands_at_start A x.0 image x.1 told.room) (start_crowd A x.0 numbers told.starts.first few) x.2)
+]
+
+-- for all inputs that are those of the machine, where the swap image is told
+abbrev pub Stopping : Result Started Stop → Standing → List ℕ → Option (List NamedFile) → Option (List ℕ) → (Inputs → List ℕ → Stop → Type 0) → Type 0
+Stopping r old numbers holds i P = (A : Inputs) (image : List ℕ) → IsTold A old numbers holds image → i ≡ Some image → IfErr r (P A image)
+
+pub stops_starting : (r : Result Started Stop) (old new : Standing) (numbers : List ℕ) (holds : Option (List NamedFile)) (i j : Option (List ℕ)) → length numbers ≤ 16
+    → Stopping r old numbers holds i (λ A image stop. StartStops A new image stop j) → Stopping r old numbers holds i (λ A image stop. StopsStartingRun A new image stop j)
+stops_starting r old new numbers holds i j few f A image told e =
+    stops_weaker r (λ stop. StartStops A new image stop j) (λ stop. StopsStartingRun A new image stop j) (start_accounted A old new numbers holds image j few told) (f A image told e)
 
 pub started_goes_on : (old : Standing) (new : Underway) → 64 ≤ old.params.frames → new.counted ≡ 0 → HasStarted old new.machine → GoesOn new
 started_goes_on old new frames none on = record {

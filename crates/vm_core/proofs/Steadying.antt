@@ -1,7 +1,7 @@
 -- Machines that stay steady.
-use Rattle.std.proofs.Common.{◌≡◌, ℕ, ◌+◌, ◌≤◌, List, length, Option, None, refl, sym, ap, ◌∙◌, subst, arith}
+use Rattle.std.proofs.Common.{◌≡◌, ℕ, ◌+◌, ◌≤◌, List, Option, None, refl, sym, ap, ◌∙◌, subst, arith}
 use Rattle.vm_facts.specs.declared.entry.Entry.{Entry}
-use Rattle.flat_state.specs.Journal.{append, counted, instructions_of, IsPlain}
+use Rattle.flat_state.specs.Journal.{counted, instructions_of, IsPlain}
 use Rattle.kernel_model.specs.Kernel.{Kernel, note_step}
 use Rattle.machine_state.specs.Machine.{Standing}
 use Rattle.machine_state.specs.Settled.{IsSameBeside}

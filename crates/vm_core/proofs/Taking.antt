@@ -1,5 +1,5 @@
 -- Lines of the schedule, from their entries on.
-use Rattle.std.proofs.Common.{◌≡◌, ℕ, ◌+◌, ◌<◌, ◌≤◌, List, [], ◌∷◌, ◌++◌, length, Option, Some, None, refl, sym, ap, ◌∙◌, subst, arith}
+use Rattle.std.proofs.Common.{◌≡◌, ℕ, ◌+◌, ◌≤◌, List, [], ◌∷◌, ◌++◌, Option, Some, None, refl, sym, ap, ◌∙◌, subst, arith}
 use Rattle.std.proofs.lemmas.Option.{same_Some}
 use Rattle.vm_facts.specs.declared.entry.Entry.{Entry}
 use Rattle.vm_facts.specs.declared.entry.Entry.TheVariants as entries
@@ -11,7 +11,7 @@ use Rattle.flat_state.specs.Flat.{Inputs}
 use Rattle.flat_state.specs.Journal.{instructions_of}
 use Rattle.page_model.specs.Placement.{Placement}
 use Rattle.page_model.specs.Swapper.{swap_choice}
-use Rattle.kernel_model.specs.Kernel.{Kernel, note_step}
+use Rattle.kernel_model.specs.Kernel.{note_step}
 use Rattle.machine_state.specs.Machine.{Standing}
 use Rattle.flat_model.specs.Run.{Point}
 use Rattle.run_model.specs.declared.mark.Mark.TheVariants as marks
@@ -24,11 +24,12 @@ use Rattle.run_units.proofs.Units.{both_lead}
 use Rattle.step_units.specs.Stepped.{StopLeads}
 use Rattle.step_units.specs.Lines.{LineBegun, StopsNoting}
 use Rattle.step_units.proofs.Beginning.{line_begins, line_stops}
-use Rattle.proc_run.specs.Runs.{IsSteady}
 use Rattle.proc_run.specs.Running.{CountsTo}
+use Rattle.vm_core.specs.Accounts.{StopsAccounted}
 use Rattle.vm_core.specs.Steady.{StaysSteady}
 use Rattle.vm_core.specs.Lines.{LineAt, MakesLine, StopsLine}
-use Rattle.vm_core.specs.Cores.{Underway, GoesOn, StandsIn, CoreAt, LineDue, LineTaken, TakesLine, StopsTaking, AskedAt, LineDone, CarriesOut, StopsCarrying}
+use Rattle.vm_core.specs.Cores.{Underway, GoesOn, StandsIn, CoreAt, LineDue, LineTaken, TakesLine, StopsTaking, AskedAt, CarriesOut, StopsCarrying}
+use Rattle.vm_core.proofs.Accounts.{leads_accounted, leads_economical, leads_swapped, stop_accounted}
 use Rattle.vm_core.proofs.Steadying.{noted_steady}
 use Rattle.vm_core.proofs.Standing.{stands_on, leads_to_stop}
 
@@ -120,18 +121,23 @@ module _ (A : Inputs) (s : State) (old : Underway) (holds : Option (List NamedFi
           unturned = d.unturned;
         };
         lines = d.lines ∙ b.lines;
+        account = leads_accounted A s d.state old.machine.kernel new.kernel image (b.units ++ d.units) j at.stands.machine.at leads;
+        economy = leads_economical A s d.state old.machine.kernel new.kernel image (b.units ++ d.units) j at.stands.machine.at leads at.stands.crowd;
+        swapped = leads_swapped A s d.state old.machine.kernel new.kernel image (b.units ++ d.units) j at.stands.machine.at leads d.leads.behind d.leads.told;
       }
 
   carrying_stops : (mid new : Standing) (j : Option (List ℕ)) (stop : Stop) → StaysSteady old.machine mid 0 → mid.kernel ≡ note_step old.machine.kernel (entries.Event line) → StopsCarrying mid new old.counted e holds i j stop
-      → StopLeads A s old.machine.kernel image stop new j
+      → StopsAccounted A s old.machine.kernel image stop new j
   carrying_stops mid new j stop stays k f =
       let b = begun mid stays k in
-      leads_to_stop A s b.state old.machine.kernel mid.kernel image image b.units stop new j b.leads (f A b.state image b.at)
+      stop_accounted A s old.machine.kernel image stop new j at.stands.machine.at at.stands.crowd
+      (leads_to_stop A s b.state old.machine.kernel mid.kernel image image b.units stop new j b.leads (f A b.state image b.at))
 
-  noting_stops : (new : Standing) (stop : Stop) → StopsNoting old.machine new stop → StopLeads A s old.machine.kernel image stop new i
+  noting_stops : (new : Standing) (stop : Stop) → StopsNoting old.machine new stop → StopsAccounted A s old.machine.kernel image stop new i
   noting_stops new stop x =
-      subst (λ (o : Option (List ℕ)). StopLeads A s old.machine.kernel image stop new o) (sym at.stands.told)
-      (line_stops A s old.machine new holds image e stop at.stands.machine at.over due.below due.event x)
+      stop_accounted A s old.machine.kernel image stop new i at.stands.machine.at at.stands.crowd
+      (subst (λ (o : Option (List ℕ)). StopLeads A s old.machine.kernel image stop new o) (sym at.stands.told)
+      (line_stops A s old.machine new holds image e stop at.stands.machine at.over due.below due.event x))
 
 -- The whole line.
 

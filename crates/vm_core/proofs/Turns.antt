@@ -1,5 +1,5 @@
 -- Turns of the closing phase, from their entries on.
-use Rattle.std.proofs.Common.{◌≡◌, ℕ, ◌+◌, ◌<◌, ◌≤◌, nat_lt, ◌&&◌, true, false, List, [], ◌∷◌, ◌++◌, length, Option, Some, None, refl, sym, ap, ◌∙◌, subst, arith}
+use Rattle.std.proofs.Common.{◌≡◌, ℕ, ◌+◌, ◌<◌, ◌≤◌, nat_lt, ◌&&◌, true, false, List, [], ◌∷◌, ◌++◌, length, Option, Some, refl, sym, ap, ◌∙◌, subst, arith}
 use Rattle.std.proofs.lemmas.Bool.{and_parts, ltb-true}
 use Rattle.std.proofs.lemmas.Option.{same_Some}
 use Rattle.vm_facts.specs.declared.entry.Entry.{Entry}
@@ -27,7 +27,7 @@ use Rattle.run_laws.proofs.Machines.{makes_follows}
 use Rattle.proc_run.specs.Running.{CountsTo}
 use Rattle.vm_core.specs.Steady.{StaysSteady}
 use Rattle.vm_core.specs.Cores.{StandsIn}
-use Rattle.vm_core.specs.Closing.{TurnAt, InTurn, ComesIn, StopsComingIn, TurnDone, FinishesTurn, StopsFinishing, TurnHad, HasTurn, StopsTurn}
+use Rattle.vm_core.specs.Closing.{TurnAt, ComesIn, StopsComingIn, FinishesTurn, StopsFinishing, HasTurn, StopsTurn}
 use Rattle.vm_core.proofs.Standing.{stands_on, leads_to_stop}
 
 -- next units count no more than may be

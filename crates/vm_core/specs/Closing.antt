@@ -11,13 +11,16 @@ use Rattle.run_model.specs.declared.mark.Mark.TheVariants as marks
 use Rattle.run_model.specs.State.{State}
 use Rattle.run_model.specs.Next.{goes_on, turn_instructions, last_turned, next_unit}
 use Rattle.run_model.specs.Lawful.{Follows}
+use Rattle.run_model.specs.Swapped.{swapped_from}
 use Rattle.run_laws.specs.Running.{IsRun}
 use Rattle.economy_laws.specs.Stretch.{turns_of, NoneCounts}
 use Rattle.run_units.specs.Leads.{Leads}
-use Rattle.step_units.specs.Machines.{MachineAt}
 use Rattle.step_units.specs.Stepped.{StopLeads}
 use Rattle.step_units.specs.Lines.{IsOver, IsClear, TurnDue}
 use Rattle.proc_run.specs.Choosing.{next_turned as chosen_next}
+use Rattle.journal_laws.specs.Accounts.{Account}
+use Rattle.journal_laws.specs.Economy.{Economy}
+use Rattle.vm_core.specs.Accounts.{StopsAccounted}
 use Rattle.vm_core.specs.Cores.{Underway, StandsIn, CoreAt}
 
 -- A turn.
@@ -122,7 +125,8 @@ abbrev pub ClosesTo : Standing → Standing → ℕ → ℕ → ℕ → ℕ → 
 ClosesTo old new counted count last idle holds i j =
     (A : Inputs) (s : State) (image : List ℕ) → LinesAre A s old holds i image counted → Closing A s old new holds image j count last idle
 
--- Next units lead to a state that has none, at which the machine stands.
+-- Next units lead to a state that has none, at which the machine stands. They are accounted for, and few, and the swap image is the
+-- one that they say.
 pub record Closed (A : Inputs) (s : State) (old new : Standing) (holds : Option (List NamedFile)) (image : List ℕ) (j : Option (List ℕ)) (count : ℕ) : Type 0 where
   pub units : List Entry
   pub state : State
@@ -130,6 +134,9 @@ pub record Closed (A : Inputs) (s : State) (old new : Standing) (holds : Option 
   pub leads : Leads A s old.kernel image units state new.kernel j
   pub stands : StandsIn A state new holds j behind count
   pub none : next_unit A state ≡ None
+  pub account : Account A s units
+  pub economy : Economy A s units
+  pub swapped : behind ≡ swapped_from A s units image
 
 abbrev pub Closes : Standing → Standing → ℕ → ℕ → Option (List NamedFile) → Option (List ℕ) → Option (List ℕ) → Type 0
 Closes old new counted count holds i j =
@@ -146,7 +153,7 @@ ClosesRun old new holds i j =
 
 abbrev pub StopsClosingRun : Underway → Underway → Option (List NamedFile) → Option (List ℕ) → Option (List ℕ) → Stop → Type 0
 StopsClosingRun old new holds i j stop =
-    (A : Inputs) (s : State) (image : List ℕ) → CoreAt A s old holds i image → length A.lines ≡ s.lines → StopLeads A s old.machine.kernel image stop new.machine j
+    (A : Inputs) (s : State) (image : List ℕ) → CoreAt A s old holds i image → length A.lines ≡ s.lines → StopsAccounted A s old.machine.kernel image stop new.machine j
 
 -- Turns in a row.
 

@@ -12,12 +12,16 @@ use Rattle.register_laws.specs.Longwords.{AllImages}
 use Rattle.run_model.specs.State.{State}
 use Rattle.run_model.specs.After.{mark_of_event}
 use Rattle.run_model.specs.Next.{last_turned}
+use Rattle.run_model.specs.Swapped.{swapped_from}
 use Rattle.run_units.specs.Leads.{Leads}
 use Rattle.step_units.specs.Machines.{MachineAt}
 use Rattle.step_units.specs.Stepped.{StopLeads}
 use Rattle.step_units.specs.Lines.{IsOver, IsClear}
 use Rattle.step_units.specs.Registers.{HasLongwords}
 use Rattle.proc_run.specs.Runs.{IsSteady}
+use Rattle.journal_laws.specs.Accounts.{Account}
+use Rattle.journal_laws.specs.Economy.{Economy}
+use Rattle.vm_core.specs.Accounts.{StopsAccounted}
 
 -- a run: its machine, and how many instructions were counted
 pub record Underway : Type 0 where
@@ -61,7 +65,8 @@ pub record LineDue (A : Inputs) (s : State) (line : ℕ) (e : Event) : Type 0 wh
   pub event : slice_get A.lines s.lines ≡ Some e
   pub below : s.count < A.limit
 
--- Next units lead to where the core stands behind the line.
+-- Next units lead to where the core stands behind the line. They are accounted for, and few, and the swap image is the one that they
+-- say.
 pub record LineTaken (A : Inputs) (s : State) (old new : Underway) (holds : Option (List NamedFile)) (image : List ℕ) (j : Option (List ℕ)) : Type 0 where
   pub units : List Entry
   pub state : State
@@ -69,6 +74,9 @@ pub record LineTaken (A : Inputs) (s : State) (old new : Underway) (holds : Opti
   pub leads : Leads A s old.machine.kernel image units state new.machine.kernel j
   pub at : CoreAt A state new holds j behind
   pub lines : state.lines ≡ s.lines + 1
+  pub account : Account A s units
+  pub economy : Economy A s units
+  pub swapped : behind ≡ swapped_from A s units image
 
 -- for every state at which the core stands, where this is the next line
 abbrev pub TakesLine : Underway → Underway → ℕ → Event → Option (List NamedFile) → Option (List ℕ) → Option (List ℕ) → Type 0
@@ -77,7 +85,7 @@ TakesLine old new line e holds i j =
 
 abbrev pub StopsTaking : Underway → Underway → ℕ → Event → Option (List NamedFile) → Option (List ℕ) → Option (List ℕ) → Stop → Type 0
 StopsTaking old new line e holds i j stop =
-    (A : Inputs) (s : State) (image : List ℕ) → CoreAt A s old holds i image → LineDue A s line e → StopLeads A s old.machine.kernel image stop new.machine j
+    (A : Inputs) (s : State) (image : List ℕ) → CoreAt A s old holds i image → LineDue A s line e → StopsAccounted A s old.machine.kernel image stop new.machine j
 
 -- Under the mark of a line.
 

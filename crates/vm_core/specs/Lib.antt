@@ -1,6 +1,11 @@
 pub mod Steady
+pub mod Accounts
 pub mod Lines
 pub mod Cores
 pub mod Fields
 pub mod Closing
 pub mod Starting
+pub mod Schedules
+pub mod Halting
+pub mod Lawful
+pub mod RunEnds

@@ -1,15 +1,21 @@
 -- The start of a run.
-use Rattle.std.specs.Prelude.{◌≡◌, ℕ, List, Option, Some}
+use Rattle.std.specs.Prelude.{◌≡◌, ◌⊎◌, ℕ, List, Option, Some}
 use Rattle.vm_facts.specs.declared.entry.Entry.{Entry}
+use Rattle.vm_facts.specs.declared.stop.Stop.{Stop}
 use Rattle.io_edge.specs.FileHolding.{NamedFile}
 use Rattle.swap_book.specs.Holdings.{Holdings}
 use Rattle.flat_state.specs.Flat.{Inputs}
+use Rattle.machine_state.specs.Machine.{Standing}
 use Rattle.run_model.specs.State.{State, start}
+use Rattle.run_model.specs.Swapped.{swapped_from}
 use Rattle.run_laws.specs.Running.{CanRun}
 use Rattle.run_units.specs.Leads.{Leads}
 use Rattle.run_units.specs.Serving.{SameBut}
 use Rattle.run_start.specs.Starting.{IsNew}
-use Rattle.run_start.specs.Leading.{IsTold, machine_at_start}
+use Rattle.run_start.specs.Leading.{IsTold, machine_at_start, StopsBeginning}
+use Rattle.journal_laws.specs.Accounts.{Account}
+use Rattle.journal_laws.specs.Economy.{Economy}
+use Rattle.vm_core.specs.Accounts.{StopsAccounted}
 use Rattle.vm_core.specs.Cores.{Underway, InputsOf, CoreAt}
 
 -- a run that was made, and had no call yet
@@ -18,7 +24,8 @@ pub record IsFresh (c : Underway) : Type 0 where
   pub counted : c.counted ≡ 0
 
 -- The run of these inputs can begin, and from its start next units lead to a state that is the start but for pages and journal. The
--- core stands there, between two lines, none of which was taken.
+-- core stands there, between two lines, none of which was taken. The units are accounted for, and few, and the swap image is the one
+-- that they say.
 pub record CoreStarted (A : Inputs) (new : Underway) (holds : Option (List NamedFile)) (image : List ℕ) (j : Option (List ℕ)) : Type 0 where
   pub holdings : Holdings
   pub can : CanRun A holdings
@@ -28,8 +35,17 @@ pub record CoreStarted (A : Inputs) (new : Underway) (holds : Option (List Named
   pub leads : Leads A (start A holdings) (machine_at_start A holdings) image units state new.machine.kernel j
   pub same : SameBut (start A holdings) state
   pub at : CoreAt A state new holds j behind
+  pub account : Account A (start A holdings) units
+  pub economy : Economy A (start A holdings) units
+  pub swapped : behind ≡ swapped_from A (start A holdings) units image
 
 -- for all inputs that are those of the machine, with these first processes, where the files hold the images and a swap image is told
 abbrev pub StartsRun : Underway → Underway → List ℕ → Option (List NamedFile) → Option (List ℕ) → Option (List ℕ) → Type 0
 StartsRun old new numbers holds i j =
     (A : Inputs) (image : List ℕ) → IsTold A old.machine numbers holds image → InputsOf A old.machine → i ≡ Some image → CoreStarted A new holds image j
+
+-- The machine stops as the processes begin, for want of memory; or behind next units of the run.
+abbrev pub StopsStartingRun : Inputs → Standing → List ℕ → Stop → Option (List ℕ) → Type 0
+StopsStartingRun A new image stop j =
+    StopsBeginning new image stop j
+    ⊎ ((hs : Holdings) × CanRun A hs × StopsAccounted A (start A hs) (machine_at_start A hs) image stop new j)

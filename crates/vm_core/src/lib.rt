@@ -7,8 +7,10 @@ mod lines;
 mod owners;
 mod run;
 mod running;
+mod schedule;
 mod starting;
 
 pub use events::Went;
 pub use run::Core;
 pub use run_start::Started;
+pub use schedule::{Unfinished, run_schedule};

@@ -5,9 +5,9 @@ ghost use Rattle.flat_model.specs.Asked.{start_held};
 ghost use Rattle.machine_state.specs.Done.{CountsPages, CountsReads, CountsWrites};
 ghost use Rattle.machine_state.specs.Files.{AreFiles};
 ghost use Rattle.run_start.specs.Starting.{AreAmong, StartsFrom, started_by};
-ghost use Rattle.run_start.specs.Leading.{IsTold, StartStops};
+ghost use Rattle.run_start.specs.Leading.{IsTold};
 ghost use Rattle.vm_core.specs.Cores.{GoesOn};
-ghost use Rattle.vm_core.specs.Starting.{IsFresh, StartsRun};
+ghost use Rattle.vm_core.specs.Starting.{IsFresh, StartsRun, StopsStartingRun};
 
 use crate::run::Core;
 use io_edge::{Files, SwapDev};
@@ -30,12 +30,16 @@ impl Core {
         requires files { AreFiles self.old.machine.images (F.holds files.old) }
         ensures space { (A : Inputs) → StartsFrom A self.old.machine first.now → IfOk result (λ started. started ≡ started_by (start_held A)) }
         ensures none_made { (pid : ℕ) → result ≡ Ok (Started.NoSpace pid) → self.new.machine.kernel.journal ≡ [] }
+        ensures untouched { (pid : ℕ) → result ≡ Ok (Started.NoSpace pid) → swap.new ≡ swap.old }
+        ensures kept_params { (pid : ℕ) → result ≡ Ok (Started.NoSpace pid) → self.new.machine.params ≡ self.old.machine.params }
+        ensures kept_images { (pid : ℕ) → result ≡ Ok (Started.NoSpace pid) → self.new.machine.images ≡ self.old.machine.images }
         ensures starts { result ≡ Ok Started.Ok → StartsRun self.old self.new first.now (F.holds files.old) (D.image swap.old) (D.image swap.new) }
         ensures stops { (A : Inputs) (image : List ℕ) → IsTold A self.old.machine first.now (F.holds files.old) image → D.image swap.old ≡ Some image
-            → IfErr result (λ stop. StartStops A self.new.machine image stop (D.image swap.new)) }
+            → IfErr result (λ stop. StopsStartingRun A self.new.machine image stop (D.image swap.new)) }
         ensures goes_on { result ≡ Ok Started.Ok → GoesOn self.new }
         ensures params { result ≡ Ok Started.Ok → self.new.machine.params ≡ self.old.machine.params }
         ensures images { result ≡ Ok Started.Ok → self.new.machine.images ≡ self.old.machine.images }
+        ensures counted { self.new.counted ≡ self.old.counted }
         ensures stopped { OnErr result (self.new.machine.kernel.stopped ≡ true) }
         ensures files_lead { F.leads files.old files.new }
         ensures swap_leads { D.leads swap.old swap.new }

@@ -1,6 +1,5 @@
-use Rattle.std.proofs.Common.{◌≡◌, ◌≤◌, ◌<◌, ℕ, ◌+◌, sym, ap, ◌∙◌, subst, refl, arith}
-use Rattle.machine_state.specs.Machine.{Standing}
-use Rattle.vm_core.specs.Closing.{Closes, StopsClosing, ClosesTo, HasTurn, StopsTurn}
+use Rattle.std.proofs.Common.{◌∙◌, subst, refl, arith}
+use Rattle.vm_core.specs.Closing.{StopsClosing, HasTurn, StopsTurn}
 use Rattle.vm_core.proofs.Noting.{stops_on}
 use Rattle.vm_core.proofs.Closings.{closing_starts, closing_on, closing_stops, closing_ends}
 use Rattle.vm_core.proofs.closing.close.Goals as goal

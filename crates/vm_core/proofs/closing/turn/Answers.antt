@@ -1,7 +1,6 @@
-use Rattle.std.proofs.Common.{◌≡◌, ℕ, ◌+◌, IfOk, IfErr, sym, ◌∙◌, subst, arith}
+use Rattle.std.proofs.Common.{IfOk, IfErr, subst, arith}
 use Rattle.vm_facts.specs.declared.entry.Entry.TheVariants as entries
 use Rattle.proc_run.specs.Running.{CountsTo}
-use Rattle.vm_core.specs.Steady.{StaysSteady}
 use Rattle.vm_core.specs.Closing.{HasTurn, StopsTurn, FinishesTurn, StopsFinishing}
 use Rattle.vm_core.proofs.Noting.{stops_on, stops_weaker, noted_stop, ok_two}
 use Rattle.vm_core.proofs.Steadying.{noted_steady}

@@ -1,4 +1,4 @@
-use Rattle.std.proofs.Common.{◌≡◌, ◌≤◌, length, sym, subst}
+use Rattle.std.proofs.Common.{sym, subst}
 use Rattle.vm_facts.specs.declared.entry.Entry.TheVariants as entries
 use Rattle.vm_core.specs.Cores.{Underway, GoesOn, TakesLine, StopsTaking}
 use Rattle.vm_core.proofs.Noting.{stops_on, noted_stop}

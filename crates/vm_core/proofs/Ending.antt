@@ -1,0 +1,112 @@
+-- How a whole run ends, from its start on.
+use Rattle.std.proofs.Common.{◌≡◌, inl, inr, ℕ, ◌+◌, ◌≤◌, List, [], ◌∷◌, ◌++◌, length, Option, Some, Ok, Err, refl, sym, ap, ◌∙◌, subst, arith}
+use Rattle.std.specs.Prelude.{All, Result}
+use Rattle.std.specs.Result.{IsErrAnd}
+use Rattle.std.proofs.lemmas.List.Elements.{All-head, All-tail}
+use Rattle.std.proofs.lemmas.Option.{same_Some}
+use Rattle.std.proofs.lemmas.Result.{err_from_is_err_and}
+use Rattle.vm_facts.specs.declared.event.Event.{Event}
+use Rattle.vm_facts.specs.declared.stop.Stop.{Stop}
+use Rattle.vm_facts.specs.declared.stop.Stop.TheVariants as stops
+use Rattle.io_edge.specs.FileHolding.{NamedFile}
+use Rattle.swap_book.specs.Holdings.{Holdings}
+use Rattle.flat_state.specs.Flat.{Inputs}
+use Rattle.flat_model.specs.Asked.{start_held}
+use Rattle.machine_state.specs.Machine.{Standing}
+use Rattle.machine_state.specs.Sourced.{ImageNamed}
+use Rattle.run_model.specs.State.{start}
+use Rattle.run_laws.specs.Running.{CanRun}
+use Rattle.run_units.specs.Leads.{Leads}
+use Rattle.run_units.proofs.Units.{both_lead}
+use Rattle.step_units.specs.Stepped.{StopLeads}
+use Rattle.run_start.specs.declared.starting.Started.TheVariants as starteds
+use Rattle.run_start.specs.Starting.{AreAmong, StartsFrom, started_by}
+use Rattle.run_start.specs.Leading.{IsTold, machine_at_start}
+use Rattle.vm_core.specs.Cores.{Underway, InputsOf}
+use Rattle.vm_core.specs.Starting.{CoreStarted, StartsRun, StopsStartingRun}
+use Rattle.vm_core.specs.Schedules.{IsBeforeLines, StopsLines, FinishesLines}
+use Rattle.vm_core.specs.RunEnds.{IsAskedOf, NoneMade, RunStops, RunEnds}
+use Rattle.vm_core.specs.declared.schedule.Unfinished.{Unfinished}
+use Rattle.vm_core.specs.declared.schedule.Unfinished.TheVariants.{NoSpace, Stopped}
+use Rattle.vm_core.proofs.Standing.{leads_to_stop}
+use Rattle.vm_core.proofs.Journals.{finished_run, halted_run, starved_run}
+
+-- what is so of an answer that is this stop
+pub stopped_so : (r : Result (Unit {0}) Unfinished) (stop : Stop) (Q : Result (Unit {0}) Unfinished → Type 0) → IsErrAnd r (λ (e : Unfinished). e ≡ Stopped stop) → Q (Err (Stopped stop)) → Q r
+stopped_so r stop Q h q =
+    let p = err_from_is_err_and r h in
+    subst Q (sym (p.1 ∙ ap (λ (e : Unfinished). let s : Result (Unit {0}) Unfinished = Err e in s) p.2)) q
+
+pub are_among : (images : List ImageNamed) (ns : List ℕ) → All (λ (n : ℕ). (1 ≤ n) × (n ≤ length images)) ns → AreAmong images ns
+are_among images [] all = tt
+are_among images (n ∷ ns) all = let h = All-head (λ (k : ℕ). (1 ≤ k) × (k ≤ length images)) n ns all in (h.0, h.1, are_among images ns (All-tail (λ (k : ℕ). (1 ≤ k) × (k ≤ length images)) n ns all))
+
+module _ (A : Inputs) (old : Underway) (numbers : List ℕ) (lines : List Event) (holds : Option (List NamedFile)) (image : List ℕ) (few : length numbers ≤ 16) (is : IsAskedOf A old.machine numbers lines holds image) where
+  starts_from : StartsFrom A old.machine numbers
+  starts_from = record { named = is.named; first = is.first; frames = is.frames; blocks = is.blocks }
+
+  is_told : IsTold A old.machine numbers holds image
+  is_told = record { starts = starts_from; images = is.images; fit = is.fit; room = is.room }
+
+  inputs_of : InputsOf A old.machine
+  inputs_of = record { named = is.named; limit = is.limit; images = is.octets; few = is.few }
+
+  first_few : length A.first ≤ 64
+  first_few = let n = ap length is.first in omega (arith, n, few)
+
+  -- No place.
+
+  pub no_space : (new : Underway) (pid : ℕ) (i j : Option (List ℕ)) → ((B : Inputs) → StartsFrom B old.machine numbers → starteds.NoSpace pid ≡ started_by (start_held B)) → new.machine.kernel.journal ≡ [] → j ≡ i → i ≡ Some image
+      → RunEnds A new.machine.kernel.journal image (Err (NoSpace pid)) j
+  no_space new pid i j space journal same told = ((journal, same ∙ told), go (start_held A) refl (space A starts_from))
+    where
+      go : (r : Result Holdings ℕ) → start_held A ≡ r → starteds.NoSpace pid ≡ started_by r → start_held A ≡ Err pid
+      go (Ok hs) at e = absurd cc
+      go (Err n) at e = at ∙ (let same_pid : n ≡ pid = cc in ap (λ (p : ℕ). let r : Result Holdings ℕ = Err p in r) same_pid)
+
+  -- The machine stopped.
+
+  stops_at : (new : Standing) (stop : Stop) (j : Option (List ℕ)) (hs : Holdings) (can : CanRun A hs) → (x : StopLeads A (start A hs) (machine_at_start A hs) image stop new j)
+      → RunStops A new.kernel.journal image stop j
+  stops_at new stops.NoMemory j hs can x = inr (starved_run A hs can first_few image is.room new j stops.NoMemory x x.by)
+  stops_at new stops.JournalFull j hs can x = halted_run A hs can first_few image is.room new j stops.JournalFull x x.by
+  stops_at new stops.FileFault j hs can x = halted_run A hs can first_few image is.room new j stops.FileFault x x.by
+  stops_at new stops.SwapReadFault j hs can x = halted_run A hs can first_few image is.room new j stops.SwapReadFault x x.by
+  stops_at new stops.SwapWriteFault j hs can x = halted_run A hs can first_few image is.room new j stops.SwapWriteFault x x.by
+
+  pub start_stops : (new : Underway) (stop : Stop) (j : Option (List ℕ)) → ((B : Inputs) (b : List ℕ) → IsTold B old.machine numbers holds b → Some image ≡ Some b → StopsStartingRun B new.machine b stop j)
+      → RunEnds A new.machine.kernel.journal image (Err (Stopped stop)) j
+  start_stops new stop j f = go (f A image is_told refl)
+    where
+      begun : stop ≡ stops.NoMemory → NoneMade new.machine.kernel.journal image j → RunStops A new.machine.kernel.journal image stop j
+      begun e none = subst (λ (s : Stop). RunStops A new.machine.kernel.journal image s j) (sym e) (inl none)
+
+      go : StopsStartingRun A new.machine image stop j → RunStops A new.machine.kernel.journal image stop j
+      go (inl b) = begun b.cause (b.journal, b.told)
+      go (inr (hs, can, x)) = stops_at new.machine stop j hs can x.led
+
+  -- Behind the start.
+
+  module _ (mid : Underway) (i h : Option (List ℕ)) (told : i ≡ Some image) (starts : StartsRun old mid numbers holds i h) where
+    started : CoreStarted A mid holds image h
+    started = starts A image is_told inputs_of told
+
+    before_lines : IsBeforeLines A started.state mid lines holds h started.behind
+    before_lines = record { at = started.at; none = started.same.lines; are = is.lines_are }
+
+    start_told : Leads A (start A started.holdings) (machine_at_start A started.holdings) image started.units started.state mid.machine.kernel (Some started.behind)
+    start_told = subst (λ (o : Option (List ℕ)). Leads A (start A started.holdings) (machine_at_start A started.holdings) image started.units started.state mid.machine.kernel o) started.at.stands.told started.leads
+
+    pub lines_stop : (new : Underway) (stop : Stop) (j : Option (List ℕ)) → StopsLines mid new lines holds h j stop → RunEnds A new.machine.kernel.journal image (Err (Stopped stop)) j
+    lines_stop new stop j f =
+        stops_at new.machine stop j started.holdings started.can
+        (leads_to_stop A (start A started.holdings) started.state (machine_at_start A started.holdings) mid.machine.kernel image started.behind started.units stop new.machine j start_told
+        (f A started.state started.behind before_lines))
+
+    pub lines_finish : (new : Underway) (j : Option (List ℕ)) → FinishesLines mid new lines holds h j → RunEnds A new.machine.kernel.journal image (Ok tt) j
+    lines_finish new j f =
+        let d = f A started.state started.behind before_lines in
+        finished_run A started.holdings started.can first_few image is.room new j (started.units ++ d.units) d.state
+        (both_lead A (start A started.holdings) started.state d.state (machine_at_start A started.holdings) mid.machine.kernel new.machine.kernel image (Some started.behind) j started.units d.units start_told
+        (λ between same. subst (λ (y : List ℕ). Leads A started.state mid.machine.kernel y d.units d.state new.machine.kernel j) (same_Some started.behind between same) d.leads))
+        d.none

@@ -1,0 +1,200 @@
+-- The journal of a run that a machine made.
+use Rattle.std.proofs.Common.{◌≡◌, inl, inr, ℕ, ◌*◌, ◌<◌, ◌≤◌, List, [], ◌∷◌, length, replicate, Option, Some, None, refl, sym, ap, ◌∙◌, subst}
+use Rattle.std.proofs.lemmas.List.{length-replicate}
+use Rattle.std.proofs.lemmas.Option.{same_Some}
+use Rattle.vm_facts.specs.declared.entry.Entry.{Entry}
+use Rattle.vm_facts.specs.declared.entry.Entry.TheVariants as entries
+use Rattle.vm_facts.specs.declared.stop.Stop.{Stop}
+use Rattle.vm_facts.specs.declared.stop.Stop.TheVariants as stops
+use Rattle.swap_book.specs.declared.Owner.TheVariants as owners
+use Rattle.swap_book.specs.Holdings.{Holdings, block_in}
+use Rattle.flat_state.specs.Flat.{Inputs}
+use Rattle.flat_state.specs.Journal.{append, appended}
+use Rattle.page_model.specs.PageBytes.{zeros}
+use Rattle.page_model.specs.Placement.{Placement, Transfer, Part, Errand}
+use Rattle.page_model.specs.Ownership.{block_of}
+use Rattle.page_model.specs.Stored.{store_at}
+use Rattle.kernel_model.specs.Kernel.{Kernel}
+use Rattle.kernel_model.specs.Coupled.{memory_of}
+use Rattle.machine_state.specs.Done.{SpoilsAll, SpoilsBy as SpoilsTransfers}
+use Rattle.machine_state.specs.Machine.{Standing}
+use Rattle.paging_units.specs.Stops.{CauseBy, SpoilsBy}
+use Rattle.run_model.specs.State.{State, start}
+use Rattle.run_model.specs.Next.{next_unit}
+use Rattle.run_model.specs.Lawful.{Follows, IsLawful}
+use Rattle.run_model.specs.Swapped.{swapped}
+use Rattle.run_laws.specs.Machine.{StandsAt}
+use Rattle.run_laws.specs.Images.{AreFlat, WritesFlat, AllFlat as InFlightFlat}
+use Rattle.run_laws.specs.Running.{CanRun}
+use Rattle.run_laws.proofs.Finishing.{finished_ends}
+use Rattle.run_laws.proofs.Machines.{start_keeps, units_keep}
+use Rattle.run_laws.proofs.SwapImages.{writes_flat}
+use Rattle.run_laws.proofs.Wholes.{start_run}
+use Rattle.run_units.specs.Leads.{Leads}
+use Rattle.run_start.specs.Leading.{machine_at_start}
+use Rattle.step_units.specs.Stepped.{StopLeads, StopsNext}
+use Rattle.journal_laws.proofs.Journals.{leads_follow, journal_lawful, journal_accounted, journal_economical, journal_image}
+use Rattle.vm_core.specs.Cores.{Underway}
+use Rattle.vm_core.specs.Halting.{HaltsFor, SpoilsParts, SpoilsOldest, LeavesImage}
+use Rattle.vm_core.specs.Lawful.{IsJournalOf, RunFinished, RunHalted, RunStarved}
+
+module _ (A : Inputs) (hs : Holdings) (can : CanRun A hs) (few : length A.first ≤ 64) (image : List ℕ) (room : 512 * A.swap_blocks ≤ length image) where
+  at_start : StandsAt A (start A hs) (machine_at_start A hs) image
+  at_start = start_keeps A hs (replicate A.frames zeros) image can (length-replicate {A = List ℕ} A.frames zeros) room
+
+  module _ (us : List Entry) (t : State) (l : Kernel) (j : Option (List ℕ)) (a : Leads A (start A hs) (machine_at_start A hs) image us t l j) where
+    follows : Follows A (start A hs) us t
+    follows = leads_follow A (start A hs) t (machine_at_start A hs) l image us j a
+
+    lawful : (t.journal ≡ appended [] us) × IsLawful A (appended [] us) t
+    lawful = journal_lawful A hs us t can follows
+
+    pub stands : StandsAt A t l a.behind
+    stands = units_keep A us (start A hs) t (machine_at_start A hs) l image a.behind can.images (start_run A hs can) at_start a.makes
+
+    pub made : IsJournalOf A l.journal t
+    made = record {
+      holdings = hs;
+      can = can;
+      units = us;
+      follows = follows;
+      joined = sym lawful.0 ∙ sym stands.journal;
+      lawful = subst (λ (es : List Entry). IsLawful A es t) (sym lawful.0 ∙ sym stands.journal) lawful.1;
+      account = journal_accounted A hs us t can follows;
+      economy = journal_economical A hs us t can follows few;
+    }
+
+    pub image_told : j ≡ Some (swapped A l.journal image)
+    image_told =
+        journal_image A hs t (machine_at_start A hs) l image us j can at_start a
+        ∙ ap (λ (es : List Entry). Some (swapped A es image)) (sym lawful.0 ∙ sym stands.journal)
+
+-- Where it ends.
+
+pub finished_run : (A : Inputs) (hs : Holdings) (can : CanRun A hs) (few : length A.first ≤ 64) (image : List ℕ) (room : 512 * A.swap_blocks ≤ length image) (new : Underway) (j : Option (List ℕ)) (us : List Entry) (t : State)
+    → Leads A (start A hs) (machine_at_start A hs) image us t new.machine.kernel j → next_unit A t ≡ None → RunFinished A new.machine.kernel.journal image j
+finished_run A hs can few image room new j us t a none =
+    let m = made A hs can few image room us t new.machine.kernel j a in
+    record {
+      state = t;
+      made = m;
+      none = none;
+      ends = finished_ends A new.machine.kernel.journal t (record { lawful = m.lawful; none = none });
+      left = image_told A hs can few image room us t new.machine.kernel j a;
+    }
+
+-- Why it halts.
+
+fails_file : (u : Entry) (s : State) → CauseBy u stops.FileFault s.place.transfers → HaltsFor stops.FileFault u s
+fails_file entries.Done s c = (refl, c)
+fails_file (entries.SwapOut pid) s c = elim c [ inl e ↦ absurd cc | inr r ↦ elim r [ inl e ↦ absurd cc | inr e ↦ absurd cc ] ]
+fails_file (entries.SwapIn pid) s c = elim c [ inl e ↦ absurd cc | inr r ↦ elim r [ inl e ↦ absurd cc | inr e ↦ absurd cc ] ]
+fails_file _ s c = elim c [ inl e ↦ absurd cc | inr e ↦ absurd cc ]
+
+fails_reading : (u : Entry) (s : State) → CauseBy u stops.SwapReadFault s.place.transfers → HaltsFor stops.SwapReadFault u s
+fails_reading entries.Done s c = inl (refl, c)
+fails_reading (entries.SwapOut pid) s c = elim c [ inl e ↦ absurd cc | inr r ↦ elim r [ inl e ↦ absurd cc | inr e ↦ absurd cc ] ]
+fails_reading (entries.SwapIn pid) s c = inr (pid, refl)
+fails_reading _ s c = elim c [ inl e ↦ absurd cc | inr e ↦ absurd cc ]
+
+fails_writing : (u : Entry) (s : State) → CauseBy u stops.SwapWriteFault s.place.transfers → HaltsFor stops.SwapWriteFault u s
+fails_writing entries.Done s c = inl (refl, c)
+fails_writing (entries.SwapOut pid) s c = inr (pid, refl)
+fails_writing (entries.SwapIn pid) s c = elim c [ inl e ↦ absurd cc | inr r ↦ elim r [ inl e ↦ absurd cc | inr e ↦ absurd cc ] ]
+fails_writing _ s c = elim c [ inl e ↦ absurd cc | inr e ↦ absurd cc ]
+
+halts_for : (stop : Stop) (u : Entry) (s : State) → CauseBy u stop s.place.transfers → (stop ≡ stops.JournalFull → HaltsFor stops.JournalFull u s) → HaltsFor stop u s
+halts_for stops.NoMemory u s c full = tt
+halts_for stops.JournalFull u s c full = full refl
+halts_for stops.FileFault u s c full = fails_file u s c
+halts_for stops.SwapReadFault u s c full = fails_reading u s c
+halts_for stops.SwapWriteFault u s c full = fails_writing u s c
+
+-- The swap image that it leaves.
+
+parts_spoiled : (A : Inputs) (s : State) (k : Kernel) (xs : List Part) (image after : List ℕ) → k.holdings ≡ s.holdings → AreFlat A s k xs → SpoilsAll k image xs after → SpoilsParts A s xs image after
+parts_spoiled A s k [] image after same flat x = x
+parts_spoiled A s k (p ∷ ps) image after same flat x =
+    elim x [
+      | inl y ↦ inl (y.0, y.1, y.2 ∙ ap (λ (hs : Holdings). store_at image (block_of hs p.page) y.0) same)
+      | inr y ↦ inr (parts_spoiled A s k ps (store_at image (block_of s.holdings p.page) (memory_of A.images s.point.flat p.page)) after same flat.1
+        (subst (λ (i : List ℕ). SpoilsAll k i ps after)
+        (ap (λ (bytes : List ℕ). store_at image (block_of k.holdings p.page) bytes) flat.0 ∙ ap (λ (hs : Holdings). store_at image (block_of hs p.page) (memory_of A.images s.point.flat p.page)) same) y))
+    ]
+
+oldest_spoiled : (A : Inputs) (s : State) (k : Kernel) (ts : List Transfer) (image after : List ℕ) → k.holdings ≡ s.holdings → InFlightFlat A s k ts → SpoilsTransfers k image ts after → SpoilsOldest A s ts image after
+oldest_spoiled A s k [] image after same flat x = x
+oldest_spoiled A s k (t ∷ ts) image after same flat x = (x.0, parts_spoiled A s k t.parts image after same (subst (λ (e : Errand). WritesFlat A s k e t.parts) x.0 flat.0) x.1)
+
+-- a swap image that is left
+record ImageLeft (stop : Stop) (A : Inputs) (s : State) (u : Entry) (image : List ℕ) (j : Option (List ℕ)) : Type 0 where
+  left : List ℕ
+  told : j ≡ Some left
+  is : LeavesImage stop A s u image left
+
+module _ (A : Inputs) (s : State) (k : Kernel) (image : List ℕ) (at : StandsAt A s k image) where
+  spoils_writing : (u : Entry) (j : Option (List ℕ)) → CauseBy u stops.SwapWriteFault k.place.transfers → SpoilsBy u stops.SwapWriteFault k (Some image) j → ImageLeft stops.SwapWriteFault A s u image j
+  spoils_writing entries.Done j c x = record {
+    left = x.0;
+    told = x.1;
+    is = oldest_spoiled A s k s.place.transfers image x.0 at.holdings (writes_flat A s k image at) (subst (λ (p : Placement). SpoilsTransfers k image p.transfers x.0) at.place x.2);
+  }
+  spoils_writing (entries.SwapOut pid) j c x = record {
+    left = store_at image (block_in k.holdings (owners.U pid) 0) x.0;
+    told = x.2;
+    is = (x.0, x.1, ap (λ (hs : Holdings). store_at image (block_in hs (owners.U pid) 0) x.0) at.holdings);
+  }
+  spoils_writing (entries.SwapIn pid) j c x = elim c [ inl e ↦ absurd cc | inr r ↦ elim r [ inl e ↦ absurd cc | inr e ↦ absurd cc ] ]
+  spoils_writing _ j c x = elim c [ inl e ↦ absurd cc | inr e ↦ absurd cc ]
+
+-- any other halt leaves it
+abbrev pub IsNoWrite : Stop → Type 0
+IsNoWrite stops.SwapWriteFault = ⊥
+IsNoWrite _ = Unit {0}
+
+pub same_left : (u : Entry) (stop : Stop) (k : Kernel) (i j : Option (List ℕ)) → IsNoWrite stop → SpoilsBy u stop k i j → j ≡ i
+same_left entries.Done stops.SwapWriteFault k i j n x = absurd n
+same_left entries.Done _ k i j n x = x
+same_left (entries.SwapOut pid) stops.SwapWriteFault k i j n x = absurd n
+same_left (entries.SwapOut pid) _ k i j n x = x
+same_left _ stop k i j n x = x
+
+image_left : (stop : Stop) (u : Entry) (A : Inputs) (s : State) (k : Kernel) (image : List ℕ) (j : Option (List ℕ)) → StandsAt A s k image → CauseBy u stop k.place.transfers → SpoilsBy u stop k (Some image) j → ImageLeft stop A s u image j
+image_left stops.SwapWriteFault u A s k image j at c x = spoils_writing A s k image at u j c x
+image_left stops.NoMemory u A s k image j at c x = record { left = image; told = same_left u stops.NoMemory k (Some image) j tt x; is = refl }
+image_left stops.JournalFull u A s k image j at c x = record { left = image; told = same_left u stops.JournalFull k (Some image) j tt x; is = refl }
+image_left stops.FileFault u A s k image j at c x = record { left = image; told = same_left u stops.FileFault k (Some image) j tt x; is = refl }
+image_left stops.SwapReadFault u A s k image j at c x = record { left = image; told = same_left u stops.SwapReadFault k (Some image) j tt x; is = refl }
+
+-- Where it halts.
+
+module _ (A : Inputs) (hs : Holdings) (can : CanRun A hs) (few : length A.first ≤ 64) (image : List ℕ) (room : 512 * A.swap_blocks ≤ length image) (new : Standing) (j : Option (List ℕ)) (stop : Stop)
+    (x : StopLeads A (start A hs) (machine_at_start A hs) image stop new j) where
+  made_so : IsJournalOf A new.kernel.journal x.state
+  made_so = subst (λ (es : List Entry). IsJournalOf A es x.state) (sym x.journal) (made A hs can few image room x.units x.state x.kernel (Some x.behind) x.leads)
+
+  stands_so : StandsAt A x.state x.kernel x.behind
+  stands_so = subst (StandsAt A x.state x.kernel) (sym (same_Some x.behind x.leads.behind x.leads.told)) (stands A hs can few image room x.units x.state x.kernel (Some x.behind) x.leads)
+
+  behind_is : x.behind ≡ swapped A new.kernel.journal image
+  behind_is =
+      same_Some x.behind (swapped A x.kernel.journal image) (image_told A hs can few image room x.units x.state x.kernel (Some x.behind) x.leads)
+      ∙ ap (λ (es : List Entry). swapped A es image) (sym x.journal)
+
+  pub halted_run : StopsNext A x.state x.kernel x.behind stop new j → RunHalted A new.kernel.journal stop image j
+  halted_run y =
+      let i : ImageLeft stop A x.state y.entry x.behind j = image_left stop y.entry A x.state x.kernel x.behind j stands_so y.cause y.spoils in
+      record {
+        state = x.state;
+        made = made_so;
+        unit = y.entry;
+        next = y.next;
+        why = halts_for stop y.entry x.state (subst (λ (p : Placement). CauseBy y.entry stop p.transfers) stands_so.place y.cause)
+            (λ e. subst (λ (es : List Entry). length es < length (append es y.entry)) stands_so.journal (y.full e).1);
+        left = i.left;
+        told = i.told;
+        image_left = subst (λ (b : List ℕ). LeavesImage stop A x.state y.entry b i.left) behind_is i.is;
+      }
+
+  pub starved_run : j ≡ Some x.behind → RunStarved A new.kernel.journal image j
+  starved_run e = record { state = x.state; made = made_so; left = e ∙ ap (λ (b : List ℕ). Some b) behind_is }

@@ -1,0 +1,17 @@
+use Rattle.std.proofs.Common.{subst}
+use Rattle.vm_core.specs.Cores.{Underway}
+use Rattle.vm_core.specs.Closing.{StopsClosingRun}
+use Rattle.vm_core.proofs.Noting.{stops_on}
+use Rattle.vm_core.proofs.Closings.{run_stops}
+use Rattle.vm_core.proofs.run.Core.close_run.Goals as goal
+
+pub returns-in_err-self-inside-clause-stops : goal.returns-in_err-self-inside-clause-stops
+returns-in_err-self-inside-clause-stops g c =
+    let old : Underway = record { machine = c.self.inside.machine; counted = c.self.inside.counted } in
+    let after : Underway = record { machine = c.close.new.m; counted = c.self.inside.counted } in
+    let holds = g.F.Files.holds c.args.files.now in
+    let i = g.D.SwapDev.image c.args.swap.now in
+    let j = g.D.SwapDev.image c.close.new.swap in
+    stops_on c.from_residual.result c.in_err-self-inside.field-0.0 (StopsClosingRun c.args.self.now after holds i j) c.from_residual.ensures.1
+    (subst (λ (u : Underway). StopsClosingRun u after holds i j c.in_err-self-inside.field-0.0) c.self.view_is
+    (run_stops old after holds i j c.in_err-self-inside.field-0.0 c.in_err-self-inside.ensures.stops))

@@ -1,0 +1,94 @@
+use Rattle.std.proofs.Common.{◌≡◌, ◌+◌, ℕ, slice_index_or, slice_get, Some, sym, ap, ◌∙◌, subst, refl, arith}
+use Rattle.std.proofs.lemmas.Option.{slice_get-get_or}
+use Rattle.vm_facts.specs.declared.event.Event.TheVariants.{Dispatch}
+use Rattle.vm_core.specs.Cores.{TakesLine, StopsTaking}
+use Rattle.vm_core.specs.Schedules.{StopsLines}
+use Rattle.vm_core.proofs.Noting.{stops_on}
+use Rattle.vm_core.proofs.Going.{HasTaken, few_at, none_taken, line_taken, line_stops, limit_taken, goes_below}
+use Rattle.vm_core.proofs.schedule.take_lines.Goals as goal
+
+pub loop-e-init : goal.loop-e-init
+loop-e-init g c = record {
+  takes = none_taken c.args.core.now c.args.lines.now (g.F.Files.holds c.args.files.now) (g.D.SwapDev.image c.args.swap.now);
+  goes_on = c.requires.goes_on;
+  below = c.requires.below;
+  number = refl;
+  params = refl;
+  images = refl;
+  files_lead = g.met.F.Files.leads_nowhere c.args.files.now;
+  swap_leads = g.met.D.SwapDev.leads_nowhere c.args.swap.now;
+  holds = refl;
+  blocks = refl;
+  open_faults = refl;
+  page_faults = refl;
+  read_faults = refl;
+  write_faults = refl;
+}
+
+pub event-requires-clause-few : goal.event-requires-clause-few
+event-requires-clause-few g c =
+    few_at c.args.lines.now c.loop-e.e-index (slice_index_or c.args.lines.now c.loop-e.e-index (Dispatch 0 0)) c.requires.few (slice_get-get_or c.args.lines.now c.loop-e.e-index (Dispatch 0 0) c.loop-e-test.true)
+
+pub returns-in_err-event-clause-stops : goal.returns-in_err-event-clause-stops
+returns-in_err-event-clause-stops g c =
+    let lines = c.args.lines.now in
+    let holds = g.F.Files.holds c.args.files.now in
+    let i = g.D.SwapDev.image c.args.swap.now in
+    let h = g.D.SwapDev.image c.loop-e.swap in
+    let j = g.D.SwapDev.image c.event.new.swap in
+    let e = slice_index_or lines c.loop-e.e-index (Dispatch 0 0) in
+    let stop = c.in_err-event.field-0.0 in
+    let so = c.loop-e.invariant in
+    stops_on c.from_residual.result stop (StopsLines c.args.core.now c.event.new.self lines holds i j) c.from_residual.ensures.1
+    (line_stops c.args.core.now c.loop-e.core c.event.new.self c.loop-e.line e lines holds i h j stop so.takes
+    (subst (λ (n : ℕ). slice_get lines n ≡ Some e) (sym so.number) (slice_get-get_or lines c.loop-e.e-index (Dispatch 0 0) c.loop-e-test.true)) so.below
+    (subst (λ hs. StopsTaking c.loop-e.core c.event.new.self (c.loop-e.line + 1) e hs h j stop) so.holds c.in_err-event.ensures.stops))
+
+pub returns-in-LimitReached-clause-takes : goal.returns-in-LimitReached-clause-takes
+returns-in-LimitReached-clause-takes g c =
+    let lines = c.args.lines.now in
+    let holds = g.F.Files.holds c.args.files.now in
+    let i = g.D.SwapDev.image c.args.swap.now in
+    let h = g.D.SwapDev.image c.loop-e.swap in
+    let j = g.D.SwapDev.image c.event.new.swap in
+    let e = slice_index_or lines c.loop-e.e-index (Dispatch 0 0) in
+    let so = c.loop-e.invariant in
+    limit_taken c.args.core.now c.event.new.self (c.loop-e.line + 1) lines holds i j
+    (line_taken c.args.core.now c.loop-e.core c.event.new.self c.loop-e.line e lines holds i h j so.takes
+    (subst (λ (n : ℕ). slice_get lines n ≡ Some e) (sym so.number) (slice_get-get_or lines c.loop-e.e-index (Dispatch 0 0) c.loop-e-test.true)) so.below
+    (subst (λ hs. TakesLine c.loop-e.core c.event.new.self (c.loop-e.line + 1) e hs h j) so.holds c.in_ok-event.ensures.takes))
+    (c.in_ok-event.ensures.limit.0 c.in-LimitReached.is)
+
+pub loop-e-preserved : goal.loop-e-preserved
+loop-e-preserved g c =
+    let lines = c.args.lines.now in
+    let holds = g.F.Files.holds c.args.files.now in
+    let i = g.D.SwapDev.image c.args.swap.now in
+    let h = g.D.SwapDev.image c.loop-e.swap in
+    let j = g.D.SwapDev.image c.event.new.swap in
+    let e = slice_index_or lines c.loop-e.e-index (Dispatch 0 0) in
+    let so = c.loop-e.invariant in
+    record {
+      takes = line_taken c.args.core.now c.loop-e.core c.event.new.self c.loop-e.line e lines holds i h j so.takes
+          (subst (λ (n : ℕ). slice_get lines n ≡ Some e) (sym so.number) (slice_get-get_or lines c.loop-e.e-index (Dispatch 0 0) c.loop-e-test.true)) so.below
+          (subst (λ hs. TakesLine c.loop-e.core c.event.new.self (c.loop-e.line + 1) e hs h j) so.holds c.in_ok-event.ensures.takes);
+      goes_on = c.in_ok-event.ensures.goes_on;
+      below = goes_below c.in_ok-event.field-0 c.event.new.self.machine.params.limit c.event.new.self.counted c.in-Next.is c.in_ok-event.ensures.limit;
+      number = ap (λ (n : ℕ). n + 1) so.number;
+      params = c.in_ok-event.ensures.params ∙ so.params;
+      images = c.in_ok-event.ensures.images ∙ so.images;
+      files_lead = g.met.F.Files.leads_through c.args.files.now c.loop-e.files c.event.new.files so.files_lead c.in_ok-event.ensures.files_lead;
+      swap_leads = g.met.D.SwapDev.leads_through c.args.swap.now c.loop-e.swap c.event.new.swap so.swap_leads c.in_ok-event.ensures.swap_leads;
+      holds = c.in_ok-event.ensures.holds ∙ so.holds;
+      blocks = c.in_ok-event.ensures.blocks ∙ so.blocks;
+      open_faults = c.in_ok-event.ensures.open_faults ∙ so.open_faults;
+      page_faults = c.in_ok-event.ensures.page_faults ∙ so.page_faults;
+      read_faults = c.in_ok-event.ensures.read_faults ∙ so.read_faults;
+      write_faults = c.in_ok-event.ensures.write_faults ∙ so.write_faults;
+    }
+
+pub returns-clause-takes : goal.returns-clause-takes
+returns-clause-takes g c =
+    let so = c.loop-e.invariant in
+    subst (λ (n : ℕ). HasTaken c.args.core.now c.loop-e.core n c.args.lines.now (g.F.Files.holds c.args.files.now) (g.D.SwapDev.image c.args.swap.now) (g.D.SwapDev.image c.loop-e.swap))
+    (let number = so.number in let low = c.loop-e-test.false in let high = c.loop-e.auto.e-index-end in omega arith) so.takes

@@ -1,0 +1,48 @@
+-- Where a run halts: at its next unit, for a cause, and with a swap image.
+use Rattle.std.specs.Prelude.{◌≡◌, ◌⊎◌, ℕ, ◌<◌, List, [], ◌∷◌, length}
+use Rattle.vm_facts.specs.declared.entry.Entry.{Entry}
+use Rattle.vm_facts.specs.declared.entry.Entry.TheVariants as entries
+use Rattle.vm_facts.specs.declared.stop.Stop.{Stop}
+use Rattle.vm_facts.specs.declared.stop.Stop.TheVariants as stops
+use Rattle.swap_book.specs.declared.Owner.TheVariants as owners
+use Rattle.swap_book.specs.Holdings.{block_in}
+use Rattle.flat_state.specs.Flat.{Inputs}
+use Rattle.flat_state.specs.Journal.{append}
+use Rattle.page_model.specs.Placement.{Transfer, Part, FromSwap, FromFile, Writes}
+use Rattle.page_model.specs.Ownership.{block_of}
+use Rattle.page_model.specs.Stored.{store_at}
+use Rattle.kernel_model.specs.Coupled.{memory_of}
+use Rattle.machine_state.specs.Done.{OldestReadsFrom, OldestWrites}
+use Rattle.run_model.specs.State.{State}
+
+-- Why the next unit isn't made: a file fails only where a read from a file is to end, the swap where a read from it is, or a
+-- process is to come in; a write to it fails where a write is to end or a process is to go out; and a journal that is full has no
+-- room for an entry that isn't joined to its last one.
+abbrev pub HaltsFor : Stop → Entry → State → Type 0
+HaltsFor stops.FileFault u s = (u ≡ entries.Done) × OldestReadsFrom FromFile s.place.transfers
+HaltsFor stops.SwapReadFault u s = ((u ≡ entries.Done) × OldestReadsFrom FromSwap s.place.transfers) ⊎ ((pid : ℕ) × (u ≡ entries.SwapIn pid))
+HaltsFor stops.SwapWriteFault u s = ((u ≡ entries.Done) × OldestWrites s.place.transfers) ⊎ ((pid : ℕ) × (u ≡ entries.SwapOut pid))
+HaltsFor stops.JournalFull u s = length s.journal < length (append s.journal u)
+HaltsFor stops.NoMemory u s = Unit {0}
+
+-- pages of a write are in their blocks, up to one whose blocks have any bytes
+abbrev pub SpoilsParts : Inputs → State → List Part → List ℕ → List ℕ → Type 0
+SpoilsParts A s [] image after = ⊥
+SpoilsParts A s (x ∷ xs) image after =
+    ((bytes : List ℕ) × (length bytes ≡ 1024) × (after ≡ store_at image (block_of s.holdings x.page) bytes))
+    ⊎ SpoilsParts A s xs (store_at image (block_of s.holdings x.page) (memory_of A.images s.point.flat x.page)) after
+
+abbrev pub SpoilsOldest : Inputs → State → List Transfer → List ℕ → List ℕ → Type 0
+SpoilsOldest A s [] image after = ⊥
+SpoilsOldest A s (t ∷ ts) image after = (t.errand ≡ Writes) × SpoilsParts A s t.parts image after
+
+-- a write that fails leaves the swap image as it was but for the blocks of its own pages, or of the u page
+abbrev pub SpoilsImage : Inputs → State → Entry → List ℕ → List ℕ → Type 0
+SpoilsImage A s entries.Done image after = SpoilsOldest A s s.place.transfers image after
+SpoilsImage A s (entries.SwapOut pid) image after = (bytes : List ℕ) × (length bytes ≡ 1024) × (after ≡ store_at image (block_in s.holdings (owners.U pid) 0) bytes)
+SpoilsImage A s _ image after = ⊥
+
+-- any other halt leaves it as it was
+abbrev pub LeavesImage : Stop → Inputs → State → Entry → List ℕ → List ℕ → Type 0
+LeavesImage stops.SwapWriteFault A s u image after = SpoilsImage A s u image after
+LeavesImage _ A s u image after = after ≡ image

@@ -1,0 +1,142 @@
+// A run from its start to its end.
+ghost use Rattle.std.specs.Prelude.{◌≡◌, ◌<◌, ◌≤◌, ◌^◌, ℕ, List, [], length, Some, Err, All, IfOk, IfErr, OnOk};
+ghost use Rattle.flat_state.specs.Flat.{Inputs};
+ghost use Rattle.machine_state.specs.Done.{CountsPages, CountsReads, CountsWrites};
+ghost use Rattle.machine_state.specs.Files.{AreFiles};
+ghost use Rattle.vm_core.specs.Cores.{GoesOn};
+ghost use Rattle.vm_core.specs.Starting.{IsFresh};
+ghost use Rattle.vm_core.specs.Schedules.{HaveFewMoves, TakesLines, StopsLines, FinishesLines};
+ghost use Rattle.vm_core.specs.RunEnds.{stopped_as, IsAskedOf, RunEnds};
+ghost use Rattle.vm_core.specs.declared.schedule.Unfinished.TheVariants.{Stopped};
+
+use crate::events::Went;
+use crate::run::Core;
+use io_edge::{Files, SwapDev};
+use run_start::Started;
+use vm_facts::{Event, Stop};
+
+/// Why a run isn't finished.
+#[derive(Clone, Copy, Debug, PartialEq, Eq, Drop)]
+pub enum Unfinished {
+    /// The swap pieces of this first process find no place.
+    NoSpace(u32),
+    /// The machine stopped.
+    Stopped(Stop),
+}
+
+impl From<Stop> for Unfinished {
+    ghost from_gives = { λ stop e. e ≡ Stopped stop };
+
+    fn from(stop: Stop) -> Unfinished {
+        Unfinished::Stopped(stop)
+    }
+}
+
+// Takes the lines of a schedule, the first one first, until as many instructions are counted as may.
+fn take_lines<F: Files, D: SwapDev>(
+    core: &mut Core,
+    files: &mut F,
+    swap: &mut D,
+    lines: &[Event],
+) -> Result<Went, Stop>
+    requires goes_on { GoesOn core.old }
+    requires below { core.old.counted < core.old.machine.params.limit }
+    requires area { core.old.machine.params.swap_blocks ≤ D.blocks swap.old }
+    requires files { AreFiles core.old.machine.images (F.holds files.old) }
+    requires few { HaveFewMoves lines.now }
+    requires count { length lines.now < 2 ^ 32 }
+    ensures takes { IfOk result (λ went. TakesLines core.old core.new went lines.now (F.holds files.old) (D.image swap.old) (D.image swap.new)) }
+    ensures stops { IfErr result (StopsLines core.old core.new lines.now (F.holds files.old) (D.image swap.old) (D.image swap.new)) }
+    ensures goes_on { OnOk result (GoesOn core.new) }
+    ensures params { OnOk result (core.new.machine.params ≡ core.old.machine.params) }
+    ensures images { OnOk result (core.new.machine.images ≡ core.old.machine.images) }
+    ensures files_lead { F.leads files.old files.new }
+    ensures swap_leads { D.leads swap.old swap.new }
+    ensures holds { F.holds files.new ≡ F.holds files.old }
+    ensures blocks { D.blocks swap.new ≡ D.blocks swap.old }
+    ensures open_faults { F.open_faults files.new ≡ F.open_faults files.old }
+    ensures page_faults { CountsPages result (F.page_faults files.old) (F.page_faults files.new) }
+    ensures read_faults { CountsReads result (D.read_faults swap.old) (D.read_faults swap.new) }
+    ensures write_faults { CountsWrites result (D.write_faults swap.old) (D.write_faults swap.new) }
+{
+    let mut line = 0;
+    for e in lines {
+        line += 1;
+        match core.event(files, swap, line, *e)? {
+            Went::Next => {}
+            Went::LimitReached => return Ok(Went::LimitReached),
+        }
+    }
+    Ok(Went::Next)
+}
+
+// Takes the lines of a schedule and closes the run.
+fn finish<F: Files, D: SwapDev>(
+    core: &mut Core,
+    files: &mut F,
+    swap: &mut D,
+    lines: &[Event],
+) -> Result<(), Stop>
+    requires goes_on { GoesOn core.old }
+    requires below { core.old.counted < core.old.machine.params.limit }
+    requires area { core.old.machine.params.swap_blocks ≤ D.blocks swap.old }
+    requires files { AreFiles core.old.machine.images (F.holds files.old) }
+    requires few { HaveFewMoves lines.now }
+    requires count { length lines.now < 2 ^ 32 }
+    ensures finishes { OnOk result (FinishesLines core.old core.new lines.now (F.holds files.old) (D.image swap.old) (D.image swap.new)) }
+    ensures stops { IfErr result (StopsLines core.old core.new lines.now (F.holds files.old) (D.image swap.old) (D.image swap.new)) }
+    ensures files_lead { F.leads files.old files.new }
+    ensures swap_leads { D.leads swap.old swap.new }
+    ensures holds { F.holds files.new ≡ F.holds files.old }
+    ensures blocks { D.blocks swap.new ≡ D.blocks swap.old }
+    ensures open_faults { F.open_faults files.new ≡ F.open_faults files.old }
+    ensures page_faults { CountsPages result (F.page_faults files.old) (F.page_faults files.new) }
+    ensures read_faults { CountsReads result (D.read_faults swap.old) (D.read_faults swap.new) }
+    ensures write_faults { CountsWrites result (D.write_faults swap.old) (D.write_faults swap.new) }
+{
+    match take_lines(core, files, swap, lines)? {
+        Went::LimitReached => Ok(()),
+        Went::Next => core.close_run(files, swap),
+    }
+}
+
+/// Runs a schedule over a core that was made and had no call yet: the first processes start in images of these numbers,
+/// the lines are taken in order, and then processes have turns, until as many instructions are counted as may or, behind
+/// the last line, none can step. The limit is at least 1.
+pub fn run_schedule<F: Files, D: SwapDev>(
+    core: &mut Core,
+    files: &mut F,
+    swap: &mut D,
+    first: &[u32],
+    lines: &[Event],
+) -> Result<(), Unfinished>
+    requires fresh { IsFresh core.old }
+    requires some { 0 < core.old.machine.params.limit }
+    requires frames { 64 ≤ core.old.machine.params.frames }
+    requires few { length first.now ≤ 16 }
+    requires numbers { All (λ n. (1 ≤ n) × (n ≤ length core.old.machine.images)) first.now }
+    requires moves { HaveFewMoves lines.now }
+    requires count { length lines.now < 2 ^ 32 }
+    requires area { core.old.machine.params.swap_blocks ≤ D.blocks swap.old }
+    requires files { AreFiles core.old.machine.images (F.holds files.old) }
+    ensures ends { (A : Inputs) (image : List ℕ) → IsAskedOf A core.old.machine first.now lines.now (F.holds files.old) image → D.image swap.old ≡ Some image
+        → RunEnds A core.new.machine.kernel.journal image result (D.image swap.new) }
+    ensures none_made { (pid : ℕ) → result ≡ Err (Unfinished.NoSpace pid) → core.new.machine.kernel.journal ≡ [] }
+    ensures untouched { (pid : ℕ) → result ≡ Err (Unfinished.NoSpace pid) → swap.new ≡ swap.old }
+    ensures files_lead { F.leads files.old files.new }
+    ensures swap_leads { D.leads swap.old swap.new }
+    ensures holds { F.holds files.new ≡ F.holds files.old }
+    ensures blocks { D.blocks swap.new ≡ D.blocks swap.old }
+    ensures open_faults { F.open_faults files.new ≡ F.open_faults files.old }
+    ensures page_faults { CountsPages (stopped_as result) (F.page_faults files.old) (F.page_faults files.new) }
+    ensures read_faults { CountsReads (stopped_as result) (D.read_faults swap.old) (D.read_faults swap.new) }
+    ensures write_faults { CountsWrites (stopped_as result) (D.write_faults swap.old) (D.write_faults swap.new) }
+{
+    match core.start(files, swap, first)? {
+        Started::NoSpace(pid) => Err(Unfinished::NoSpace(pid)),
+        Started::Ok => {
+            finish(core, files, swap, lines)?;
+            Ok(())
+        }
+    }
+}
