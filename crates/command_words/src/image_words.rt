@@ -1,5 +1,5 @@
 // Lists of words, and those around an option.
-ghost use Rattle.std.specs.Prelude.{◌≡◌, ◌<◌, ℕ, List, [], ◌++◌, length, map, drop, position, IsTrue, IfSome, IfOk};
+ghost use Rattle.std.specs.Prelude.{◌≡◌, ◌<◌, length, map, drop, position, IsTrue, IfSome, IfOk};
 ghost use Rattle.std.specs.List.{list_all, list_any};
 ghost use Rattle.run_files.specs.ImageWords.{starts};
 ghost use Rattle.command_words.specs.Command.{word_list, AreImageWords};

@@ -1,0 +1,5 @@
+pub mod Openings
+pub mod Inputs
+pub mod Endings
+pub mod Pairs
+pub mod Runs

@@ -1,0 +1,75 @@
+-- What a stop of a run over two devices is said as, and which device failed.
+use Rattle.std.proofs.Common.{◌≡◌, inl, inr, ℕ, List, Option, Some, None, Err, refl, sym, ap, ◌∙◌, subst, arith}
+use Rattle.vm_facts.specs.declared.entry.Entry.{Entry}
+use Rattle.vm_facts.specs.declared.stop.Stop.{Stop}
+use Rattle.vm_facts.specs.declared.stop.Stop.TheVariants as stops
+use Rattle.io_edge.specs.PairFailures.{AddsFailures}
+use Rattle.flat_state.specs.Flat.{Inputs}
+use Rattle.machine_state.specs.Done.{CountsReads, CountsWrites}
+use Rattle.vm_core.specs.declared.schedule.Unfinished.{Unfinished}
+use Rattle.vm_core.specs.declared.schedule.Unfinished.TheVariants as ends
+use Rattle.vm_core.specs.RunEnds.{RunEnds}
+use Rattle.command_ending.specs.declared.fault.Fault.{Fault}
+use Rattle.command_ending.specs.declared.fault.Fault.TheVariants.{FileFault, SwapReadFault, SwapWriteFault, NoMemory, JournalFull, NoSpace}
+use Rattle.run_command.specs.Seen.{DeviceFaults, NoneFailed, DeviceFailed}
+use Rattle.run_command.specs.Paired.{unfinished_by, IsFaultOf, IsRunFault, ReadsFail, WritesFail}
+use Rattle.run_command.proofs.Endings.{full_starves}
+
+pub stopped_ends : (A : Inputs) (es : List Entry) (image : List ℕ) (j : Option (List ℕ)) (stop : Stop) (fault : Fault) → IsFaultOf stop fault → RunEnds A es image (Err (ends.Stopped stop)) j
+    → RunEnds A es image (Err (unfinished_by fault)) j
+stopped_ends A es image j stop fault (inl e) x = subst (λ (u : Unfinished). RunEnds A es image (Err u) j) (sym e) x
+stopped_ends A es image j stop fault (inr (full, lacks)) x =
+    subst (λ (f : Fault). RunEnds A es image (Err (unfinished_by f)) j) (sym lacks)
+    (inr (full_starves A es image j (subst (λ (s : Stop). RunEnds A es image (Err (ends.Stopped s)) j) full x)))
+
+-- while a pair that counted no failed call counts none, no device does
+pub none_failed : (f : DeviceFaults) (old new : ℕ) (before after : Option ℕ) → AddsFailures old new before after f.zero_before f.zero_after f.one_before f.one_after → old ≡ 0 → new ≡ old → NoneFailed f
+none_failed f old new before after a none same = let both = a.still same (omega arith) in record { zero = both.0; one = both.1 }
+
+-- the device that is named failed
+device_failed : (f : DeviceFaults) (old new : ℕ) (before after : Option ℕ) (device : ℕ) → AddsFailures old new before after f.zero_before f.zero_after f.one_before f.one_after → before ≡ None → after ≡ Some device → DeviceFailed device f
+device_failed f old new before after device a none named = elim (a.named device named) [ | inl e ↦ absurd cc | inr rose ↦ rose ]
+
+-- a stop that isn't of a read from swap, or of a write
+stop_of : (stop : Stop) (fault : Fault) (other : Stop) → IsFaultOf stop fault → (stops.JournalFull ≡ other → ⊥) → (unfinished_by fault ≡ ends.Stopped other → ⊥) → stop ≡ other → ⊥
+stop_of stop fault other (inl e) full never same = never (e ∙ ap (λ (s : Stop). ends.Stopped s) same)
+stop_of stop fault other (inr (is, lacks)) full never same = full (sym is ∙ same)
+
+reads_stay : (stop : Stop) (old new : ℕ) → (stop ≡ stops.SwapReadFault → ⊥) → CountsReads {A = Unit {0}} (Err stop) old new → new ≡ old
+reads_stay stops.SwapReadFault old new other c = absurd (other refl)
+reads_stay stops.NoMemory old new other c = c
+reads_stay stops.JournalFull old new other c = c
+reads_stay stops.FileFault old new other c = c
+reads_stay stops.SwapWriteFault old new other c = c
+
+writes_stay : (stop : Stop) (old new : ℕ) → (stop ≡ stops.SwapWriteFault → ⊥) → CountsWrites {A = Unit {0}} (Err stop) old new → new ≡ old
+writes_stay stops.SwapWriteFault old new other c = absurd (other refl)
+writes_stay stops.NoMemory old new other c = c
+writes_stay stops.JournalFull old new other c = c
+writes_stay stops.FileFault old new other c = c
+writes_stay stops.SwapReadFault old new other c = c
+
+module _ (f : DeviceFaults) (old new : ℕ) (before after : Option ℕ) (a : AddsFailures old new before after f.zero_before f.zero_after f.one_before f.one_after) (zero : old ≡ 0) (none : before ≡ None) (stop : Stop) where
+  reads_none : (fault : Fault) → CountsReads {A = Unit {0}} (Err stop) old new → IsFaultOf stop fault → (unfinished_by fault ≡ ends.Stopped stops.SwapReadFault → ⊥) → NoneFailed f
+  reads_none fault c is never = none_failed f old new before after a zero (reads_stay stop old new (stop_of stop fault stops.SwapReadFault is (λ e. cc) never) c)
+
+  writes_none : (fault : Fault) → CountsWrites {A = Unit {0}} (Err stop) old new → IsFaultOf stop fault → (unfinished_by fault ≡ ends.Stopped stops.SwapWriteFault → ⊥) → NoneFailed f
+  writes_none fault c is never = none_failed f old new before after a zero (writes_stay stop old new (stop_of stop fault stops.SwapWriteFault is (λ e. cc) never) c)
+
+  pub reads_fail : (fault : Fault) → CountsReads {A = Unit {0}} (Err stop) old new → IsFaultOf stop fault → IsRunFault fault → ((device : ℕ) → fault ≡ SwapReadFault device → after ≡ Some device) → ReadsFail (Err fault) f
+  reads_fail (SwapReadFault device) c is kind named = device_failed f old new before after device a none (named device refl)
+  reads_fail FileFault c is kind named = reads_none FileFault c is (λ e. cc)
+  reads_fail (SwapWriteFault device) c is kind named = reads_none (SwapWriteFault device) c is (λ e. cc)
+  reads_fail NoMemory c is kind named = reads_none NoMemory c is (λ e. cc)
+  reads_fail JournalFull c is kind named = reads_none JournalFull c is (λ e. cc)
+  reads_fail (NoSpace pid) c is kind named = reads_none (NoSpace pid) c is (λ e. cc)
+  reads_fail _ c is kind named = absurd kind
+
+  pub writes_fail : (fault : Fault) → CountsWrites {A = Unit {0}} (Err stop) old new → IsFaultOf stop fault → IsRunFault fault → ((device : ℕ) → fault ≡ SwapWriteFault device → after ≡ Some device) → WritesFail (Err fault) f
+  writes_fail (SwapWriteFault device) c is kind named = device_failed f old new before after device a none (named device refl)
+  writes_fail FileFault c is kind named = writes_none FileFault c is (λ e. cc)
+  writes_fail (SwapReadFault device) c is kind named = writes_none (SwapReadFault device) c is (λ e. cc)
+  writes_fail NoMemory c is kind named = writes_none NoMemory c is (λ e. cc)
+  writes_fail JournalFull c is kind named = writes_none JournalFull c is (λ e. cc)
+  writes_fail (NoSpace pid) c is kind named = writes_none (NoSpace pid) c is (λ e. cc)
+  writes_fail _ c is kind named = absurd kind

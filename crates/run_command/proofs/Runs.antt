@@ -1,0 +1,222 @@
+-- What a command did, from what its opening and its run say.
+use Rattle.std.proofs.Common.{◌≡◌, inl, inr, ℕ, ◌*◌, ◌≤◌, nat_lt, Bool, true, false, List, [], length, map, Option, Some, None, Result, Ok, Err, if◌then◌else◌, refl, sym, ap, ◌∙◌, subst, arith}
+use Rattle.std.specs.Prelude.{IfOk, IfErr}
+use Rattle.std.proofs.lemmas.Bool.Decides.{nat_tests}
+use Rattle.vm_facts.specs.declared.entry.Entry.{Entry}
+use Rattle.io_edge.specs.FileHolding.{NamedFile}
+use Rattle.io_edge.specs.Striping.{zero_needs, one_needs, most_blocks, MeetsNeeds, pair_blocks}
+use Rattle.io_edge.specs.StripeSizes.{tell_blocks, pair_whole}
+use Rattle.io_edge.proofs.Stripes.{largest_swap}
+use Rattle.aout_image.specs.declared.Image.{Image}
+use Rattle.flat_state.specs.Flat.{Inputs}
+use Rattle.machine_state.specs.Applying.{facts_named}
+use Rattle.machine_state.specs.Done.{CountsPages}
+use Rattle.machine_state.specs.Machine.{Standing}
+use Rattle.machine_state.specs.New.{fresh_kernel}
+use Rattle.machine_state.specs.Sourced.{ImageNamed}
+use Rattle.vm_core.specs.RunEnds.{stopped_as}
+use Rattle.command_ending.specs.declared.fault.Fault.{Fault}
+use Rattle.command_ending.specs.declared.fault.Fault.TheVariants.{Absent, NotImage, BadSchedule, FileFault, SwapReadFault, SwapWriteFault, NoMemory, JournalFull, NoSpace, ShortDevice}
+use Rattle.command_ending.specs.Command.{Made}
+use Rattle.command_words.specs.declared.command.Numbers.{Numbers}
+use Rattle.command_words.specs.Command.{AreAllowed}
+use Rattle.run_opening.specs.declared.images.OpenedImage.{OpenedImage}
+use Rattle.run_opening.specs.declared.opening.Opening.{Opening}
+use Rattle.run_opening.specs.Devices.{device_fault}
+use Rattle.run_opening.specs.Opening.{FoundFiles, found_told, EndsOpening, CountsAt}
+use Rattle.run_command.specs.Asking.{Request}
+use Rattle.run_command.specs.Naming.{shown_as}
+use Rattle.run_command.specs.Machines.{params_of, machine_of, IsOfOpening}
+use Rattle.run_command.specs.Seen.{Seen, NoneFailed}
+use Rattle.run_command.specs.Paired.{image_together, unfinished_of, IsRunFault, ReadsFail, WritesFail}
+use Rattle.run_command.specs.Ends.{Ending, NothingDone, Unbegun, RunCaused, IsCaused, AllGood, IsJudged, RunEnded, RunOfWords, EndsTold, WritesSome, RunsOpened, Runs}
+use Rattle.run_command.proofs.Openings.{shown_facts}
+use Rattle.run_command.proofs.Inputs.{KnownOpening, inputs_of, asks_for, is_asked_of}
+use Rattle.run_command.proofs.Endings.{lost_ended}
+
+-- The machine of what was opened.
+
+pub fresh_machine : (numbers : Numbers) (facts : List Image) (shown : List ImageNamed) (images : List OpenedImage) → facts ≡ map (λ (o : OpenedImage). o.facts) images → shown ≡ map shown_as images
+    → (let m : Standing = record { kernel = fresh_kernel facts numbers.frames; params = params_of numbers; images = shown; before = []; room = None } in m) ≡ machine_of numbers (map shown_as images)
+fresh_machine numbers facts shown images same_facts same_images =
+    ap (λ (fs : List Image). let m : Standing = record { kernel = fresh_kernel fs numbers.frames; params = params_of numbers; images = shown; before = []; room = None } in m) (same_facts ∙ sym (shown_facts images))
+    ∙ ap (λ (ns : List ImageNamed). let m : Standing = record { kernel = fresh_kernel (facts_named (map shown_as images)) numbers.frames; params = params_of numbers; images = ns; before = []; room = None } in m) same_images
+
+pub if_ok : {T E : Type 0} (r : Result T E) (P Q : T → Type 0) → ((x : T) → P x → Q x) → IfOk r P → IfOk r Q
+if_ok (Ok x) P Q f p = f x p
+if_ok (Err e) P Q f p = tt
+
+-- The devices.
+
+pub needs_met : (swap zero_size one_size : ℕ) → device_fault swap zero_size one_size ≡ None → MeetsNeeds zero_size one_size swap
+needs_met swap zero_size one_size none = go (nat_lt zero_size (zero_needs swap)) (nat_lt one_size (one_needs swap)) refl refl none
+  where
+    go : (a b : Bool) → nat_lt zero_size (zero_needs swap) ≡ a → nat_lt one_size (one_needs swap) ≡ b
+        → (if a then Some (ShortDevice 0 zero_size (zero_needs swap)) else (if b then Some (ShortDevice 1 one_size (one_needs swap)) else None)) ≡ None → MeetsNeeds zero_size one_size swap
+    go true b short fits e = absurd cc
+    go false true fits short e = absurd cc
+    go false false zero_fits one_fits e = (grind (arith, nat_tests), grind (arith, nat_tests))
+
+pub room_told : (zero_size one_size swap : ℕ) (zero one : Option (List ℕ)) (image : List ℕ) → ((bytes : List ℕ) → zero ≡ Some bytes → length bytes ≡ 512 * zero_size) → ((bytes : List ℕ) → one ≡ Some bytes → length bytes ≡ 512 * one_size)
+    → MeetsNeeds zero_size one_size swap → swap ≤ most_blocks → image_together zero_size one_size zero one ≡ Some image → 512 * swap ≤ length image
+room_told zero_size one_size swap zero one image zero_whole one_whole meets most told =
+    let long = pair_whole (pair_blocks zero_size one_size) zero one image (tell_blocks zero_size one_size zero one zero_whole one_whole) told in
+    let fits = (largest_swap zero_size one_size).2 swap most meets in
+    omega (arith, long, fits)
+
+-- Why a run that was opened isn't finished.
+
+pub run_caused : (seen : Seen) (es : List Entry) (r : Ending) → IfErr r IsRunFault → seen.faults.open_after ≡ seen.faults.open_before → CountsPages (stopped_as (unfinished_of r)) seen.faults.page_before seen.faults.page_after
+    → ReadsFail r seen.reads → WritesFail r seen.writes → ((pid : ℕ) → r ≡ Err (NoSpace pid) → es ≡ []) → ((pid : ℕ) → r ≡ Err (NoSpace pid) → seen.swap_after ≡ seen.swap_before) → RunCaused seen es r
+run_caused seen es (Ok done) kind opens pages reads writes none same = record { files = record { open_same = opens; page_same = pages }; reads = reads; writes = writes }
+run_caused seen es (Err FileFault) kind opens pages reads writes none same = (opens, pages)
+run_caused seen es (Err (SwapReadFault device)) kind opens pages reads writes none same = reads
+run_caused seen es (Err (SwapWriteFault device)) kind opens pages reads writes none same = writes
+run_caused seen es (Err JournalFull) kind opens pages reads writes none same = record { files = record { open_same = opens; page_same = pages }; reads = reads; writes = writes }
+run_caused seen es (Err NoMemory) kind opens pages reads writes none same = tt
+run_caused seen es (Err (NoSpace pid)) kind opens pages reads writes none same = record {
+  nothing = record { journal_is = none pid refl; swap = same pid refl; reads = reads; writes = writes };
+  files = record { open_same = opens; page_same = pages };
+}
+run_caused seen es (Err _) kind opens pages reads writes none same = absurd kind
+
+-- A run over a machine, as it was written.
+
+pub opened_runs : (IsOf : Inputs → List ℕ → Type 0) (traced : Bool) (seen : Seen) (es : List Entry) (r : Ending) (status : ℕ)
+    → WritesSome traced es r seen.written_before seen.written_after seen.sink_faults_before seen.sink_faults_after status → RunCaused seen es r → IfErr r IsRunFault
+    → ((A : Inputs) (image : List ℕ) → IsOf A image → seen.swap_before ≡ Some image → RunEnded A es image seen.swap_after r) → RunsOpened IsOf traced seen status
+opened_runs IsOf traced seen es r status (inl writes) caused kind ended = record { ending = r; journal = es; writes = writes; caused = caused; ended = ended }
+opened_runs IsOf traced seen es r status (inr (lost, writes)) caused kind ended = record {
+  ending = Err NoMemory;
+  journal = es;
+  writes = writes;
+  caused = tt;
+  ended = λ A image is told. lost_ended A es image seen.swap_after r kind lost (ended A image is told);
+}
+
+pub opened_lacking : (IsOf : Inputs → List ℕ → Type 0) (traced : Bool) (seen : Seen) (status : ℕ) → WritesSome traced [] (Err NoMemory) seen.written_before seen.written_after seen.sink_faults_before seen.sink_faults_after status
+    → seen.swap_after ≡ seen.swap_before → RunsOpened IsOf traced seen status
+opened_lacking IsOf traced seen status (inl writes) same = record { ending = Err NoMemory; journal = []; writes = writes; caused = tt; ended = λ A image is told. inl (refl, same ∙ told) }
+opened_lacking IsOf traced seen status (inr (lost, writes)) same = absurd lost
+
+-- The same for the words.
+
+caused_so : (request : Request) (seen : Seen) (es : List Entry) (r : Ending) → RunCaused seen es r → IsCaused request seen es r
+caused_so request seen es (Ok done) c = c
+caused_so request seen es (Err FileFault) c = inr c
+caused_so request seen es (Err (SwapReadFault device)) c = c
+caused_so request seen es (Err (SwapWriteFault device)) c = c
+caused_so request seen es (Err JournalFull) c = c
+caused_so request seen es (Err NoMemory) c = c
+caused_so request seen es (Err (NoSpace pid)) c = c
+caused_so request seen es (Err _) c = absurd c
+
+judged_good : (request : Request) (seen : Seen) (files : List NamedFile) (es : List Entry) (r : Ending) → RunCaused seen es r → AllGood request seen files → IsJudged request seen files r
+judged_good request seen files es (Ok done) c good = good
+judged_good request seen files es (Err FileFault) c good = inr good
+judged_good request seen files es (Err (SwapReadFault device)) c good = good
+judged_good request seen files es (Err (SwapWriteFault device)) c good = good
+judged_good request seen files es (Err JournalFull) c good = good
+judged_good request seen files es (Err NoMemory) c good = tt
+judged_good request seen files es (Err (NoSpace pid)) c good = good
+judged_good request seen files es (Err _) c good = absurd c
+
+told_so : (request : Request) (seen : Seen) (files : List NamedFile) (es : List Entry) (image : List ℕ) (after : Option (List ℕ)) (r : Ending) → RunCaused seen es r → RunOfWords request files es image after r
+    → EndsTold request files es image after r
+told_so request seen files es image after (Ok done) c x = x
+told_so request seen files es image after (Err FileFault) c x = inr x
+told_so request seen files es image after (Err (SwapReadFault device)) c x = x
+told_so request seen files es image after (Err (SwapWriteFault device)) c x = x
+told_so request seen files es image after (Err JournalFull) c x = x
+told_so request seen files es image after (Err NoMemory) c x = inr x
+told_so request seen files es image after (Err (NoSpace pid)) c x = x
+told_so request seen files es image after (Err _) c x = absurd c
+
+pub opened_words : (request : Request) (seen : Seen) (opening : Opening) (status : ℕ) → RunsOpened (IsOfOpening request.numbers opening seen.files) request.traced seen status → AreAllowed request.numbers
+    → ((files : List NamedFile) → seen.files ≡ Some files → AllGood request seen files) → ((files : List NamedFile) → seen.files ≡ Some files → KnownOpening request files opening)
+    → ((image : List ℕ) → seen.swap_before ≡ Some image → 512 * request.numbers.swap ≤ length image) → Runs request seen status
+opened_words request seen opening status x allowed good known room = record {
+  ending = x.ending;
+  journal = x.journal;
+  writes = x.writes;
+  caused = caused_so request seen x.journal x.ending x.caused;
+  judged = λ files told. judged_good request seen files x.journal x.ending x.caused (good files told);
+  told = λ files image told octets swap.
+      told_so request seen files x.journal image seen.swap_after x.ending x.caused (record {
+        inputs = inputs_of request files opening;
+        asks = asks_for request files opening (known files told);
+        ended = x.ended (inputs_of request files opening) image (is_asked_of request files opening (known files told) allowed image seen.files told octets (room image swap)) swap;
+      });
+}
+
+-- What was not opened.
+
+abbrev pub OpeningOf : Request → Seen → FoundFiles → Fault → Type 0
+OpeningOf request seen found fault =
+    EndsOpening request.schedule request.words request.numbers.swap seen.zero_blocks seen.one_blocks found seen.faults (let r : Result Opening Fault = Err fault in r)
+
+pub lacking_runs : (request : Request) (seen : Seen) (status : ℕ) → WritesSome request.traced [] (Err NoMemory) seen.written_before seen.written_after seen.sink_faults_before seen.sink_faults_after status
+    → seen.swap_after ≡ seen.swap_before → Runs request seen status
+lacking_runs request seen status (inl writes) same = record {
+  ending = Err NoMemory;
+  journal = [];
+  writes = writes;
+  caused = tt;
+  judged = λ files told. tt;
+  told = λ files image told octets swap. inl (refl, same ∙ swap);
+}
+lacking_runs request seen status (inr (lost, writes)) same = absurd lost
+
+module _ (request : Request) (seen : Seen) (same : seen.swap_after ≡ seen.swap_before) (reads : NoneFailed seen.reads) (writes : NoneFailed seen.writes) (pages : seen.faults.page_after ≡ seen.faults.page_before) where
+  nothing : NothingDone seen []
+  nothing = record { journal_is = refl; swap = same; reads = reads; writes = writes }
+
+  unbegun : seen.faults.open_after ≡ seen.faults.open_before → Unbegun seen []
+  unbegun opens = record { nothing = nothing; files = record { open_same = opens; page_same = pages } }
+
+  unopened_caused : (fault : Fault) (found : FoundFiles) → OpeningOf request seen found fault → CountsAt fault seen.faults.open_before seen.faults.open_after → IsCaused request seen [] (Err fault)
+  unopened_caused (Absent name) found ends opens = unbegun opens
+  unopened_caused (NotImage name reason) found ends opens = unbegun opens
+  unopened_caused (BadSchedule line) found ends opens = unbegun opens
+  unopened_caused (ShortDevice device blocks needed) found ends opens = (unbegun opens, ends.1)
+  unopened_caused FileFault found ends opens = inl (ends, nothing)
+  unopened_caused NoMemory found ends opens = tt
+  unopened_caused _ found ends opens = absurd ends
+
+  unopened_judged : (fault : Fault) (found : FoundFiles) (files : List NamedFile) → OpeningOf request seen found fault → found ≡ found_told request.schedule request.words files → IsJudged request seen files (Err fault)
+  unopened_judged (Absent name) found files ends is = subst (λ (x : FoundFiles). OpeningOf request seen x (Absent name)) is ends
+  unopened_judged (NotImage name reason) found files ends is = subst (λ (x : FoundFiles). OpeningOf request seen x (NotImage name reason)) is ends
+  unopened_judged (BadSchedule line) found files ends is = subst (λ (x : FoundFiles). OpeningOf request seen x (BadSchedule line)) is ends
+  unopened_judged (ShortDevice device blocks needed) found files ends is = subst (λ (x : FoundFiles). OpeningOf request seen x (ShortDevice device blocks needed)) is ends
+  unopened_judged FileFault found files ends is = inl ends
+  unopened_judged NoMemory found files ends is = tt
+  unopened_judged _ found files ends is = absurd ends
+
+  unopened_told : (fault : Fault) (found : FoundFiles) (files : List NamedFile) (image : List ℕ) → OpeningOf request seen found fault → seen.swap_before ≡ Some image → EndsTold request files [] image seen.swap_after (Err fault)
+  unopened_told (Absent name) found files image ends swap = (refl, same ∙ swap)
+  unopened_told (NotImage name reason) found files image ends swap = (refl, same ∙ swap)
+  unopened_told (BadSchedule line) found files image ends swap = (refl, same ∙ swap)
+  unopened_told (ShortDevice device blocks needed) found files image ends swap = (refl, same ∙ swap)
+  unopened_told FileFault found files image ends swap = inl (refl, same ∙ swap)
+  unopened_told NoMemory found files image ends swap = inl (refl, same ∙ swap)
+  unopened_told _ found files image ends swap = absurd ends
+
+  pub unopened_runs : (fault : Fault) (status : ℕ) → WritesSome request.traced [] (Err fault) seen.written_before seen.written_after seen.sink_faults_before seen.sink_faults_after status
+      → (made : Made (EndsOpening request.schedule request.words request.numbers.swap seen.zero_blocks seen.one_blocks) (found_told request.schedule request.words) seen.files seen.faults (let r : Result Opening Fault = Err fault in r))
+      → CountsAt fault seen.faults.open_before seen.faults.open_after → Runs request seen status
+  unopened_runs fault status (inl w) made opens = record {
+    ending = Err fault;
+    journal = [];
+    writes = w;
+    caused = unopened_caused fault made.read made.ends opens;
+    judged = λ files told. unopened_judged fault made.read files made.ends (made.is_told files told);
+    told = λ files image told octets swap. unopened_told fault made.read files image made.ends swap;
+  }
+  unopened_runs fault status (inr (lost, w)) made opens = record {
+    ending = Err NoMemory;
+    journal = [];
+    writes = w;
+    caused = tt;
+    judged = λ files told. tt;
+    told = λ files image told octets swap. inl (refl, same ∙ swap);
+  }

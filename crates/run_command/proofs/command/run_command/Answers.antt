@@ -1,0 +1,30 @@
+use Rattle.std.proofs.Common.{Bor, List, ℕ, map, refl}
+use Rattle.command_words.specs.Command.{word_list}
+use Rattle.run_command.specs.Asking.{Request}
+use Rattle.run_command.specs.Seen.{Seen}
+use Rattle.run_command.specs.Paired.{image_together}
+use Rattle.run_command.proofs.Runs.{lacking_runs}
+use Rattle.run_command.proofs.command.run_command.Goals as goal
+
+pub returns-in-Err : goal.returns-in-Err
+returns-in-Err g c =
+    let files = c.args.files.now in
+    let zero = c.args.zero.now in
+    let one = c.args.one.now in
+    let image = image_together (g.D.SwapDev.blocks zero) (g.E.SwapDev.blocks one) (g.D.SwapDev.image zero) (g.E.SwapDev.image one) in
+    let request : Request = record { traced = c.args.traced; numbers = c.args.numbers; schedule = c.args.schedule.now; words = map (λ (word : Bor (List ℕ)). word.now) (word_list c.args.images) } in
+    let seen : Seen = record {
+      files = g.F.Files.holds files;
+      faults = record { open_before = g.F.Files.open_faults files; open_after = g.F.Files.open_faults files; page_before = g.F.Files.page_faults files; page_after = g.F.Files.page_faults files };
+      zero_blocks = g.D.SwapDev.blocks zero;
+      one_blocks = g.E.SwapDev.blocks one;
+      swap_before = image;
+      swap_after = image;
+      reads = record { zero_before = g.D.SwapDev.read_faults zero; zero_after = g.D.SwapDev.read_faults zero; one_before = g.E.SwapDev.read_faults one; one_after = g.E.SwapDev.read_faults one };
+      writes = record { zero_before = g.D.SwapDev.write_faults zero; zero_after = g.D.SwapDev.write_faults zero; one_before = g.E.SwapDev.write_faults one; one_after = g.E.SwapDev.write_faults one };
+      written_before = g.S.Sink.written c.args.sink.now;
+      written_after = g.S.Sink.written c.write_run.new.sink;
+      sink_faults_before = g.S.Sink.faults c.args.sink.now;
+      sink_faults_after = g.S.Sink.faults c.write_run.new.sink;
+    } in
+    record { runs = lacking_runs request seen c.write_run.result c.write_run.ensures refl }

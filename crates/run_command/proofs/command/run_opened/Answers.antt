@@ -1,0 +1,75 @@
+use Rattle.std.proofs.Common.{List, ℕ, map, refl, sym, ap, ◌∙◌, subst}
+use Rattle.vm_facts.specs.declared.entry.Entry.{Entry}
+use Rattle.vm_facts.specs.declared.event.Event.{Event}
+use Rattle.machine_state.specs.Machine.{Standing}
+use Rattle.vm_core.specs.RunEnds.{IsAskedOf}
+use Rattle.run_opening.specs.declared.images.OpenedImage.{OpenedImage}
+use Rattle.run_command.specs.Seen.{Seen}
+use Rattle.run_command.specs.Naming.{shown_as}
+use Rattle.run_command.specs.Machines.{machine_of, IsOfOpening}
+use Rattle.run_command.specs.Paired.{image_together}
+use Rattle.run_command.specs.Ends.{RunCaused, WritesSome}
+use Rattle.run_command.proofs.Endings.{run_ended}
+use Rattle.run_command.proofs.Runs.{run_caused, opened_runs, opened_lacking}
+use Rattle.run_command.proofs.command.run_opened.Goals as goal
+
+pub returns-in_default : goal.returns-in_default
+returns-in_default g c =
+    let files = c.args.files.now in
+    let zero = c.args.zero.now in
+    let one = c.args.one.now in
+    let image = image_together (g.D.SwapDev.blocks zero) (g.E.SwapDev.blocks one) (g.D.SwapDev.image zero) (g.E.SwapDev.image one) in
+    let seen : Seen = record {
+      files = g.F.Files.holds files;
+      faults = record { open_before = g.F.Files.open_faults files; open_after = g.F.Files.open_faults files; page_before = g.F.Files.page_faults files; page_after = g.F.Files.page_faults files };
+      zero_blocks = g.D.SwapDev.blocks zero;
+      one_blocks = g.E.SwapDev.blocks one;
+      swap_before = image;
+      swap_after = image;
+      reads = record { zero_before = g.D.SwapDev.read_faults zero; zero_after = g.D.SwapDev.read_faults zero; one_before = g.E.SwapDev.read_faults one; one_after = g.E.SwapDev.read_faults one };
+      writes = record { zero_before = g.D.SwapDev.write_faults zero; zero_after = g.D.SwapDev.write_faults zero; one_before = g.E.SwapDev.write_faults one; one_after = g.E.SwapDev.write_faults one };
+      written_before = g.S.Sink.written c.args.sink.now;
+      written_after = g.S.Sink.written c.write_run.new.sink;
+      sink_faults_before = g.S.Sink.faults c.args.sink.now;
+      sink_faults_after = g.S.Sink.faults c.write_run.new.sink;
+    } in
+    record { runs = opened_lacking (IsOfOpening c.args.numbers c.args.opening.now (g.F.Files.holds files)) c.args.traced seen c.write_run.result c.write_run.ensures refl }
+
+pub returns : goal.returns
+returns g c =
+    let files = c.args.files.now in
+    let after = c.run_paired-ending.new.files in
+    let zero = c.args.zero.now in
+    let one = c.args.one.now in
+    let zero_after = c.run_paired-ending.new.zero in
+    let one_after = c.run_paired-ending.new.one in
+    let ran = c.run_paired-ending.ensures in
+    let r = c.run_paired-ending.result in
+    let es = c.run_paired-ending.new.core.machine.kernel.journal in
+    let seen : Seen = record {
+      files = g.F.Files.holds files;
+      faults = record { open_before = g.F.Files.open_faults files; open_after = g.F.Files.open_faults after; page_before = g.F.Files.page_faults files; page_after = g.F.Files.page_faults after };
+      zero_blocks = g.D.SwapDev.blocks zero;
+      one_blocks = g.E.SwapDev.blocks one;
+      swap_before = image_together (g.D.SwapDev.blocks zero) (g.E.SwapDev.blocks one) (g.D.SwapDev.image zero) (g.E.SwapDev.image one);
+      swap_after = image_together (g.D.SwapDev.blocks zero_after) (g.E.SwapDev.blocks one_after) (g.D.SwapDev.image zero_after) (g.E.SwapDev.image one_after);
+      reads = record { zero_before = g.D.SwapDev.read_faults zero; zero_after = g.D.SwapDev.read_faults zero_after; one_before = g.E.SwapDev.read_faults one; one_after = g.E.SwapDev.read_faults one_after };
+      writes = record { zero_before = g.D.SwapDev.write_faults zero; zero_after = g.D.SwapDev.write_faults zero_after; one_before = g.E.SwapDev.write_faults one; one_after = g.E.SwapDev.write_faults one_after };
+      written_before = g.S.Sink.written c.args.sink.now;
+      written_after = g.S.Sink.written c.write_run-status.new.sink;
+      sink_faults_before = g.S.Sink.faults c.args.sink.now;
+      sink_faults_after = g.S.Sink.faults c.write_run-status.new.sink;
+    } in
+    let written : WritesSome c.args.traced es r seen.written_before seen.written_after seen.sink_faults_before seen.sink_faults_after c.write_run-status.result
+    = subst (λ (entries : List Entry). WritesSome c.args.traced entries r seen.written_before seen.written_after seen.sink_faults_before seen.sink_faults_after c.write_run-status.result) c.journal.ensures c.write_run-status.ensures in
+    let machine = c.in-Ok.ensures.machine ∙ ap (λ (images : List OpenedImage). machine_of c.args.numbers (map shown_as images)) c.as_slice.ensures.value in
+    let caused : RunCaused seen es r = run_caused seen es r ran.kind ran.open_faults ran.page_faults ran.reads ran.writes ran.none_made ran.untouched in
+    record {
+      runs = opened_runs (IsOfOpening c.args.numbers c.args.opening.now (g.F.Files.holds files)) c.args.traced seen es r c.write_run-status.result written caused ran.kind
+          (λ A image is told.
+          run_ended A es image seen.swap_after r ran.kind ran.full
+          (ran.ends A image
+          (subst (λ (lines : List Event). IsAskedOf A c.in-Ok.core.machine c.as_slice-2.result.now lines (g.F.Files.holds files) image) (sym c.as_slice-3.ensures.value)
+          (subst (λ (first : List ℕ). IsAskedOf A c.in-Ok.core.machine first c.args.opening.now.lines.items (g.F.Files.holds files) image) (sym c.as_slice-2.ensures.value)
+          (subst (λ (m : Standing). IsAskedOf A m c.args.opening.now.first.items c.args.opening.now.lines.items (g.F.Files.holds files) image) (sym machine) is))) told));
+    }

@@ -1,0 +1,75 @@
+use Rattle.std.proofs.Common.{Err, sym, ◌∙◌, subst}
+use Rattle.machine_state.specs.Done.{CountsReads, CountsWrites}
+use Rattle.vm_core.specs.declared.schedule.Unfinished.{Unfinished}
+use Rattle.vm_core.specs.RunEnds.{stopped_as, RunEnds}
+use Rattle.run_command.specs.Seen.{DeviceFaults}
+use Rattle.run_command.specs.Paired.{image_together}
+use Rattle.run_command.proofs.Pairs.{stopped_ends, none_failed, reads_fail, writes_fail}
+use Rattle.run_command.proofs.paired.run_over.Goals as goal
+
+pub returns-in-Ok-clause-reads : goal.returns-in-Ok-clause-reads
+returns-in-Ok-clause-reads g c =
+    let old = c.args.pair.now in
+    let new = c.run_schedule.new.swap in
+    let f : DeviceFaults = record {
+      zero_before = g.D.SwapDev.read_faults old.zero.now;
+      zero_after = g.D.SwapDev.read_faults new.zero.now;
+      one_before = g.E.SwapDev.read_faults old.one.now;
+      one_after = g.E.SwapDev.read_faults new.one.now;
+    } in
+    none_failed f old.reads.count new.reads.count old.reads.last new.reads.last c.run_schedule.ensures.swap_leads.4 c.requires.no_reads c.in-Ok.ensures.read_faults
+
+pub returns-in-Ok-clause-writes : goal.returns-in-Ok-clause-writes
+returns-in-Ok-clause-writes g c =
+    let old = c.args.pair.now in
+    let new = c.run_schedule.new.swap in
+    let f : DeviceFaults = record {
+      zero_before = g.D.SwapDev.write_faults old.zero.now;
+      zero_after = g.D.SwapDev.write_faults new.zero.now;
+      one_before = g.E.SwapDev.write_faults old.one.now;
+      one_after = g.E.SwapDev.write_faults new.one.now;
+    } in
+    none_failed f old.writes.count new.writes.count old.writes.last new.writes.last c.run_schedule.ensures.swap_leads.5 c.requires.no_writes c.in-Ok.ensures.write_faults
+
+pub returns-in-Err-NoSpace-clause-ends : goal.returns-in-Err-NoSpace-clause-ends
+returns-in-Err-NoSpace-clause-ends g c A image is told =
+    let new = c.run_schedule.new.swap in
+    let after = image_together (g.D.SwapDev.blocks new.zero.now) (g.E.SwapDev.blocks new.one.now) (g.D.SwapDev.image new.zero.now) (g.E.SwapDev.image new.one.now) in
+    subst (λ (u : Unfinished). RunEnds A c.run_schedule.new.core.machine.kernel.journal image (Err u) after) c.in-Err-NoSpace.field-0-is (c.in-Err-NoSpace.ensures.ends A image is told)
+
+pub returns-in-Err-Stopped-clause-ends : goal.returns-in-Err-Stopped-clause-ends
+returns-in-Err-Stopped-clause-ends g c A image is told =
+    let new = c.run_schedule.new.swap in
+    let after = image_together (g.D.SwapDev.blocks new.zero.now) (g.E.SwapDev.blocks new.one.now) (g.D.SwapDev.image new.zero.now) (g.E.SwapDev.image new.one.now) in
+    stopped_ends A c.run_schedule.new.core.machine.kernel.journal image after c.in-Err-Stopped.stop c.fault_of.result c.fault_of.ensures.unfinished
+    (subst (λ (u : Unfinished). RunEnds A c.run_schedule.new.core.machine.kernel.journal image (Err u) after) c.in-Err-Stopped.field-0-is (c.in-Err-Stopped.ensures.ends A image is told))
+
+pub returns-in-Err-Stopped-clause-reads : goal.returns-in-Err-Stopped-clause-reads
+returns-in-Err-Stopped-clause-reads g c =
+    let old = c.args.pair.now in
+    let new = c.run_schedule.new.swap in
+    let f : DeviceFaults = record {
+      zero_before = g.D.SwapDev.read_faults old.zero.now;
+      zero_after = g.D.SwapDev.read_faults new.zero.now;
+      one_before = g.E.SwapDev.read_faults old.one.now;
+      one_after = g.E.SwapDev.read_faults new.one.now;
+    } in
+    reads_fail f old.reads.count new.reads.count old.reads.last new.reads.last c.run_schedule.ensures.swap_leads.4 c.requires.no_reads c.requires.no_read
+    c.in-Err-Stopped.stop c.fault_of.result
+    (subst (λ (u : Unfinished). CountsReads {A = Unit {0}} (stopped_as (Err u)) old.reads.count new.reads.count) c.in-Err-Stopped.field-0-is c.in-Err-Stopped.ensures.read_faults) c.fault_of.ensures.unfinished c.fault_of.ensures.kind
+    (λ device e. sym c.failed_read.ensures.device ∙ c.fault_of.ensures.read_device device e)
+
+pub returns-in-Err-Stopped-clause-writes : goal.returns-in-Err-Stopped-clause-writes
+returns-in-Err-Stopped-clause-writes g c =
+    let old = c.args.pair.now in
+    let new = c.run_schedule.new.swap in
+    let f : DeviceFaults = record {
+      zero_before = g.D.SwapDev.write_faults old.zero.now;
+      zero_after = g.D.SwapDev.write_faults new.zero.now;
+      one_before = g.E.SwapDev.write_faults old.one.now;
+      one_after = g.E.SwapDev.write_faults new.one.now;
+    } in
+    writes_fail f old.writes.count new.writes.count old.writes.last new.writes.last c.run_schedule.ensures.swap_leads.5 c.requires.no_writes c.requires.no_write
+    c.in-Err-Stopped.stop c.fault_of.result
+    (subst (λ (u : Unfinished). CountsWrites {A = Unit {0}} (stopped_as (Err u)) old.writes.count new.writes.count) c.in-Err-Stopped.field-0-is c.in-Err-Stopped.ensures.write_faults) c.fault_of.ensures.unfinished c.fault_of.ensures.kind
+    (λ device e. sym c.failed_write.ensures.device ∙ c.fault_of.ensures.write_device device e)

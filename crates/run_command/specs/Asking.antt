@@ -1,0 +1,35 @@
+-- What the words of a run ask for, and the inputs that it has where the files are told.
+use Rattle.std.specs.Prelude.{◌≡◌, ℕ, Bool, List, [], ◌∷◌, Ok}
+use Rattle.io_edge.specs.FileHolding.{NamedFile}
+use Rattle.vax_code.specs.Grammar.{AreOctets}
+use Rattle.flat_state.specs.Flat.{Inputs}
+use Rattle.run_files.specs.ImageWords.{image_names, first_images}
+use Rattle.command_words.specs.declared.command.Numbers.{Numbers}
+use Rattle.run_opening.specs.Schedules.{schedule_found, HasEvents}
+use Rattle.run_opening.specs.Images.{images_found}
+
+-- the option `--trace`, the numbers, the name of the schedule, and the words of the images
+pub record Request : Type 0 where
+  pub traced : Bool
+  pub numbers : Numbers
+  pub schedule : List ℕ
+  pub words : List (List ℕ)
+
+-- Inputs of a run that words ask for: the images that their names are in the files, numbered from 1 as they first appear; those in
+-- which the first processes start; the lines of the schedule; and the numbers.
+pub record AsksFor (A : Inputs) (request : Request) (files : List NamedFile) : Type 0 where
+  pub images : images_found files (image_names request.words) ≡ Ok A.images
+  pub first : A.first ≡ first_images (image_names request.words) request.words
+  pub lines : HasEvents (schedule_found files request.schedule) A.lines
+  pub frames : A.frames ≡ request.numbers.frames
+  pub blocks : A.swap_blocks ≡ request.numbers.swap
+  pub limit : A.limit ≡ request.numbers.limit
+
+-- what is told of files are names and bytes
+pub record IsOctetFile (file : NamedFile) : Type 0 where
+  pub name : AreOctets file.name
+  pub bytes : AreOctets file.bytes
+
+abbrev pub AreOctetFiles : List NamedFile → Type 0
+AreOctetFiles [] = Unit {0}
+AreOctetFiles (file ∷ files) = IsOctetFile file × AreOctetFiles files

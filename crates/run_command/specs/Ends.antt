@@ -1,0 +1,166 @@
+-- How a run ends, and what it writes.
+use Rattle.std.specs.Prelude.{◌≡◌, ◌⊎◌, ◌≤◌, ℕ, Bool, List, [], ◌++◌, length, Option, Some, None, Result, Ok, Err}
+use Rattle.vm_facts.specs.declared.entry.Entry.{Entry}
+use Rattle.vm_facts.specs.declared.stop.Stop.{Stop}
+use Rattle.vm_facts.specs.declared.stop.Stop.TheVariants as stops
+use Rattle.io_edge.specs.FileHolding.{NamedFile}
+use Rattle.flat_state.specs.Flat.{Inputs}
+use Rattle.flat_model.specs.Asked.{start_held}
+use Rattle.run_text.specs.Text.{text_of}
+use Rattle.vm_core.specs.Lawful.{RunFinished, RunHalted, RunStarved}
+use Rattle.vm_core.specs.RunEnds.{NoneMade}
+use Rattle.command_ending.specs.declared.fault.Fault.{Fault}
+use Rattle.command_ending.specs.declared.fault.Fault.TheVariants.{Absent, NotImage, BadSchedule, FileFault, SwapReadFault, SwapWriteFault, NoMemory, JournalFull, NoSpace, ShortDevice}
+use Rattle.command_ending.specs.Ending.{fault_status, fault_line, NeedsMemory}
+use Rattle.command_ending.specs.Command.{NoFaults, OpenFailed, PageFailed, Writes}
+use Rattle.run_opening.specs.Devices.{device_fault}
+use Rattle.run_opening.specs.Opening.{found_told, HasAll, EndsOpening}
+use Rattle.run_opening.specs.declared.opening.Opening.{Opening}
+use Rattle.run_command.specs.Asking.{Request, AsksFor, AreOctetFiles}
+use Rattle.run_command.specs.Seen.{Seen, NoneFailed, DeviceFailed}
+use Rattle.run_command.specs.Machines.{journal_entries}
+
+-- a run is finished, or this is why it isn't
+abbrev pub Ending : Type 0
+Ending = Result (Unit {0}) Fault
+
+abbrev pub status_of : Ending → ℕ
+status_of (Ok done) = 0
+status_of (Err fault) = fault_status fault
+
+-- the line behind the transcript; none where the run is finished
+abbrev pub line_of : Ending → List ℕ
+line_of (Ok done) = []
+line_of (Err fault) = fault_line fault
+
+-- Causes, whether or not files and devices are told.
+
+-- nothing was done: there is no entry, and the swap is as it was
+pub record NothingDone (seen : Seen) (journal : List Entry) : Type 0 where
+  pub journal_is : journal ≡ []
+  pub swap : seen.swap_after ≡ seen.swap_before
+  pub reads : NoneFailed seen.reads
+  pub writes : NoneFailed seen.writes
+
+-- nor did a file fail
+pub record Unbegun (seen : Seen) (journal : List Entry) : Type 0 where
+  pub nothing : NothingDone seen journal
+  pub files : NoFaults seen.faults
+
+-- no call failed
+pub record NoneFaulted (seen : Seen) : Type 0 where
+  pub files : NoFaults seen.faults
+  pub reads : NoneFailed seen.reads
+  pub writes : NoneFailed seen.writes
+
+-- why a run that may have begun isn't finished
+abbrev pub HaltCaused : Seen → List Entry → Fault → Type 0
+HaltCaused seen journal (NoSpace pid) = Unbegun seen journal
+HaltCaused seen journal FileFault = PageFailed seen.faults
+HaltCaused seen journal (SwapReadFault device) = DeviceFailed device seen.reads
+HaltCaused seen journal (SwapWriteFault device) = DeviceFailed device seen.writes
+HaltCaused seen journal JournalFull = NoneFaulted seen
+HaltCaused seen journal NoMemory = Unit {0}
+HaltCaused seen journal _ = ⊥
+
+abbrev pub RunCaused : Seen → List Entry → Ending → Type 0
+RunCaused seen journal (Ok done) = NoneFaulted seen
+RunCaused seen journal (Err fault) = HaltCaused seen journal fault
+
+-- a file failed before the run
+abbrev pub FailsBefore : Seen → List Entry → Type 0
+FailsBefore seen journal = OpenFailed seen.faults × NothingDone seen journal
+
+abbrev pub IsCaused : Request → Seen → List Entry → Ending → Type 0
+IsCaused request seen journal (Err (Absent name)) = Unbegun seen journal
+IsCaused request seen journal (Err (NotImage name reason)) = Unbegun seen journal
+IsCaused request seen journal (Err (BadSchedule line)) = Unbegun seen journal
+IsCaused request seen journal (Err (ShortDevice device blocks needed)) =
+    Unbegun seen journal × (device_fault request.numbers.swap seen.zero_blocks seen.one_blocks ≡ Some (ShortDevice device blocks needed))
+IsCaused request seen journal (Err FileFault) = FailsBefore seen journal ⊎ HaltCaused seen journal FileFault
+IsCaused request seen journal ending = RunCaused seen journal ending
+
+-- What is judged before the run, where the files are told: the schedule, then the images in their order, then the devices; the first
+-- thing met decides.
+
+-- all of it is good
+pub record AllGood (request : Request) (seen : Seen) (files : List NamedFile) : Type 0 where
+  pub found : HasAll (found_told request.schedule request.words files)
+  pub devices : device_fault request.numbers.swap seen.zero_blocks seen.one_blocks ≡ None
+
+abbrev pub EndsUnopened : Request → Seen → List NamedFile → Fault → Type 0
+EndsUnopened request seen files fault =
+    EndsOpening request.schedule request.words request.numbers.swap seen.zero_blocks seen.one_blocks (found_told request.schedule request.words files) seen.faults (let r : Result Opening Fault = Err fault in r)
+
+abbrev pub IsJudged : Request → Seen → List NamedFile → Ending → Type 0
+IsJudged request seen files (Err (Absent name)) = EndsUnopened request seen files (Absent name)
+IsJudged request seen files (Err (NotImage name reason)) = EndsUnopened request seen files (NotImage name reason)
+IsJudged request seen files (Err (BadSchedule line)) = EndsUnopened request seen files (BadSchedule line)
+IsJudged request seen files (Err (ShortDevice device blocks needed)) = EndsUnopened request seen files (ShortDevice device blocks needed)
+IsJudged request seen files (Err FileFault) = OpenFailed seen.faults ⊎ AllGood request seen files
+IsJudged request seen files (Err NoMemory) = Unit {0}
+IsJudged request seen files ending = AllGood request seen files
+
+-- The run, where files and devices are told. Want of memory may come at any place, also for the line of a halt.
+
+abbrev pub RunEnded : Inputs → List Entry → List ℕ → Option (List ℕ) → Ending → Type 0
+RunEnded A journal image after (Ok done) = RunFinished A journal image after
+RunEnded A journal image after (Err FileFault) = RunHalted A journal stops.FileFault image after
+RunEnded A journal image after (Err (SwapReadFault device)) = RunHalted A journal stops.SwapReadFault image after
+RunEnded A journal image after (Err (SwapWriteFault device)) = RunHalted A journal stops.SwapWriteFault image after
+RunEnded A journal image after (Err JournalFull) = RunHalted A journal stops.JournalFull image after × (journal_entries ≤ length journal)
+RunEnded A journal image after (Err (NoSpace pid)) = NoneMade journal image after × (start_held A ≡ Err pid)
+RunEnded A journal image after (Err NoMemory) = NoneMade journal image after ⊎ (RunStarved A journal image after ⊎ ((stop : Stop) × RunHalted A journal stop image after))
+RunEnded A journal image after (Err fault) = ⊥
+
+-- it ended so for inputs that the words ask for
+pub record RunOfWords (request : Request) (files : List NamedFile) (journal : List Entry) (image : List ℕ) (after : Option (List ℕ)) (ending : Ending) : Type 0 where
+  pub inputs : Inputs
+  pub asks : AsksFor inputs request files
+  pub ended : RunEnded inputs journal image after ending
+
+abbrev pub EndsTold : Request → List NamedFile → List Entry → List ℕ → Option (List ℕ) → Ending → Type 0
+EndsTold request files journal image after (Err (Absent name)) = NoneMade journal image after
+EndsTold request files journal image after (Err (NotImage name reason)) = NoneMade journal image after
+EndsTold request files journal image after (Err (BadSchedule line)) = NoneMade journal image after
+EndsTold request files journal image after (Err (ShortDevice device blocks needed)) = NoneMade journal image after
+EndsTold request files journal image after (Err FileFault) = NoneMade journal image after ⊎ RunOfWords request files journal image after (Err FileFault)
+EndsTold request files journal image after (Err NoMemory) = NoneMade journal image after ⊎ RunOfWords request files journal image after (Err NoMemory)
+EndsTold request files journal image after ending = RunOfWords request files journal image after ending
+
+-- Whole runs.
+
+-- an ending whose line needs memory
+abbrev pub CanBeLost : Ending → Type 0
+CanBeLost (Ok done) = ⊥
+CanBeLost (Err fault) = NeedsMemory fault
+
+-- a run is written as it ended; or, where its line could be lost, as one that found no memory
+abbrev pub WritesSome : Bool → List Entry → Ending → Option (List ℕ) → Option (List ℕ) → ℕ → ℕ → ℕ → Type 0
+WritesSome traced journal ending before after old_faults new_faults status =
+    Writes before after old_faults new_faults (text_of traced journal ++ line_of ending) (status_of ending) status
+    ⊎ (CanBeLost ending × Writes before after old_faults new_faults (text_of traced journal ++ fault_line NoMemory) (fault_status NoMemory) status)
+
+abbrev pub Writing : Bool → Seen → List Entry → Ending → ℕ → Type 0
+Writing traced seen journal ending status =
+    Writes seen.written_before seen.written_after seen.sink_faults_before seen.sink_faults_after (text_of traced journal ++ line_of ending) (status_of ending) status
+
+-- What a run is: it has one ending and one journal. What was written is the text of the journal and the line of the ending, and the
+-- status is the ending's; or the output failed, and a prefix of that was written. The ending has its cause. Where the files are told,
+-- the first thing met decides before the run; and where the devices are told too, the journal is that of a run of the inputs that the
+-- words ask for, and the swap devices are left as it says.
+pub record Runs (request : Request) (seen : Seen) (status : ℕ) : Type 0 where
+  pub ending : Ending
+  pub journal : List Entry
+  pub writes : Writing request.traced seen journal ending status
+  pub caused : IsCaused request seen journal ending
+  pub judged : (files : List NamedFile) → seen.files ≡ Some files → IsJudged request seen files ending
+  pub told : (files : List NamedFile) (image : List ℕ) → seen.files ≡ Some files → AreOctetFiles files → seen.swap_before ≡ Some image → EndsTold request files journal image seen.swap_after ending
+
+-- A run that was opened, over a machine: the same, for the inputs that are the machine's.
+pub record RunsOpened (IsOf : Inputs → List ℕ → Type 0) (traced : Bool) (seen : Seen) (status : ℕ) : Type 0 where
+  pub ending : Ending
+  pub journal : List Entry
+  pub writes : Writing traced seen journal ending status
+  pub caused : RunCaused seen journal ending
+  pub ended : (A : Inputs) (image : List ℕ) → IsOf A image → seen.swap_before ≡ Some image → RunEnded A journal image seen.swap_after ending

@@ -1,0 +1,6 @@
+-- Images that were opened, as a machine has them.
+use Rattle.machine_state.specs.Sourced.{ImageNamed}
+use Rattle.run_opening.specs.declared.images.OpenedImage.{OpenedImage}
+
+abbrev pub shown_as : OpenedImage → ImageNamed
+shown_as image = record { name = image.name.now; file = image.file; facts = image.facts }

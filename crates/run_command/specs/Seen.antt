@@ -1,0 +1,39 @@
+-- What a run sees of its files, devices and output, before and after.
+use Rattle.std.specs.Prelude.{◌≡◌, ℕ, List, Option}
+use Rattle.io_edge.specs.Count.{Rose}
+use Rattle.io_edge.specs.FileHolding.{NamedFile}
+use Rattle.io_edge.specs.Striping.{of_device}
+use Rattle.command_ending.specs.Command.{Faults}
+
+-- counts of failed calls of one kind on both swap devices
+pub record DeviceFaults : Type 0 where
+  pub zero_before : ℕ
+  pub zero_after : ℕ
+  pub one_before : ℕ
+  pub one_after : ℕ
+
+-- no call failed
+pub record NoneFailed (f : DeviceFaults) : Type 0 where
+  pub zero : f.zero_after ≡ f.zero_before
+  pub one : f.one_after ≡ f.one_before
+
+-- a call on this device failed
+abbrev pub DeviceFailed : ℕ → DeviceFaults → Type 0
+DeviceFailed device f = Rose (of_device device f.zero_before f.one_before) (of_device device f.zero_after f.one_after)
+
+pub record Seen : Type 0 where
+  -- the files, where they are told, and the counts of their faults
+  pub files : Option (List NamedFile)
+  pub faults : Faults
+  -- the blocks of the devices, the swap image that they make together, where both tell theirs, and their faults
+  pub zero_blocks : ℕ
+  pub one_blocks : ℕ
+  pub swap_before : Option (List ℕ)
+  pub swap_after : Option (List ℕ)
+  pub reads : DeviceFaults
+  pub writes : DeviceFaults
+  -- the output, where it is told, and its faults
+  pub written_before : Option (List ℕ)
+  pub written_after : Option (List ℕ)
+  pub sink_faults_before : ℕ
+  pub sink_faults_after : ℕ
