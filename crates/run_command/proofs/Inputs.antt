@@ -75,7 +75,8 @@ module _ (request : Request) (files : List NamedFile) (opening : Opening) (k : K
     frames = let least = ranges.least_frames in omega arith;
   }
 
-  pub is_asked_of : (image : List ℕ) (holds : Option (List NamedFile)) → holds ≡ Some files → AreOctetFiles files → 512 * request.numbers.swap ≤ length image → IsOfOpening request.numbers opening holds (inputs_of request files opening) image
+  pub is_asked_of : (image : List ℕ) (holds : Option (List NamedFile)) → holds ≡ Some files → AreOctetFiles files → 512 * request.numbers.swap ≤ length image
+      → IsOfOpening request.numbers opening holds (inputs_of request files opening) image
   is_asked_of image holds told octets room = record {
     named = named_images files opening.images.items;
     first = refl;
