@@ -94,12 +94,7 @@ fn on_two<F: Files>(
 }
 
 // Runs a case of this setup over images of these names.
-fn run_setup(
-    alloc: Global,
-    case: &Reader,
-    setup: &Setup,
-    names: &[&str],
-) -> Result<String, Unfit> {
+fn run_setup(alloc: Global, case: &Reader, setup: &Setup, names: &[&str]) -> Result<String, Unfit> {
     let Faults { files, zero, one } = read_faults(alloc, case.faults.as_str())?;
     let held = files_named(alloc, case.images.as_slice(), names)?;
     if held.len() > 16 {
@@ -125,6 +120,12 @@ pub fn run_case(alloc: Global, case: &Reader) -> Result<String, Unfit> {
     if names.len() > 16 {
         return Err(Unfit::Ranges);
     }
-    let setup = read_setup(alloc, sizes, names.as_slice(), words, case.schedule.as_str())?;
+    let setup = read_setup(
+        alloc,
+        sizes,
+        names.as_slice(),
+        words,
+        case.schedule.as_str(),
+    )?;
     run_setup(alloc, case, &setup, names.as_slice())
 }

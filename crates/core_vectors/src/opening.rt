@@ -54,11 +54,7 @@ fn open<F: Files>(alloc: Global, files: &mut F, name: &str) -> Result<Named, Unf
 }
 
 /// The images of these names.
-pub fn open_all<F: Files>(
-    alloc: Global,
-    files: &mut F,
-    names: &[&str],
-) -> Result<Vec<Named>, Unfit>
+pub fn open_all<F: Files>(alloc: Global, files: &mut F, names: &[&str]) -> Result<Vec<Named>, Unfit>
     ensures { IfOk result (λ images. AreFit images.items (F.holds files.new)) }
 {
     let mut images = Vec::new(alloc);

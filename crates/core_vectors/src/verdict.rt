@@ -5,12 +5,7 @@ use crate::running::Unfit;
 use std::alloc::{AllocError, Global};
 
 // The first line in which the texts differ, and what it is in each.
-fn difference(
-    alloc: Global,
-    name: &str,
-    wanted: &str,
-    given: &str,
-) -> Result<String, AllocError> {
+fn difference(alloc: Global, name: &str, wanted: &str, given: &str) -> Result<String, AllocError> {
     let mut others = given.lines();
     let mut number: usize = 0;
     for line in wanted.lines() {

@@ -3,3 +3,5 @@ pub mod Inputs
 pub mod Endings
 pub mod Pairs
 pub mod Runs
+pub mod Loadings
+pub mod Workloads

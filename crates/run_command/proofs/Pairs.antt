@@ -28,7 +28,7 @@ none_failed f old new before after a none same = let both = a.still same (omega 
 
 -- the device that is named failed
 device_failed : (f : DeviceFaults) (old new : ℕ) (before after : Option ℕ) (device : ℕ) → AddsFailures old new before after f.zero_before f.zero_after f.one_before f.one_after → before ≡ None → after ≡ Some device → DeviceFailed device f
-device_failed f old new before after device a none named = elim (a.named device named) [ | inl e ↦ absurd cc | inr rose ↦ rose ]
+device_failed f old new before after device a none named = elim (a.named device named) [ inl e ↦ absurd cc | inr rose ↦ rose ]
 
 -- a stop that isn't of a read from swap, or of a write
 stop_of : (stop : Stop) (fault : Fault) (other : Stop) → IsFaultOf stop fault → (stops.JournalFull ≡ other → ⊥) → (unfinished_by fault ≡ ends.Stopped other → ⊥) → stop ≡ other → ⊥

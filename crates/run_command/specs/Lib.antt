@@ -4,3 +4,4 @@ pub mod Naming
 pub mod Machines
 pub mod Ends
 pub mod Paired
+pub mod Loads

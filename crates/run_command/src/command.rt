@@ -21,8 +21,8 @@ use std::alloc::Global;
 use vm_core::Core;
 use vm_facts::{NoMemory, Params};
 
-// The core of a run, with no process yet.
-fn core_of(
+/// The core of a run, with no process yet.
+pub(crate) fn core_of(
     alloc: Global,
     numbers: Numbers,
     images: &[OpenedImage<'_>],
@@ -131,9 +131,7 @@ fn run_words<F: Files, D: SwapDev, E: SwapDev, S: Sink>(
         one.blocks(),
     );
     match opened {
-        Ok(opening) => run_opened(
-            alloc, files, zero, one, sink, traced, numbers, &opening,
-        ),
+        Ok(opening) => run_opened(alloc, files, zero, one, sink, traced, numbers, &opening),
         Err(fault) => write_run(alloc, sink, traced, &[], Err(fault)),
     }
 }

@@ -1,10 +1,16 @@
-//! The command `run`: a schedule and images that words name are run over two swap devices, and the transcript is written.
+//! The commands `run` and `load`: a schedule and images that words name, or a workload that a number stands for, are run over two
+//! swap devices, and the transcript, or what it counts, is written.
 #![tactic(auto)]
 
 mod command;
+mod loading;
 mod naming;
 mod paired;
 mod writing;
 
 pub use command::run_command;
+pub use loading::load_command;
 pub use paired::run_paired;
+
+#[cfg(test)]
+mod tests;

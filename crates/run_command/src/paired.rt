@@ -87,12 +87,7 @@ fn run_over<'a, 'd, F: Files, D: SwapDev, E: SwapDev>(
         Err(Unfinished::NoSpace(pid)) => Err(Fault::NoSpace(pid)),
         Err(Unfinished::Stopped(stop)) => {
             let full = core.journal().len() >= JOURNAL_ENTRIES as usize;
-            Err(fault_of(
-                stop,
-                full,
-                pair.failed_read(),
-                pair.failed_write(),
-            ))
+            Err(fault_of(stop, full, pair.failed_read(), pair.failed_write()))
         }
     }
 }

@@ -6,7 +6,8 @@ mod images;
 mod opening;
 mod schedule;
 
-pub use images::OpenedImage;
+pub use devices::device_fault;
+pub use images::{OpenedImage, open_images};
 pub use opening::{Opening, open_run};
 
 #[cfg(test)]

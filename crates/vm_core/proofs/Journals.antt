@@ -118,8 +118,8 @@ parts_spoiled A s k (p ∷ ps) image after same flat x =
     elim x [
       | inl y ↦ inl (y.0, y.1, y.2 ∙ ap (λ (hs : Holdings). store_at image (block_of hs p.page) y.0) same)
       | inr y ↦ inr (parts_spoiled A s k ps (store_at image (block_of s.holdings p.page) (memory_of A.images s.point.flat p.page)) after same flat.1
-        (subst (λ (i : List ℕ). SpoilsAll k i ps after)
-        (ap (λ (bytes : List ℕ). store_at image (block_of k.holdings p.page) bytes) flat.0 ∙ ap (λ (hs : Holdings). store_at image (block_of hs p.page) (memory_of A.images s.point.flat p.page)) same) y))
+          (subst (λ (i : List ℕ). SpoilsAll k i ps after)
+          (ap (λ (bytes : List ℕ). store_at image (block_of k.holdings p.page) bytes) flat.0 ∙ ap (λ (hs : Holdings). store_at image (block_of hs p.page) (memory_of A.images s.point.flat p.page)) same) y))
     ]
 
 oldest_spoiled : (A : Inputs) (s : State) (k : Kernel) (ts : List Transfer) (image after : List ℕ) → k.holdings ≡ s.holdings → InFlightFlat A s k ts → SpoilsTransfers k image ts after → SpoilsOldest A s ts image after

@@ -1,0 +1,118 @@
+-- What the command `load` is: a run of the workload of a number, which is counted.
+use Rattle.std.specs.Prelude.{◌≡◌, ◌⊎◌, ℕ, List, [], ◌∷◌, codes, IfErr, Option, Some, None, Ok, Err}
+use Rattle.aout_image.specs.Image.{Loaded}
+use Rattle.vm_facts.specs.declared.entry.Entry.{Entry}
+use Rattle.flat_state.specs.Flat.{NamedImage, Inputs}
+use Rattle.vm_core.specs.RunEnds.{NoneMade}
+use Rattle.command_ending.specs.declared.fault.Fault.TheVariants.{SwapReadFault, SwapWriteFault, NoMemory, JournalFull, NoSpace, ShortDevice}
+use Rattle.command_ending.specs.Ending.{fault_status, fault_line, NeedsMemory}
+use Rattle.command_ending.specs.Command.{Writes}
+use Rattle.command_words.specs.declared.command.Numbers.{Numbers}
+use Rattle.run_opening.specs.Devices.{device_fault}
+use Rattle.load_maker.specs.Load.{load_images, load_lines}
+use Rattle.load_maker.specs.Counts.{counts_of, load_text}
+use Rattle.run_command.specs.Seen.{Seen, NoneFailed, DeviceFailed}
+use Rattle.run_command.specs.Paired.{IsRunFault}
+use Rattle.run_command.specs.Ends.{Ending, status_of, NothingDone, RunEnded}
+
+-- ---- the inputs
+
+-- the names of the two images
+abbrev pub load_names : List (List ℕ)
+load_names = codes "w" ∷ codes "v" ∷ []
+
+-- images under these names, one by one
+abbrev pub under_names : List (List ℕ) → List Loaded → List NamedImage
+under_names [] images = []
+under_names (name ∷ names) [] = []
+under_names (name ∷ names) (image ∷ images) = record { name = name; image = image } ∷ under_names names images
+
+-- four processes of the first image
+abbrev pub load_first : List ℕ
+load_first = 1 ∷ 1 ∷ 1 ∷ 1 ∷ []
+
+-- frames, blocks of swap, and the most instructions
+abbrev pub load_numbers : Numbers
+load_numbers = record { frames = 128; swap = 8192; limit = 200000 }
+
+-- the inputs of the run of a number
+abbrev pub load_inputs : ℕ → Inputs
+load_inputs number = record {
+  images = under_names load_names (load_images number);
+  first = load_first;
+  lines = load_lines number;
+  frames = load_numbers.frames;
+  swap_blocks = load_numbers.swap;
+  limit = load_numbers.limit;
+}
+
+-- ---- the text
+
+-- the six lines that count over the journal where the run is finished, else the line of the fault
+abbrev pub load_written : ℕ → List Entry → Ending → List ℕ
+load_written number journal (Ok done) = load_text number (counts_of 4 journal)
+load_written number journal (Err fault) = fault_line fault
+
+-- an ending whose lines need memory
+abbrev pub CountsBeLost : Ending → Type 0
+CountsBeLost (Ok done) = Unit {0}
+CountsBeLost (Err fault) = NeedsMemory fault
+
+-- the lines of an ending are written; or, where they could be lost, that of one that found no memory
+abbrev pub WritesCounts : ℕ → List Entry → Ending → Option (List ℕ) → Option (List ℕ) → ℕ → ℕ → ℕ → Type 0
+WritesCounts number journal ending before after old_faults new_faults status =
+    Writes before after old_faults new_faults (load_written number journal ending) (status_of ending) status
+    ⊎ (CountsBeLost ending × Writes before after old_faults new_faults (fault_line NoMemory) (fault_status NoMemory) status)
+
+-- ---- the ending
+
+-- no call on a device failed
+pub record NoDeviceFailed (seen : Seen) : Type 0 where
+  pub reads : NoneFailed seen.reads
+  pub writes : NoneFailed seen.writes
+
+-- The cause of an ending, on the devices alone: the files are in memory, and never fail.
+abbrev pub IsLoadCaused : Seen → List Entry → Ending → Type 0
+IsLoadCaused seen journal (Ok done) = NoDeviceFailed seen
+IsLoadCaused seen journal (Err (SwapReadFault device)) = DeviceFailed device seen.reads
+IsLoadCaused seen journal (Err (SwapWriteFault device)) = DeviceFailed device seen.writes
+IsLoadCaused seen journal (Err JournalFull) = NoDeviceFailed seen
+IsLoadCaused seen journal (Err (NoSpace pid)) = NothingDone seen journal
+IsLoadCaused seen journal (Err (ShortDevice device blocks needed)) = NothingDone seen journal
+IsLoadCaused seen journal (Err NoMemory) = Unit {0}
+IsLoadCaused seen journal (Err _) = ⊥
+
+-- The devices are judged before the run, and the first short one decides.
+abbrev pub IsLoadJudged : Seen → Ending → Type 0
+IsLoadJudged seen (Err (ShortDevice device blocks needed)) = device_fault load_numbers.swap seen.zero_blocks seen.one_blocks ≡ Some (ShortDevice device blocks needed)
+IsLoadJudged seen (Err NoMemory) = Unit {0}
+IsLoadJudged seen ending = device_fault load_numbers.swap seen.zero_blocks seen.one_blocks ≡ None
+
+-- How the run ended, where the devices are told. Where a device is short, nothing was done.
+abbrev pub LoadEnded : ℕ → List Entry → List ℕ → Option (List ℕ) → Ending → Type 0
+LoadEnded number journal image after (Err (ShortDevice device blocks needed)) = NoneMade journal image after
+LoadEnded number journal image after ending = RunEnded (load_inputs number) journal image after ending
+
+-- What a load is: it has one ending and one journal. What was written are the lines of that ending, and the status is the ending's;
+-- or the output failed, and a prefix of them was written. The ending has its cause, a short device decides before the run, and where
+-- the devices are told the journal is that of a run of the workload of the number, and the devices are left as it says.
+pub record Loads (number : ℕ) (seen : Seen) (status : ℕ) : Type 0 where
+  pub ending : Ending
+  pub journal : List Entry
+  pub writes : Writes seen.written_before seen.written_after seen.sink_faults_before seen.sink_faults_after (load_written number journal ending) (status_of ending) status
+  pub caused : IsLoadCaused seen journal ending
+  pub judged : IsLoadJudged seen ending
+  pub told : (image : List ℕ) → seen.swap_before ≡ Some image → LoadEnded number journal image seen.swap_after ending
+
+-- it ended as a run does that began, or found no memory
+abbrev pub IsRunEnding : Ending → Type 0
+IsRunEnding ending = IfErr ending IsRunFault
+
+-- A run of images that were opened, which is counted: the same, for the inputs that are its own.
+pub record LoadRuns (IsOf : Inputs → List ℕ → Type 0) (number : ℕ) (seen : Seen) (status : ℕ) : Type 0 where
+  pub ending : Ending
+  pub journal : List Entry
+  pub writes : Writes seen.written_before seen.written_after seen.sink_faults_before seen.sink_faults_after (load_written number journal ending) (status_of ending) status
+  pub caused : IsLoadCaused seen journal ending
+  pub began : IsRunEnding ending
+  pub ended : (A : Inputs) (image : List ℕ) → IsOf A image → seen.swap_before ≡ Some image → RunEnded A journal image seen.swap_after ending
