@@ -7,6 +7,7 @@ use Rattle.source_commands.specs.Command.{Assembles, Lists}
 use Rattle.replay_command.specs.Command.{Replays}
 use Rattle.run_command.specs.Seen.{Seen}
 use Rattle.run_command.specs.Ends.{Runs}
+use Rattle.run_command.specs.Loads.{Loads}
 
 -- the line of a command that isn't built yet, and its status
 abbrev pub not_built_line : List ℕ
@@ -22,7 +23,7 @@ IsNotBuilt seen status = Writes seen.written_before seen.written_after seen.sink
 abbrev pub Obeys : Option Asked → Seen → ℕ → Type 0
 Obeys None seen status = WritesEnding seen.written_before seen.written_after seen.sink_faults_before seen.sink_faults_after (Err BadWords) status
 Obeys (Some (Run traced numbers schedule images)) seen status = Runs (record { traced = traced; numbers = numbers; schedule = schedule; words = images }) seen status
-Obeys (Some (Load number)) seen status = IsNotBuilt seen status
+Obeys (Some (Load number)) seen status = Loads number seen status
 Obeys (Some (Replay transcript images)) seen status =
     Replays transcript images seen.files seen.faults seen.written_before seen.written_after seen.sink_faults_before seen.sink_faults_after status
 Obeys (Some (Assemble source)) seen status = Assembles source seen.files seen.faults seen.written_before seen.written_after seen.sink_faults_before seen.sink_faults_after status
@@ -33,4 +34,5 @@ Obeys (Some (Curve numbers schedule images)) seen status = IsNotBuilt seen statu
 -- a command that touches no swap device leaves them
 abbrev pub LeavesDevice : Option Asked → Type 0 → Type 0
 LeavesDevice (Some (Run traced numbers schedule images)) same = Unit {0}
+LeavesDevice (Some (Load number)) same = Unit {0}
 LeavesDevice asked same = same

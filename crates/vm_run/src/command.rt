@@ -8,7 +8,7 @@ use command_ending::{Fault, write_ending};
 use command_words::{Command, read_words};
 use io_edge::{Files, Moved, Sink, SwapDev};
 use replay_command::replay_file;
-use run_command::run_command;
+use run_command::{load_command, run_command};
 use source_commands::{assemble_file, list_file};
 use std::alloc::Global;
 
@@ -29,8 +29,8 @@ fn write_not_built<S: Sink>(sink: &mut S) -> u8
 /// built yet; 14 a transcript that is no run; 15 a bad transcript; 16 one that is too long; 17 a bad source. The first thing met
 /// decides, but an output that fails gives 8 whatever came before (this project's profile).
 ///
-/// A run reads its pages from the files, and writes to the swap devices and reads from them; other commands leave the devices
-/// as they are.
+/// A run reads its pages from the files, and a load from files of its own in memory; both write to the swap devices and read from
+/// them. Other commands leave the devices as they are.
 pub fn vmrun<F: Files, D: SwapDev, E: SwapDev, S: Sink>(
     alloc: Global,
     words: &[&str],
@@ -57,22 +57,23 @@ pub fn vmrun<F: Files, D: SwapDev, E: SwapDev, S: Sink>(
     ensures one { LeavesDevice (asked_of (map (λ word. word.now) words.now)) (one.new ≡ one.old) }
 {
     match read_words(words) {
-        Some(Command::Run {
-            traced,
-            numbers,
-            schedule,
-            images,
-        }) => run_command(
+        Some(
+            Command::Run {
+                traced,
+                numbers,
+                schedule,
+                images,
+            },
+        ) => run_command(
             alloc, files, zero, one, sink, traced, numbers, schedule, images,
         ),
+        Some(Command::Load { number }) => load_command(alloc, zero, one, sink, number),
         Some(Command::Replay { transcript, images }) => {
             replay_file(alloc, files, sink, transcript, images)
         }
         Some(Command::Assemble { source }) => assemble_file(alloc, files, sink, source),
         Some(Command::Show { image }) => list_file(alloc, files, sink, image),
-        Some(Command::Load { .. } | Command::Optimum { .. } | Command::Curve { .. }) => {
-            write_not_built(sink)
-        }
+        Some(Command::Optimum { .. } | Command::Curve { .. }) => write_not_built(sink),
         None => write_ending(alloc, sink, Err(Fault::BadWords)),
     }
 }
