@@ -1,5 +1,5 @@
 -- What the words of a command line ask for is done.
-use Rattle.std.specs.Prelude.{◌≡◌, ℕ, List, codes, Option, Some, None, Err}
+use Rattle.std.specs.Prelude.{ℕ, List, codes, Option, Some, None, Err}
 use Rattle.command_words.specs.Asked.{Asked, Run, Load, Replay, Assemble, Show, Optimum, Curve}
 use Rattle.command_ending.specs.declared.fault.Fault.TheVariants.{BadWords}
 use Rattle.command_ending.specs.Command.{Writes, WritesEnding}

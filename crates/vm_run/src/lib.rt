@@ -2,7 +2,9 @@
 #![tactic(auto)]
 
 mod command;
+mod laws;
 #[cfg(test)]
 mod tests;
 
 pub use command::vmrun;
+pub use laws::sound_runs_complete;

@@ -1,0 +1,77 @@
+-- Which endings sound inputs leave.
+use Rattle.std.proofs.Common.{◌≡◌, ◌⊎◌, inl, inr, ℕ, ◌+◌, ◌≤◌, List, [], ◌∷◌, ◌++◌, length, Option, Some, None, Result, Ok, Err, refl, sym, ◌∙◌, subst, arith}
+use Rattle.io_edge.specs.Count.{Rose}
+use Rattle.io_edge.specs.FileHolding.{NamedFile}
+use Rattle.vm_facts.specs.declared.entry.Entry.{Entry}
+use Rattle.vm_facts.specs.declared.event.Event.{Event}
+use Rattle.flat_state.specs.Flat.{NamedImage}
+use Rattle.run_files.specs.declared.answers.Unread.{Unread}
+use Rattle.run_text.specs.Lines.{AreLines}
+use Rattle.run_text.specs.Schedule.{IsEventLine}
+use Rattle.command_ending.specs.declared.fault.Fault.TheVariants.{Absent, NotImage, BadSchedule, FileFault, SwapReadFault, SwapWriteFault, NoMemory, JournalFull, NoSpace, ShortDevice}
+use Rattle.command_ending.specs.Named.{Why}
+use Rattle.command_ending.specs.Command.{Writes, All, Prefix}
+use Rattle.run_opening.specs.Schedules.{HasEvents, HasBadEvent}
+use Rattle.run_opening.specs.Opening.{FoundFiles, HasAll, FailsAtImage}
+use Rattle.run_command.specs.Asking.{Request}
+use Rattle.run_command.specs.Seen.{Seen}
+use Rattle.run_command.specs.Machines.{journal_entries}
+use Rattle.run_command.specs.Ends.{Ending, status_of, IsCaused, IsJudged, EndsTold}
+use Rattle.vm_run.specs.Complete.{IsSound, NoneRose, RunsComplete}
+
+-- what was written whole has the status of its ending
+whole_status : (before after : Option (List ℕ)) (old new : ℕ) (text : List ℕ) (whole status : ℕ) → Writes before after old new text whole status → (Rose old new → ⊥) → status ≡ whole
+whole_status before after old new text whole status (All same appends faults) never = same
+whole_status before after old new text whole status (Prefix is appends rose) never = absurd (never rose)
+
+-- each line of items is that of one of them
+line_among : {E : Type 0} (IsLine : E → List ℕ → Type 0) (items : List E) (before : List (List ℕ)) (line : List ℕ) (after : List (List ℕ)) → AreLines IsLine items (before ++ line ∷ after)
+    → (e : E) × IsLine e line × (length before + 1 ≤ length items)
+line_among IsLine [] [] line after h = absurd h
+line_among IsLine (e ∷ es) [] line after h = (e, h.0, omega arith)
+line_among IsLine [] (l ∷ ls) line after h = absurd h
+line_among IsLine (e ∷ es) (l ∷ ls) line after h = let found = line_among IsLine es ls line after h.1 in (found.0, found.1, (let more = found.2 in omega arith))
+
+-- a schedule that has events has no bad line
+no_bad_event : (found : Result (List ℕ) Unread) (events : List Event) (line : ℕ) → HasEvents found events → HasBadEvent found line → ⊥
+no_bad_event (Ok bytes) events line h bad =
+    let among = line_among IsEventLine events bad.before bad.bad bad.after (subst (AreLines IsEventLine events) bad.split h.0) in
+    bad.none (let number = bad.number in let most = h.1 in let few = among.2 in omega arith) among.0 among.1
+no_bad_event (Err unread) events line h bad = h
+
+no_absent : (found : Result (List ℕ) Unread) (events : List Event) (unread : Unread) → HasEvents found events → found ≡ Err unread → ⊥
+no_absent found events unread h is = subst (λ (f : Result (List ℕ) Unread). HasEvents f events) is h
+
+no_failed_image : (found : FoundFiles) (why : Why) → HasAll found → FailsAtImage found why → ⊥
+no_failed_image found why all fails =
+    let same : (let r : Result (List NamedImage) Why = Ok all.1.0 in r) ≡ Err why = sym all.1.1 ∙ fails.1 in
+    cc
+
+-- what is left for an ending
+abbrev Left : Ending → List Entry → Type 0
+Left ending journal = (status_of ending ≡ 0) ⊎ ((status_of ending ≡ 9) ⊎ ((status_of ending ≡ 10) × (journal_entries ≤ length journal)))
+
+module _ (request : Request) (seen : Seen) (files : List NamedFile) (image : List ℕ) (journal : List Entry) (is : IsSound request seen files image) (none : NoneRose seen) where
+  left : (ending : Ending) → IsCaused request seen journal ending → IsJudged request seen files ending → EndsTold request files journal image seen.swap_after ending → Left ending journal
+  left (Ok done) caused judged told = inl refl
+  left (Err NoMemory) caused judged told = inr (inl refl)
+  left (Err JournalFull) caused judged told = inr (inr (refl, told.ended.1))
+  left (Err FileFault) caused judged told = absurd (elim caused [ inl before ↦ none.opens before.0.0 | inr failed ↦ none.pages failed.1 ])
+  left (Err (SwapReadFault device)) caused judged told = absurd (none.reads device caused)
+  left (Err (SwapWriteFault device)) caused judged told = absurd (none.writes device caused)
+  left (Err (NoSpace pid)) caused judged told = absurd (is.space told.inputs told.asks pid told.ended.1)
+  left (Err (Absent name)) caused judged told =
+      absurd (elim judged [ inl schedule ↦ no_absent _ is.good.found.0.0 _ is.good.found.0.1 schedule.1 | inr image_fails ↦ no_failed_image _ _ is.good.found image_fails ])
+  left (Err (NotImage name reason)) caused judged told = absurd (no_failed_image _ _ is.good.found judged)
+  left (Err (BadSchedule line)) caused judged told = absurd (no_bad_event _ is.good.found.0.0 line is.good.found.0.1 judged)
+  left (Err (ShortDevice device blocks needed)) caused judged told = absurd (let same : None ≡ Some (ShortDevice device blocks needed) = sym is.good.devices ∙ caused.1 in cc)
+  left (Err _) caused judged told = absurd caused
+
+pub runs_complete : RunsComplete
+runs_complete request seen status files image runs is none =
+    let whole = whole_status seen.written_before seen.written_after seen.sink_faults_before seen.sink_faults_after _ (status_of runs.ending) status runs.writes none.sink in
+    let ended = left request seen files image runs.journal is none runs.ending runs.caused (runs.judged files is.files_told) (runs.told files image is.files_told is.octets is.swap_told) in
+    elim ended [
+      | inl zero ↦ inl (whole ∙ zero)
+      | inr more ↦ elim more [ inl nine ↦ inr (inl (whole ∙ nine)) | inr full ↦ inr (inr (whole ∙ full.0, full.1)) ]
+    ]

@@ -1,0 +1,35 @@
+-- A run of sound inputs, over which no call fails, is finished or lacks memory.
+use Rattle.std.specs.Prelude.{◌≡◌, ◌⊎◌, ℕ, ◌≤◌, List, length, Some, Err}
+use Rattle.io_edge.specs.Count.{Rose}
+use Rattle.io_edge.specs.FileHolding.{NamedFile}
+use Rattle.flat_state.specs.Flat.{Inputs}
+use Rattle.flat_model.specs.Asked.{start_held}
+use Rattle.run_command.specs.Asking.{Request, AsksFor, AreOctetFiles}
+use Rattle.run_command.specs.Seen.{Seen, DeviceFailed}
+use Rattle.run_command.specs.Machines.{journal_entries}
+use Rattle.run_command.specs.Ends.{AllGood, Runs}
+
+-- Files and swap are told, the schedule, the images and the devices are good, and the first processes' pieces find their places.
+pub record IsSound (request : Request) (seen : Seen) (files : List NamedFile) (image : List ℕ) : Type 0 where
+  pub files_told : seen.files ≡ Some files
+  pub swap_told : seen.swap_before ≡ Some image
+  pub octets : AreOctetFiles files
+  pub good : AllGood request seen files
+  pub space : (A : Inputs) → AsksFor A request files → (pid : ℕ) → start_held A ≡ Err pid → ⊥
+
+-- no count of failed calls rose
+pub record NoneRose (seen : Seen) : Type 0 where
+  pub opens : Rose seen.faults.open_before seen.faults.open_after → ⊥
+  pub pages : Rose seen.faults.page_before seen.faults.page_after → ⊥
+  pub reads : (device : ℕ) → DeviceFailed device seen.reads → ⊥
+  pub writes : (device : ℕ) → DeviceFailed device seen.writes → ⊥
+  pub sink : Rose seen.sink_faults_before seen.sink_faults_after → ⊥
+
+-- it is finished; or it found no memory; or its journal has all entries that it may have
+abbrev pub IsComplete : (request : Request) (seen : Seen) (status : ℕ) → Runs request seen status → Type 0
+IsComplete request seen status runs = (status ≡ 0) ⊎ ((status ≡ 9) ⊎ ((status ≡ 10) × (journal_entries ≤ length runs.journal)))
+
+abbrev pub RunsComplete : Type 0
+RunsComplete =
+    (request : Request) (seen : Seen) (status : ℕ) (files : List NamedFile) (image : List ℕ) (runs : Runs request seen status)
+    → IsSound request seen files image → NoneRose seen → IsComplete request seen status runs
