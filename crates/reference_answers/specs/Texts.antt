@@ -1,0 +1,43 @@
+-- The texts of the answers: lines of counts, of victims, and of sizes.
+use Rattle.std.specs.Prelude.{ℕ, List, [], ◌++◌, length, Option, Some, None, codes, decimal}
+use Rattle.std.specs.List.{flat_map, range_with_len}
+use Rattle.vm_facts.specs.declared.page.Page.{Page}
+use Rattle.flat_model.specs.Touched.{distinct}
+use Rattle.run_text.specs.Text.{page_text}
+use Rattle.command_ending.specs.Ending.{numbered_line}
+use Rattle.page_opt.specs.declared.Victim.{Victim}
+use Rattle.stack_dist.specs.Lru.{lru_faults}
+use Rattle.reference_answers.specs.Numbers.{numbers_of, page_numbered}
+
+-- how many references there are, and how many pages among them
+abbrev pub counted_text : List Page → List ℕ
+counted_text refs = numbered_line (codes "references ") (length refs) ++ numbered_line (codes "pages ") (length (distinct refs))
+
+-- a page behind a space, where there is one
+abbrev pub some_page_text : Option Page → List ℕ
+some_page_text None = []
+some_page_text (Some page) = page_text page
+
+-- the number of a reference, and the page that leaves at it
+abbrev pub victim_line : List Page → Victim → List ℕ
+victim_line pages victim = codes "v " ++ decimal victim.at ++ some_page_text (page_numbered pages victim.page) ++ codes "\n"
+
+-- the least faults with so many frames, and the victims of a plan that has them
+abbrev pub optimum_text : List Page → ℕ → ℕ → List Victim → List ℕ
+optimum_text refs frames faults victims =
+    counted_text refs ++
+    numbered_line (codes "frames ") frames ++
+    numbered_line (codes "least faults ") faults ++
+    flat_map (victim_line (distinct refs)) victims
+
+-- a size of memory, in pages, and the faults of LRU at it
+abbrev pub size_line : List ℕ → ℕ → List ℕ
+size_line numbers size = decimal size ++ codes " " ++ decimal (lru_faults numbers size) ++ codes "\n"
+
+-- the sizes from 1 to as many as there are pages
+abbrev pub size_lines : List Page → List ℕ
+size_lines refs = flat_map (size_line (numbers_of refs)) (range_with_len 1 (length (distinct refs)))
+
+-- the faults of LRU at each size
+abbrev pub curve_text : List Page → List ℕ
+curve_text refs = counted_text refs ++ size_lines refs

@@ -1,0 +1,65 @@
+//! Two questions about the references of a run, answered as texts: how few page faults could any replacement have
+//! had, and how many has LRU at each size of memory? Pages are numbered from 1 in the order of their first references.
+#![tactic(auto)]
+
+ghost use Rattle.std.specs.Prelude.{◌≡◌, ◌≤◌, ◌++◌, length, vec_len, codes, IfOk};
+ghost use Rattle.command_ending.specs.Ending.{numbered_line};
+ghost use Rattle.reference_answers.specs.Texts.{curve_text};
+ghost use Rattle.reference_answers.specs.Answers.{IsOptimumText};
+
+mod lines;
+mod numbering;
+
+use lines::{put_numbered_line, put_size, put_victim};
+use numbering::{Numbered, number_pages};
+use page_opt::least_faults;
+use stack_dist::curve;
+use std::alloc::{AllocError, Global};
+use vm_facts::{NoMemory, Page};
+
+/// The text about the fewest page faults that any replacement has with so many frames, at least 1 of them, and about
+/// the victims of a plan that has so few (Belady; the lines are this project's profile). At most 4,000,000 references.
+/// Takes memory in proportion to the references; the one error is that there is none left.
+pub fn optimum_text(alloc: Global, refs: &[Page], frames: u32) -> Result<Vec<u8>, NoMemory>
+    requires frames { 1 ≤ frames }
+    requires small { length refs.now ≤ 4000000 }
+    ensures { IfOk result (λ text. IsOptimumText refs.now frames text.items) }
+{
+    let numbered = number_pages(alloc, refs)?;
+    let plan = least_faults(alloc, numbered.numbers.as_slice(), frames)?;
+    let mut text = count_lines(alloc, &numbered)?;
+    put_numbered_line(&mut text, b"frames ", frames)?;
+    put_numbered_line(&mut text, b"least faults ", plan.faults)?;
+    for victim in plan.victims.iter() {
+        put_victim(&mut text, numbered.pages.as_slice(), *victim)?;
+    }
+    Ok(text)
+}
+
+/// The text about the page faults of LRU at each size of memory, from 1 page to as many as there are (LRU as in Belady;
+/// the lines are this project's profile). At most 4,000,000 references. Takes memory in proportion to the references;
+/// the one error is that there is none left.
+pub fn curve_text(alloc: Global, refs: &[Page]) -> Result<Vec<u8>, NoMemory>
+    requires { length refs.now ≤ 4000000 }
+    ensures { IfOk result (λ text. text.items ≡ curve_text refs.now) }
+{
+    let numbered = number_pages(alloc, refs)?;
+    let faults = curve(alloc, numbered.numbers.as_slice())?;
+    let mut text = count_lines(alloc, &numbered)?;
+    for (i, faults) in faults.iter().enumerate() {
+        put_size(&mut text, i as u32 + 1, *faults)?;
+    }
+    Ok(text)
+}
+
+/// The lines with the counts of references and of pages, before others.
+fn count_lines(alloc: Global, numbered: &Numbered) -> Result<Vec<u8>, AllocError>
+    requires references { vec_len numbered.now.numbers ≤ 4000000 }
+    requires pages { vec_len numbered.now.pages ≤ 4000000 }
+    ensures { IfOk result (λ text. text.items ≡ numbered_line (codes "references ") (vec_len numbered.now.numbers) ++ numbered_line (codes "pages ") (vec_len numbered.now.pages)) }
+{
+    let mut text = Vec::new(alloc);
+    put_numbered_line(&mut text, b"references ", numbered.numbers.len() as u32)?;
+    put_numbered_line(&mut text, b"pages ", numbered.pages.len() as u32)?;
+    Ok(text)
+}

@@ -1,0 +1,89 @@
+//! The lines of the texts.
+ghost use Rattle.std.specs.Prelude.{◌≡◌, ◌++◌, OnOk, codes, decimal};
+ghost use Rattle.std.specs.Option.{option_copied};
+ghost use Rattle.run_text.specs.Text.{page_text, part};
+ghost use Rattle.command_ending.specs.Ending.{numbered_line};
+ghost use Rattle.reference_answers.specs.Numbers.{page_numbered};
+ghost use Rattle.reference_answers.specs.Texts.{victim_line};
+
+use command_ending::put_number;
+use page_opt::Victim;
+use std::alloc::AllocError;
+use vm_facts::Page;
+
+/// Puts words and a number as a line.
+pub(crate) fn put_numbered_line(
+    text: &mut Vec<u8>,
+    words: &[u8],
+    number: u32,
+) -> Result<(), AllocError>
+    ensures { OnOk result (text.new.items ≡ text.old.items ++ numbered_line words.now number) }
+{
+    text.extend_from_slice(words)?;
+    put_number(text, number)?;
+    text.push(b'\n')?;
+    Ok(())
+}
+
+/// Puts the line of a victim; its page has a number among pages.
+pub(crate) fn put_victim(
+    text: &mut Vec<u8>,
+    pages: &[Page],
+    victim: Victim,
+) -> Result<(), AllocError>
+    ensures { OnOk result (text.new.items ≡ text.old.items ++ victim_line pages.now victim) }
+{
+    text.extend_from_slice(b"v ")?;
+    put_number(text, victim.at)?;
+    if let Some(page) = page_numbered(pages, victim.page) {
+        put_page(text, *page)?;
+    }
+    text.push(b'\n')?;
+    Ok(())
+}
+
+/// Puts the line of a size and its faults.
+pub(crate) fn put_size(text: &mut Vec<u8>, size: u32, faults: u32) -> Result<(), AllocError>
+    ensures { OnOk result (text.new.items ≡ text.old.items ++ decimal size ++ part faults ++ codes "\n") }
+{
+    put_number(text, size)?;
+    put_part(text, faults)?;
+    text.push(b'\n')?;
+    Ok(())
+}
+
+/// The page with a number among pages, where there is one.
+fn page_numbered(pages: &[Page], number: u32) -> Option<&Page>
+    ensures { option_copied result ≡ page_numbered pages.now number }
+{
+    let place = number.checked_sub(1)?;
+    pages.get(place as usize)
+}
+
+/// Puts a page behind a space.
+fn put_page(text: &mut Vec<u8>, page: Page) -> Result<(), AllocError>
+    ensures { OnOk result (text.new.items ≡ text.old.items ++ page_text page) }
+{
+    match page {
+        Page::Data { sid, v } => put_named(text, b" d", sid, v),
+        Page::Stack { sid, v } => put_named(text, b" s", sid, v),
+        Page::Text { image, v } => put_named(text, b" x", image, v),
+    }
+}
+
+/// Puts a segment's letter, and the two numbers of a page's name.
+fn put_named(text: &mut Vec<u8>, name: &[u8], owner: u32, v: u32) -> Result<(), AllocError>
+    ensures { OnOk result (text.new.items ≡ text.old.items ++ name.now ++ part owner ++ part v) }
+{
+    text.extend_from_slice(name)?;
+    put_part(text, owner)?;
+    put_part(text, v)
+}
+
+/// Puts a number behind a space.
+fn put_part(text: &mut Vec<u8>, number: u32) -> Result<(), AllocError>
+    ensures { OnOk result (text.new.items ≡ text.old.items ++ part number) }
+{
+    text.push(b' ')?;
+    put_number(text, number)
+}
