@@ -1,5 +1,5 @@
 -- How the code finds a page among those before it: by a key of numbers.
-use Rattle.std.specs.Prelude.{ℕ, ◌×◌, List, [], ◌∷◌, ◌++◌, if◌then◌else◌}
+use Rattle.std.specs.Prelude.{ℕ, List, [], ◌∷◌, ◌++◌, if◌then◌else◌}
 use Rattle.vm_facts.specs.declared.page.Page.{Page}
 use Rattle.vm_facts.specs.declared.page.Page.TheVariants.{Data, Stack, Text}
 use Rattle.flat_state.specs.PageNames.{is_among}

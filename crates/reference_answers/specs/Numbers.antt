@@ -1,5 +1,5 @@
 -- Pages as numbers: each page has the number of its place among pages, the first one 1.
-use Rattle.std.specs.Prelude.{ℕ, zero, suc, ◌+◌, List, map, Option, None, slice_get}
+use Rattle.std.specs.Prelude.{ℕ, ◌+◌, ◌-◌, ◌==◌, if◌then◌else◌, List, map, Option, None, slice_get}
 use Rattle.std.specs.List.{position_or_len}
 use Rattle.vm_facts.specs.declared.page.Page.{Page}
 use Rattle.flat_state.specs.PageNames.{same_page}
@@ -14,6 +14,5 @@ unfoldable pub numbers_of : List Page → List ℕ
 numbers_of refs = map (number_from 1 (distinct refs)) refs
 
 -- the page with a number among pages, where there is one
-unfoldable pub page_numbered : List Page → ℕ → Option Page
-page_numbered pages zero = None
-page_numbered pages (suc place) = slice_get pages place
+abbrev pub page_numbered : List Page → ℕ → Option Page
+page_numbered pages number = if number == 0 then None else slice_get pages (number - 1)

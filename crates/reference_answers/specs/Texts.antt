@@ -1,9 +1,9 @@
 -- The texts of the answers: lines of counts, of victims, and of sizes.
-use Rattle.std.specs.Prelude.{ℕ, List, [], ◌++◌, length, Option, Some, None, codes, decimal}
+use Rattle.std.specs.Prelude.{ℕ, ◌+◌, List, [], ◌∷◌, ◌++◌, length, map, Option, Some, None, codes, decimal}
 use Rattle.std.specs.List.{flat_map, range_with_len}
 use Rattle.vm_facts.specs.declared.page.Page.{Page}
 use Rattle.flat_model.specs.Touched.{distinct}
-use Rattle.run_text.specs.Text.{page_text}
+use Rattle.run_text.specs.Text.{page_text, part}
 use Rattle.command_ending.specs.Ending.{numbered_line}
 use Rattle.page_opt.specs.declared.Victim.{Victim}
 use Rattle.stack_dist.specs.Lru.{lru_faults}
@@ -30,14 +30,15 @@ optimum_text refs frames faults victims =
     numbered_line (codes "least faults ") faults ++
     flat_map (victim_line (distinct refs)) victims
 
--- a size of memory, in pages, and the faults of LRU at it
-abbrev pub size_line : List ℕ → ℕ → List ℕ
-size_line numbers size = decimal size ++ codes " " ++ decimal (lru_faults numbers size) ++ codes "\n"
+-- a line for each size of memory in pages, rising from one on: the size, and the faults at it
+unfoldable pub size_lines : ℕ → List ℕ → List ℕ
+size_lines size [] = []
+size_lines size (faults ∷ more) = decimal size ++ part faults ++ codes "\n" ++ size_lines (size + 1) more
 
--- the sizes from 1 to as many as there are pages
-abbrev pub size_lines : List Page → List ℕ
-size_lines refs = flat_map (size_line (numbers_of refs)) (range_with_len 1 (length (distinct refs)))
+-- the faults of LRU at each size from 1 to so many pages
+abbrev pub lru_curve : List ℕ → ℕ → List ℕ
+lru_curve refs pages = map (lru_faults refs) (range_with_len 1 pages)
 
--- the faults of LRU at each size
+-- the faults of LRU at each size up to as many as there are pages
 abbrev pub curve_text : List Page → List ℕ
-curve_text refs = counted_text refs ++ size_lines refs
+curve_text refs = counted_text refs ++ size_lines 1 (lru_curve (numbers_of refs) (length (distinct refs)))

@@ -10,7 +10,7 @@ ghost use Rattle.reference_answers.specs.Answers.{IsOptimumText};
 mod lines;
 mod numbering;
 
-use lines::{put_numbered_line, put_size, put_victim};
+use lines::{put_numbered_line, put_sizes, put_victims};
 use numbering::{Numbered, number_pages};
 use page_opt::least_faults;
 use stack_dist::curve;
@@ -30,9 +30,11 @@ pub fn optimum_text(alloc: Global, refs: &[Page], frames: u32) -> Result<Vec<u8>
     let mut text = count_lines(alloc, &numbered)?;
     put_numbered_line(&mut text, b"frames ", frames)?;
     put_numbered_line(&mut text, b"least faults ", plan.faults)?;
-    for victim in plan.victims.iter() {
-        put_victim(&mut text, numbered.pages.as_slice(), *victim)?;
-    }
+    put_victims(
+        &mut text,
+        numbered.pages.as_slice(),
+        plan.victims.as_slice(),
+    )?;
     Ok(text)
 }
 
@@ -46,9 +48,7 @@ pub fn curve_text(alloc: Global, refs: &[Page]) -> Result<Vec<u8>, NoMemory>
     let numbered = number_pages(alloc, refs)?;
     let faults = curve(alloc, numbered.numbers.as_slice())?;
     let mut text = count_lines(alloc, &numbered)?;
-    for (i, faults) in faults.iter().enumerate() {
-        put_size(&mut text, i as u32 + 1, *faults)?;
-    }
+    put_sizes(&mut text, faults.as_slice())?;
     Ok(text)
 }
 
@@ -63,3 +63,6 @@ fn count_lines(alloc: Global, numbered: &Numbered) -> Result<Vec<u8>, AllocError
     put_numbered_line(&mut text, b"pages ", numbered.pages.len() as u32)?;
     Ok(text)
 }
+
+#[cfg(test)]
+mod tests;

@@ -1,10 +1,11 @@
 //! The lines of the texts.
-ghost use Rattle.std.specs.Prelude.{◌≡◌, ◌++◌, OnOk, codes, decimal};
+ghost use Rattle.std.specs.Prelude.{◌≡◌, ◌<◌, ◌^◌, ◌++◌, length, OnOk, codes, decimal};
+ghost use Rattle.std.specs.List.{flat_map};
 ghost use Rattle.std.specs.Option.{option_copied};
 ghost use Rattle.run_text.specs.Text.{page_text, part};
 ghost use Rattle.command_ending.specs.Ending.{numbered_line};
 ghost use Rattle.reference_answers.specs.Numbers.{page_numbered};
-ghost use Rattle.reference_answers.specs.Texts.{victim_line};
+ghost use Rattle.reference_answers.specs.Texts.{victim_line, size_lines};
 
 use command_ending::put_number;
 use page_opt::Victim;
@@ -25,12 +26,22 @@ pub(crate) fn put_numbered_line(
     Ok(())
 }
 
-/// Puts the line of a victim; its page has a number among pages.
-pub(crate) fn put_victim(
+/// Puts the lines of victims, whose pages have numbers among pages.
+pub(crate) fn put_victims(
     text: &mut Vec<u8>,
     pages: &[Page],
-    victim: Victim,
+    victims: &[Victim],
 ) -> Result<(), AllocError>
+    ensures { OnOk result (text.new.items ≡ text.old.items ++ flat_map (victim_line pages.now) victims.now) }
+{
+    for victim in victims {
+        put_victim(text, pages, *victim)?;
+    }
+    Ok(())
+}
+
+/// Puts the line of a victim, whose page has a number among pages.
+fn put_victim(text: &mut Vec<u8>, pages: &[Page], victim: Victim) -> Result<(), AllocError>
     ensures { OnOk result (text.new.items ≡ text.old.items ++ victim_line pages.now victim) }
 {
     text.extend_from_slice(b"v ")?;
@@ -42,8 +53,21 @@ pub(crate) fn put_victim(
     Ok(())
 }
 
+/// Puts a line for each size of memory from 1 page on, with the faults at it.
+pub(crate) fn put_sizes(text: &mut Vec<u8>, curve: &[u32]) -> Result<(), AllocError>
+    requires { length curve.now < 2 ^ 32 }
+    ensures { OnOk result (text.new.items ≡ text.old.items ++ size_lines 1 curve.now) }
+{
+    let mut size = 0;
+    for faults in curve {
+        size += 1;
+        put_size(text, size, *faults)?;
+    }
+    Ok(())
+}
+
 /// Puts the line of a size and its faults.
-pub(crate) fn put_size(text: &mut Vec<u8>, size: u32, faults: u32) -> Result<(), AllocError>
+fn put_size(text: &mut Vec<u8>, size: u32, faults: u32) -> Result<(), AllocError>
     ensures { OnOk result (text.new.items ≡ text.old.items ++ decimal size ++ part faults ++ codes "\n") }
 {
     put_number(text, size)?;
