@@ -1,3 +1,4 @@
 pub mod LastLines
 pub mod Transcripts
 pub mod Replays
+pub mod NameLists

@@ -18,6 +18,7 @@ fn load_flat<'a, F: Files>(alloc: Global, files: &mut F, name: &'a str) -> Resul
     ensures answers { (list : List NamedFile) → F.holds files.old ≡ Some list
         → AnswersNamed (λ flat. flat) (flat_in name.now (image_told list name.now)) result }
     ensures image { IfOk result IsImageFile }
+    ensures named { IfOk result (λ flat. flat.name ≡ name.now) }
     ensures holds { F.holds files.new ≡ F.holds files.old }
     ensures faults { FaultsBy result (record { open_before = F.open_faults files.old; open_after = F.open_faults files.new; page_before = F.page_faults files.old; page_after = F.page_faults files.new }) }
 {
@@ -35,6 +36,7 @@ fn load_flat<'a, F: Files>(alloc: Global, files: &mut F, name: &'a str) -> Resul
 }
 
 /// The images of these names, in their order; or the fault of the first that can't be read.
+#[tactic(auto, using(crate::proofs::NameLists::names_more))]
 pub fn load_images<'a, F: Files>(
     alloc: Global,
     files: &mut F,
@@ -45,6 +47,7 @@ pub fn load_images<'a, F: Files>(
         → AnswersNamed (λ images. images.items) (images_told list (map (λ name. name.now) names.now)) result }
     ensures images { IfOk result (λ images. All IsImageFile images.items) }
     ensures count { IfOk result (λ images. length images.items ≡ length names.now) }
+    ensures named { IfOk result (λ images. map (λ image. image.name) images.items ≡ map (λ name. name.now) names.now) }
     ensures holds { F.holds files.new ≡ F.holds files.old }
     ensures faults { FaultsBy result (record { open_before = F.open_faults files.old; open_after = F.open_faults files.new; page_before = F.page_faults files.old; page_after = F.page_faults files.new }) }
 {

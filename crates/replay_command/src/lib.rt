@@ -8,6 +8,8 @@ mod naming;
 mod transcript;
 
 pub use command::replay_file;
+pub use images::load_images;
+pub use naming::{Naming, name_images};
 
 #[cfg(test)]
 mod tests;

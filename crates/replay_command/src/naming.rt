@@ -1,5 +1,5 @@
 // The images that the words of a replay name.
-ghost use Rattle.std.specs.Prelude.{◌≡◌, ◌<◌, ◌^◌, map, length, All, IfOk, IfErr};
+ghost use Rattle.std.specs.Prelude.{◌≡◌, ◌<◌, ◌≤◌, ◌^◌, map, length, All, IfOk, IfErr};
 ghost use Rattle.run_files.specs.ImageWords.{name_in, image_names, first_images};
 ghost use Rattle.replay_check.specs.Images.{AreNumbers};
 ghost use Rattle.command_ending.specs.declared.fault.Fault.TheVariants.{NoMemory};
@@ -22,6 +22,7 @@ pub fn name_images<'a>(alloc: Global, words: &[&'a str]) -> Result<Naming<'a>, F
     ensures names { IfOk result (λ naming. map (λ name. name.now) naming.names.items ≡ image_names (map (λ word. word.now) words.now)) }
     ensures first { IfOk result (λ naming. naming.first.items ≡ first_images (image_names (map (λ word. word.now) words.now)) (map (λ word. word.now) words.now)) }
     ensures few { IfOk result (λ naming. length naming.names.items < 2 ^ 31) }
+    ensures count { IfOk result (λ naming. length naming.names.items ≤ length words.now) }
     ensures short { IfOk result (λ naming. All (λ name. length name.now < 64) naming.names.items) }
     ensures range { IfOk result (λ naming. AreNumbers (length naming.names.items) naming.first.items) }
     ensures error { IfErr result (λ fault. fault ≡ NoMemory) }

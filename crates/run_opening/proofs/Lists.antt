@@ -14,7 +14,7 @@ mapped_at f (x ∷ xs) zero d = refl
 mapped_at f (x ∷ xs) (suc k) d = mapped_at f xs k d
 
 -- a fact of each item of a list that maps to another
-All-of_map : {X Y : Type 0} (P : Y → Type 0) (f : X → Y) (xs : List X) → All P (map f xs) → All (λ x. P (f x)) xs
+pub All-of_map : {X Y : Type 0} (P : Y → Type 0) (f : X → Y) (xs : List X) → All P (map f xs) → All (λ x. P (f x)) xs
 All-of_map P f xs each = λ k d below. subst P (mapped_at f xs k d) (each k (f d) (omega (arith, below, length-map xs f)))
 
 -- a fact of each name in words is one of each image's name
@@ -24,7 +24,7 @@ All-distinct P (name ∷ names) each =
     All-cons P name (filter (λ other. not (bytes_eq other name)) (distinct names)) (each 0 name (omega arith))
     (All-filter (λ other. not (bytes_eq other name)) P (distinct names) (All-distinct P names (λ k d below. each (suc k) d (omega (arith, below)))))
 
-All-image_names : (P : List ℕ → Type 0) (words : List (List ℕ)) → All (λ word. P (name_in word)) words → All P (image_names words)
+pub All-image_names : (P : List ℕ → Type 0) (words : List (List ℕ)) → All (λ word. P (name_in word)) words → All P (image_names words)
 unfolding image_names
 All-image_names P words each = All-distinct P (map name_in words) (All-map P name_in words each)
 

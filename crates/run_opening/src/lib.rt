@@ -9,6 +9,7 @@ mod schedule;
 pub use devices::device_fault;
 pub use images::{OpenedImage, open_images};
 pub use opening::{Opening, open_run};
+pub use schedule::open_schedule;
 
 #[cfg(test)]
 mod tests;

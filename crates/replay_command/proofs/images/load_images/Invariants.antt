@@ -1,5 +1,5 @@
 -- The images so far are those of the names so far, and no count of faults rose.
-use Rattle.std.proofs.Common.{◌≡◌, List, Some, length, map, drop}
+use Rattle.std.proofs.Common.{◌≡◌, List, Some, length, map, take, drop}
 use Rattle.std.specs.Prelude.{All}
 use Rattle.io_edge.specs.FileHolding.{NamedFile}
 use Rattle.replay_check.specs.Images.{IsImageFile}
@@ -13,6 +13,7 @@ invariant-loop-name g l = record {
       → images_told list (map (λ name. name.now) l.names) ≡ behind l.images.items (images_told list (map (λ name. name.now) (drop l.name-index l.names)));
   images : All IsImageFile l.images.items;
   count : length l.images.items ≡ l.name-index;
+  named : map (λ image. image.name) l.images.items ≡ map (λ name. name.now) (take l.name-index l.names);
   holds : g.F.Files.holds l.files ≡ g.F.Files.holds l.fn.files;
   open_faults : g.F.Files.open_faults l.files ≡ g.F.Files.open_faults l.fn.files;
   page_faults : g.F.Files.page_faults l.files ≡ g.F.Files.page_faults l.fn.files;
