@@ -22,7 +22,7 @@ use vm_core::Core;
 use vm_facts::{NoMemory, Params};
 
 /// The core of a run, with no process yet.
-pub(crate) fn core_of(
+pub fn core_of(
     alloc: Global,
     numbers: Numbers,
     images: &[OpenedImage<'_>],

@@ -8,9 +8,9 @@ mod naming;
 mod paired;
 mod writing;
 
-pub use command::run_command;
+pub use command::{core_of, run_command};
 pub use loading::load_command;
-pub use paired::run_paired;
+pub use paired::{JOURNAL_ENTRIES, run_paired};
 
 #[cfg(test)]
 mod tests;

@@ -17,7 +17,7 @@ use vm_core::{Core, Unfinished, run_schedule};
 use vm_facts::{Event, Stop};
 
 /// The most entries of a journal.
-pub(crate) const JOURNAL_ENTRIES: u32 = 16_777_216;
+pub const JOURNAL_ENTRIES: u32 = 16_777_216;
 
 // The fault of a stop, with the device of the last failed read and of the last failed write. A journal is full that has all its
 // entries.
