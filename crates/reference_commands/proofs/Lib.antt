@@ -1,0 +1,7 @@
+pub mod Bytes
+pub mod Copies
+pub mod Counts
+pub mod Names
+pub mod Runs
+pub mod Asked
+pub mod Words

@@ -1,0 +1,14 @@
+use Rattle.std.proofs.Common.{Result, subst}
+use Rattle.vm_core.specs.declared.schedule.Unfinished.{Unfinished}
+use Rattle.vm_core.specs.RunEnds.{RunEnds}
+use Rattle.reference_commands.specs.Ends.{blank_swap}
+use Rattle.reference_commands.proofs.Runs.{finished}
+use Rattle.reference_commands.proofs.running.references_at_end.Goals as goal
+
+pub returns-in-Ok-references : goal.returns-in-Ok-references
+returns-in-Ok-references c = record {
+  ends = λ A after images first limit run.
+      finished A c.args.journal.now after c.in-Ok-references.pages.items limit
+      (subst (λ (r : Result (Unit {0}) Unfinished). RunEnds A c.args.journal.now (blank_swap A.swap_blocks) r after) c.in-Ok.is run)
+      (λ good. c.in-Ok-references.ensures A images first good);
+}

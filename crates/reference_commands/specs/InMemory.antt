@@ -1,0 +1,106 @@
+-- A run over images that are held in memory, and over a swap of its own.
+use Rattle.std.specs.Prelude.{◌≡◌, ◌≤◌, ℕ, false, bytes_eq, List, [], ◌∷◌, map, length, All, Option, Some, Result, Ok, Err}
+use Rattle.aout_image.specs.Image.{IsSound, file_length_of}
+use Rattle.vm_facts.specs.declared.entry.Entry.{Entry}
+use Rattle.vm_facts.specs.declared.event.Event.{Event}
+use Rattle.vm_facts.specs.declared.page.Page.{Page}
+use Rattle.vm_facts.specs.declared.stop.Stop.TheVariants as stops
+use Rattle.io_edge.specs.FileHolding.{NamedFile, HasRange}
+use Rattle.flat_state.specs.Flat.{Inputs}
+use Rattle.flat_model.specs.Asked.{start_held}
+use Rattle.vm_core.specs.Lawful.{RunFinished, RunHalted}
+use Rattle.run_files.specs.ImageWords.{IsShortName}
+use Rattle.run_text.specs.Schedule.{IsInRanges}
+use Rattle.replay_check.specs.Images.{FlatFile, AreNumbers, images_of}
+use Rattle.replay_check.specs.Verdicts.{references_of}
+use Rattle.command_ending.specs.declared.fault.Fault.{Fault}
+use Rattle.command_ending.specs.declared.fault.Fault.TheVariants.{NoMemory, JournalFull, NoSpace}
+use Rattle.command_words.specs.declared.command.Numbers.{Numbers}
+use Rattle.command_words.specs.Command.{AreAllowed}
+use Rattle.run_opening.specs.declared.images.OpenedImage.{OpenedImage}
+use Rattle.run_opening.specs.Images.{images_in, IsIn}
+use Rattle.run_command.specs.Machines.{journal_entries}
+use Rattle.command_ending.specs.Ending.{Ending}
+use Rattle.reference_commands.specs.declared.question.Question.{Question}
+use Rattle.reference_commands.specs.Asking.{IsAnswer}
+use Rattle.reference_commands.specs.Ends.{blank_swap}
+
+-- the files of images
+abbrev pub file_of : FlatFile → NamedFile
+file_of image = record { name = image.name; bytes = image.bytes }
+
+-- inputs with these images
+abbrev pub inputs_with : Numbers → List FlatFile → List ℕ → List Event → Inputs
+inputs_with numbers images first lines = record {
+  images = images_of images;
+  first = first;
+  lines = lines;
+  frames = numbers.frames;
+  swap_blocks = numbers.swap;
+  limit = numbers.limit;
+}
+
+-- Images that were opened from these files in memory: each is that of its file.
+pub record AreOpened (images : List FlatFile) (opened : List OpenedImage) : Type 0 where
+  pub are : images_in (map file_of images) opened ≡ images_of images
+  pub are_in : All (IsIn (map file_of images)) opened
+  pub sound : All (λ (image : OpenedImage). IsSound image.facts) opened
+  pub ranges : All (λ (image : OpenedImage). HasRange (Some (map file_of images)) image.file 0 (file_length_of image.facts)) opened
+  pub short : All (λ (image : OpenedImage). IsShortName image.name.now) opened
+  pub count : length opened ≡ length images
+  pub few : length opened ≤ 16
+
+-- What a run in memory needs: numbers in their ranges, and at most 100,000 instructions; first processes with images; and lines in their ranges.
+pub record IsRunnable (numbers : Numbers) (images : ℕ) (first : List ℕ) (lines : List Event) : Type 0 where
+  pub allowed : AreAllowed numbers
+  pub limit : numbers.limit ≤ 100000
+  pub numbers_are : AreNumbers images first
+  pub few_first : length first ≤ 16
+  pub ranges : All IsInRanges lines
+  pub few_lines : length lines ≤ 65536
+
+-- the run is finished, and these are its references, which are few enough to be asked about
+pub record HasReferences (A : Inputs) (pages : List Page) : Type 0 where
+  pub journal : List Entry
+  pub left : Option (List ℕ)
+  pub finished : RunFinished A journal (blank_swap A.swap_blocks) left
+  pub are : pages ≡ references_of A journal
+  pub few : length pages ≤ 4000000
+
+-- the run halted where its journal has all entries that it may have
+pub record HasHalted (A : Inputs) : Type 0 where
+  pub journal : List Entry
+  pub left : Option (List ℕ)
+  pub halted : RunHalted A journal stops.JournalFull (blank_swap A.swap_blocks) left
+  pub full : journal_entries ≤ length journal
+
+-- how the run of these inputs ends, with its references where it is finished
+abbrev pub EndsRun : Inputs → Result (List Page) Fault → Type 0
+EndsRun A (Ok pages) = HasReferences A pages
+EndsRun A (Err NoMemory) = Unit {0}
+EndsRun A (Err JournalFull) = HasHalted A
+EndsRun A (Err (NoSpace pid)) = start_held A ≡ Err pid
+EndsRun A (Err _) = ⊥
+
+-- how answering the question about it ends
+pub record HasAnswer (question : Question) (A : Inputs) (text : List ℕ) : Type 0 where
+  pub journal : List Entry
+  pub left : Option (List ℕ)
+  pub finished : RunFinished A journal (blank_swap A.swap_blocks) left
+  pub answer : IsAnswer question (references_of A journal) text
+
+abbrev pub EndsAnswer : Question → Inputs → Ending → Type 0
+EndsAnswer question A (Ok text) = HasAnswer question A text
+EndsAnswer question A (Err NoMemory) = Unit {0}
+EndsAnswer question A (Err JournalFull) = HasHalted A
+EndsAnswer question A (Err (NoSpace pid)) = start_held A ≡ Err pid
+EndsAnswer question A (Err _) = ⊥
+
+-- each name differs from those that follow
+abbrev pub DiffersFrom : List ℕ → List (List ℕ) → Type 0
+DiffersFrom name [] = Unit {0}
+DiffersFrom name (other ∷ others) = (bytes_eq other name ≡ false) × DiffersFrom name others
+
+abbrev pub AllDiffer : List (List ℕ) → Type 0
+AllDiffer [] = Unit {0}
+AllDiffer (name ∷ names) = DiffersFrom name names × AllDiffer names

@@ -1,0 +1,12 @@
+//! The commands `opt` and `curve`: a schedule and images that words name are run in memory, and a question about the
+//! references of the run is answered.
+#![tactic(auto)]
+
+mod command;
+mod copying;
+mod octets;
+mod question;
+mod running;
+
+pub use command::ask_command;
+pub use question::Question;

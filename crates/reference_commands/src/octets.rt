@@ -1,0 +1,7 @@
+// Bytes are numbers below 256.
+ghost use Rattle.vax_code.specs.Grammar.{AreOctets};
+
+/// What contracts see of bytes is a list of numbers; each of them is below 256.
+pub fn are_octets(bytes: &[u8])
+    ensures { AreOctets bytes.now }
+{}
