@@ -1,36 +1,26 @@
 ghost use Rattle.std.specs.Prelude.{◌≡◌, map};
 ghost use Rattle.command_words.specs.Asked.{asked_of};
-ghost use Rattle.command_ending.specs.Command.{Writes};
 ghost use Rattle.run_command.specs.Paired.{image_together};
-ghost use Rattle.vm_run.specs.Obeying.{Obeys, LeavesDevice, not_built_line, not_built_status};
+ghost use Rattle.vm_run.specs.Obeying.{Obeys, LeavesDevice};
 
 use command_ending::{Fault, write_ending};
 use command_words::{Command, read_words};
-use io_edge::{Files, Moved, Sink, SwapDev};
+use io_edge::{Files, Sink, SwapDev};
+use reference_commands::{Question, ask_command};
 use replay_command::replay_file;
 use run_command::{load_command, run_command};
 use source_commands::{assemble_file, list_file};
 use std::alloc::Global;
 
-// Writes the line of a command that isn't built yet.
-fn write_not_built<S: Sink>(sink: &mut S) -> u8
-    ensures { Writes (S.written sink.old) (S.written sink.new) (S.faults sink.old) (S.faults sink.new) not_built_line not_built_status result }
-{
-    match sink.put(b"vmrun: not built yet\n") {
-        Moved::Done => 13,
-        Moved::Failed => 8,
-    }
-}
-
 /// Does what the words of a command line ask for, without the program's name, over files, two swap devices and an
 /// output, and answers the exit status: 0 where it was done; 1 bad words; 2 an absent file; 3 no image; 4 a bad schedule;
 /// 5 a file fault; 6 a fault of a swap device that is read, 7 of one that is written; 8 a fault of the output; 9 want of
-/// memory; 10 a full journal; 11 no swap for a first process; 12 a swap device that is too short; 13 words whose command isn't
-/// built yet; 14 a transcript that is no run; 15 a bad transcript; 16 one that is too long; 17 a bad source. The first thing met
-/// decides, but an output that fails gives 8 whatever came before (this project's profile).
+/// memory; 10 a full journal; 11 no swap for a first process; 12 a swap device that is too short; 14 a transcript that is no run;
+/// 15 a bad transcript; 16 one that is too long; 17 a bad source. The first thing met decides, but an output that fails gives 8
+/// whatever came before (this project's profile).
 ///
 /// A run reads its pages from the files, and a load from files of its own in memory; both write to the swap devices and read from
-/// them. Other commands leave the devices as they are.
+/// them. Other commands leave the devices as they are: the runs of `opt` and `curve` have a swap of their own in memory.
 pub fn vmrun<F: Files, D: SwapDev, E: SwapDev, S: Sink>(
     alloc: Global,
     words: &[&str],
@@ -73,7 +63,37 @@ pub fn vmrun<F: Files, D: SwapDev, E: SwapDev, S: Sink>(
         }
         Some(Command::Assemble { source }) => assemble_file(alloc, files, sink, source),
         Some(Command::Show { image }) => list_file(alloc, files, sink, image),
-        Some(Command::Optimum { .. } | Command::Curve { .. }) => write_not_built(sink),
+        Some(
+            Command::Optimum {
+                size,
+                numbers,
+                schedule,
+                images,
+            },
+        ) => ask_command(
+            alloc,
+            files,
+            sink,
+            Question::Optimum(size),
+            numbers,
+            schedule,
+            images,
+        ),
+        Some(
+            Command::Curve {
+                numbers,
+                schedule,
+                images,
+            },
+        ) => ask_command(
+            alloc,
+            files,
+            sink,
+            Question::Curve,
+            numbers,
+            schedule,
+            images,
+        ),
         None => write_ending(alloc, sink, Err(Fault::BadWords)),
     }
 }

@@ -5,6 +5,7 @@ mod endings;
 mod images;
 mod paging;
 mod processes;
+mod questions;
 mod tools;
 
 use crate::vmrun;
