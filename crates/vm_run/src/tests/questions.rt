@@ -29,11 +29,7 @@ fn answers_about_the_references_of_a_run(rt: HostRuntime) -> Result<(), Fail> {
                 "references 9\npages 3\n1 7\n2 5\n3 3\n",
                 0,
             ),
-            (
-                "curve 64 256 100 s hi",
-                "references 4\npages 1\n1 1\n",
-                0,
-            ),
+            ("curve 64 256 100 s hi", "references 4\npages 1\n1 1\n", 0),
             ("curve 64 256 1 s hi", "references 1\npages 1\n1 1\n", 0),
             (
                 "curve 64 256 300 s forky",
@@ -60,7 +56,11 @@ fn names_why_no_question_is_answered(rt: HostRuntime) -> Result<(), Fail> {
                 "vmrun: not an image: s reason 1\n",
                 3,
             ),
-            ("curve 64 256 100 s big", "vmrun: no swap for process 1\n", 11),
+            (
+                "curve 64 256 100 s big",
+                "vmrun: no swap for process 1\n",
+                11,
+            ),
         ],
     )?;
     check(
