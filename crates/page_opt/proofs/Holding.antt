@@ -1,7 +1,7 @@
 -- The two sets that hold a cache: how they change with each step, and which page they give first.
 use Rattle.std.proofs.Common.{◌≡◌, ℕ, ◌+◌, ◌<◌, ◌≤◌, Bool, true, false, not, List, ◌∷◌, length, refl, sym, ap, ◌∙◌, arith, inl, inr}
 use Rattle.std.specs.Prelude.{◌==◌, ◌||◌, ◌&&◌}
-use Rattle.std.proofs.lemmas.Bool.{cases_eq, cases_lt, cases_Bool, eq-eqb, ne_eqb, eqb-true, eqb-false, false≢true, true≢false, or_cases, or_left, or_right, and_parts, and_from, not-true, not_from_false, false_from_ne_true}
+use Rattle.std.proofs.lemmas.Bool.{cases_eq, cases_lt, cases_Bool, eq-eqb, ne_eqb, eqb-true, eqb-false, false≢true, or_cases, or_left, or_right, and_parts, and_from, not-true, not_from_false, false_from_ne_true}
 use Rattle.page_opt.specs.Plans.{has}
 use Rattle.page_opt.specs.Furthest.{next_use}
 use Rattle.page_opt.specs.Cache.{Changed, Held}
@@ -128,17 +128,6 @@ held_awaited v at future inside awaited awaited' spent h n c = record {
 }
 
 -- ---- a page enters
-
-pub new_awaited : (p at : ℕ) (future : List ℕ) (inside awaited spent : ℕ → Bool) → Held future at inside awaited spent
-    → inside p ≡ false → next_use p future < length future → awaited (at + next_use p future) ≡ false
-new_awaited p at future inside awaited spent h away n = false_from_ne_true (awaited (at + next_use p future))
-    (λ a.
-    let d = h.due (at + next_use p future) a in let e = d.3 in
-    true≢false (sym d.1 ∙ ap inside (next_apart d.0 p future (omega arith) d.2) ∙ away))
-
-pub new_spent : (p at : ℕ) (future : List ℕ) (inside awaited spent : ℕ → Bool) → Held future at inside awaited spent
-    → inside p ≡ false → spent p ≡ false
-new_spent p at future inside awaited spent h away = false_from_ne_true (spent p) (λ s. true≢false (sym (h.over p s).0 ∙ away))
 
 pub held_put_awaited : (p at : ℕ) (future : List ℕ) (inside awaited awaited' spent : ℕ → Bool) → Held future at inside awaited spent
     → next_use p future < length future → Changed awaited awaited' (at + next_use p future) true → Held future at (plus p inside) awaited' spent

@@ -6,6 +6,7 @@ pub mod Served
 pub mod Chosen
 pub mod Least
 pub mod Places
+pub mod Summaries
 pub mod Standing
 pub mod Replaying
 pub mod Rising

@@ -1,9 +1,6 @@
 -- The place of a page's next use, from one reference to the one before.
-use Rattle.std.proofs.Common.{◌≡◌, ℕ, ◌+◌, ◌<◌, ◌≤◌, Bool, false, cond, List, [], ◌∷◌, length, drop, get_or, set, Option, Some, None, sym, ap, ◌∙◌, subst, arith, inl, inr}
-use Rattle.std.specs.Ordering.{nat_cmp}
-use Rattle.std.specs.BTreeMap.{is_at}
+use Rattle.std.proofs.Common.{◌≡◌, ℕ, ◌+◌, ◌<◌, ◌≤◌, Bool, cond, List, [], ◌∷◌, length, drop, get_or, set, Option, Some, None, sym, ap, ◌∙◌, subst, arith, inl, inr}
 use Rattle.std.proofs.lemmas.Bool.{cases_eq, cases_lt, lt-ltb, le-ltb}
-use Rattle.std.proofs.lemmas.Bool.Decides.{nat_tests}
 use Rattle.std.proofs.lemmas.List.{drop_more, drop_all, get_or-set_same, get_or-set_other}
 use Rattle.page_opt.specs.Furthest.{next_use}
 use Rattle.page_opt.specs.Cache.{next_at}
@@ -41,9 +38,6 @@ next_at_nil at q = let l = next_le q [] in next_at_none at q [] (omega arith)
 pub next_at_end : (refs : List ℕ) (q : ℕ) → None ≡ next_at (length refs) q (drop (length refs) refs)
 next_at_end refs q =
     sym (ap (λ (future : List ℕ). next_at (length refs) q future) (drop_all (length refs) refs (omega arith)) ∙ next_at_nil (length refs) q)
-
-pub apart : (p q : ℕ) → (p ≡ q → ⊥) → is_at (nat_cmp p) q ≡ false
-apart p q other = grind (arith, nat_tests)
 
 -- the next uses from a reference on, by those from the one after it on
 pub seen_more : (refs : List ℕ) (j : ℕ) (f g : ℕ → Option ℕ) → j < length refs → ((q : ℕ) → f q ≡ next_at (j + 1) q (drop (j + 1) refs))

@@ -1,7 +1,7 @@
 -- One reference, served by the code's two sets, is one step of Belady's rule.
 use Rattle.std.proofs.Common.{◌≡◌, ℕ, ◌+◌, ◌<◌, ◌≤◌, Bool, true, false, not, cond, nat_lt, List, [], ◌∷◌, ◌++◌, length, drop, get_or, Option, Some, None, refl, sym, ap, ◌∙◌, subst, arith, inl, inr, append_assoc}
 use Rattle.std.specs.Prelude.{◌==◌, ◌||◌, ◌&&◌, Result, Ok, Err, OnOk}
-use Rattle.std.proofs.lemmas.Bool.{cases_lt, eq-eqb, false≢true, true≢false, and_left, le-ltb}
+use Rattle.std.proofs.lemmas.Bool.{cases_lt, eq-eqb, false≢true, true≢false, or_left, le-ltb}
 use Rattle.std.proofs.lemmas.List.{append-nil, drop_all, drop_more, get_or-drop, length-drop}
 use Rattle.page_opt.specs.declared.Victim.{Victim}
 use Rattle.page_opt.specs.declared.resident.Resident.{Resident}
@@ -9,46 +9,48 @@ use Rattle.page_opt.specs.Plans.{Run, has, then, runs, all_left, faults_of, plan
 use Rattle.vm_facts.specs.Lists.{without_first}
 use Rattle.page_opt.specs.Furthest.{next_use, furthest, choice, cached, listed, victims_from, furthest_victims}
 use Rattle.page_opt.specs.Cache.{next_at, Changed, Held}
-use Rattle.page_opt.specs.Held.{in_set, size, IsWithin, Arrives, Leaves, HasRoom, PutAwaited, PutSpent, Puts, Stands}
+use Rattle.page_opt.specs.PlaceSet.{Bits, capacity, has_place}
+use Rattle.page_opt.specs.Held.{in_set, IsWithin, HasPages, Arrives, Leaves, HasRoom, PutAwaited, PutSpent, Puts, Stands}
 use Rattle.page_opt.proofs.Counts.{length-without}
 use Rattle.page_opt.proofs.Members.{none_less, same_again, has_first, has-without}
 use Rattle.std.proofs.Math.Bool.{and-false}
 use Rattle.page_opt.proofs.Uses.{next_le, next_is, IsFurthest, furthest_is}
 use Rattle.page_opt.proofs.Chosen.{IsHit, IsRoom, Chosen, chosen, after, after_hit, after_room, after_is_cache, run_from, next_run, chosen_serves, counted}
 use Rattle.page_opt.proofs.Places.{next_at_some, next_at_none}
-use Rattle.page_opt.proofs.Holding.{others, plus, held_same, held_here, held_arrive, held_spent, held_awaited, new_awaited, new_spent, held_put_awaited, held_put_spent, spent_furthest, awaited_furthest}
+use Rattle.page_opt.proofs.Holding.{others, plus, held_same, held_here, held_arrive, held_spent, held_awaited, held_put_awaited, held_put_spent, spent_furthest, awaited_furthest}
 
 -- the two sets hold a cache
 abbrev pub Holds : List ℕ → ℕ → (ℕ → Bool) → Resident → Type 0
-Holds future at inside r = Held future at inside (in_set r.awaited) (in_set r.spent)
+Holds future at inside r = Held future at inside (has_place r.awaited) (in_set r.spent)
 
 -- a page is put in
-puts_held : (p at : ℕ) (future : List ℕ) (inside : ℕ → Bool) (r s : Resident) → Holds future at inside r → inside p ≡ false
-    → Puts p (next_at at p future) r s → Holds future at (plus p inside) s × (size s ≡ size r + 1)
-puts_held p at future inside r s h away put = elim (cases_lt (next_use p future) (length future)) [
+puts_held : (p at : ℕ) (future : List ℕ) (inside : ℕ → Bool) (r s : Resident) → Holds future at inside r → Puts p (next_at at p future) r s
+    → Holds future at (plus p inside) s
+puts_held p at future inside r s h put = elim (cases_lt (next_use p future) (length future)) [
   | inl again ↦
-      let a : PutAwaited r s (at + next_use p future) = subst (λ (o : Option ℕ). Puts p o r s) (next_at_some at p future again) put in (
-        subst (λ t. Held future at (plus p inside) (in_set s.awaited) (in_set t)) (sym a.spent)
-            (held_put_awaited p at future inside (in_set r.awaited) (in_set s.awaited) (in_set r.spent) h again a.awaited),
-        a.size (new_awaited p at future inside (in_set r.awaited) (in_set r.spent) h away again),
-      )
+      let a : PutAwaited r s (at + next_use p future) = subst (λ (o : Option ℕ). Puts p o r s) (next_at_some at p future again) put in
+      subst (λ t. Held future at (plus p inside) (has_place s.awaited) (in_set t)) (sym a.spent)
+      (held_put_awaited p at future inside (has_place r.awaited) (has_place s.awaited) (in_set r.spent) h again a.awaited.places)
   | inr never ↦
       let top = next_le p future in
       let last : next_use p future ≡ length future = omega arith in
-      let a : PutSpent r s p = subst (λ (o : Option ℕ). Puts p o r s) (next_at_none at p future last) put in (
-        subst (λ t. Held future at (plus p inside) (in_set t) (in_set s.spent)) (sym a.awaited)
-            (held_put_spent p at future inside (in_set r.awaited) (in_set r.spent) (in_set s.spent) h last a.spent),
-        a.size (new_spent p at future inside (in_set r.awaited) (in_set r.spent) h away),
-      )
+      let a : PutSpent r s p = subst (λ (o : Option ℕ). Puts p o r s) (next_at_none at p future last) put in
+      subst (λ t. Held future at (plus p inside) (has_place t) (in_set s.spent)) (sym a.awaited)
+      (held_put_spent p at future inside (has_place r.awaited) (in_set r.spent) (in_set s.spent) h last a.spent)
 ]
+
+-- and nothing else changes
+puts_same : (p : ℕ) (o : Option ℕ) (r s : Resident) → Puts p o r s → (s.used ≡ r.used) × (capacity s.awaited ≡ capacity r.awaited)
+puts_same p None r s put = (put.used, ap (λ (b : Bits). capacity b) put.awaited)
+puts_same p (Some k) r s put = (put.used, put.awaited.room)
 
 -- the page that is used at a place arrives
 arrives_held : (p at : ℕ) (future : List ℕ) (cache : List ℕ) (r s : Resident) (hit : Bool) → Holds (p ∷ future) at (λ q. has q cache) r
     → Arrives r s at hit → Holds future (at + 1) (others p (λ q. has q cache)) s × (hit ≡ has p cache)
 arrives_held p at future cache r s hit h a = (
-  subst (λ t. Held future (at + 1) (others p (λ q. has q cache)) (in_set s.awaited) (in_set t)) (sym a.spent)
-      (held_arrive p at future (λ q. has q cache) (in_set r.awaited) (in_set s.awaited) (in_set r.spent) h a.awaited),
-  a.test ∙ held_here p at future (λ q. has q cache) (in_set r.awaited) (in_set r.spent) h,
+  subst (λ t. Held future (at + 1) (others p (λ q. has q cache)) (has_place s.awaited) (in_set t)) (sym a.spent)
+      (held_arrive p at future (λ q. has q cache) (has_place r.awaited) (has_place s.awaited) (in_set r.spent) h a.awaited.places),
+  a.test ∙ held_here p at future (λ q. has q cache) (has_place r.awaited) (in_set r.spent) h,
 )
 
 -- ---- a whole step
@@ -57,12 +59,13 @@ arrives_held p at future cache r s hit h a = (
 pub stands_next : (refs : List ℕ) (n i : ℕ) (r s : Resident) (victims later : List Victim) (faults more : ℕ) → 1 ≤ n → i < length refs
     → (st : Stands refs n i r victims faults)
     → Holds (drop (i + 1) refs) (i + 1) (λ q. has q (after n (get_or refs i 0) (drop (i + 1) refs) st.cache)) s
-    → size s ≡ length (after n (get_or refs i 0) (drop (i + 1) refs) st.cache)
+    → length refs ≤ capacity s.awaited
+    → s.used ≡ length (after n (get_or refs i 0) (drop (i + 1) refs) st.cache)
     → later ≡ victims ++ listed (i + 1) (choice n (get_or refs i 0) (drop (i + 1) refs) st.cache)
     → more ≡ counted (has (get_or refs i 0) st.cache) faults
     → Stands refs n (i + 1) s later more
 unfolding runs then run_from next_run victims_from
-stands_next refs n i r s victims later faults more some l st held sizes new_victims new_faults =
+stands_next refs n i r s victims later faults more some l st held room used new_victims new_faults =
     let p = get_or refs i 0 in
     let future = drop (i + 1) refs in
     let start : Run = record { cache = []; victims = furthest_victims refs n; faults = 0 } in
@@ -77,7 +80,8 @@ stands_next refs n i r s victims later faults more some l st held sizes new_vict
       cache = after n p future st.cache;
       is_cache = after_is_cache n p future st.cache some st.is_cache;
       held = held;
-      size = sizes;
+      room = room;
+      used = used;
       run =
           ap (λ (m : ℕ). runs n (i + 1 + 1) future (Some (record { cache = after n p future st.cache; victims = victims_from n (i + 1 + 1) future (after n p future st.cache); faults = m }))) new_faults ∙
           sym (ap (λ (o : Option Run). runs n (i + 1 + 1) future o) (chosen_serves n (i + 1) p future st.cache faults some st.is_cache)) ∙
@@ -130,6 +134,49 @@ stands_within refs n i r s victims faults hit l st a = λ k there.
     let len = length-drop (i + 1) refs in
     omega arith
 
+-- at a fault where no frame is free some page is in the cache
+pub stands_full : (refs : List ℕ) (n i : ℕ) (r s : Resident) (victims : List Victim) (faults : ℕ) → 1 ≤ n → i < length refs
+    → Stands refs n i r victims faults → Arrives r s i false → n ≤ s.used → HasPages s
+stands_full refs n i r s victims faults some l st a full = λ none none'.
+    let p = get_or refs i 0 in
+    let future = drop (i + 1) refs in
+    let arrived = arrives_held p i future st.cache r s false (split_held refs i (λ q. has q st.cache) r l st.held) a in
+    let same = held_same future (i + 1) (others p (λ q. has q st.cache)) (λ q. has q st.cache) (has_place s.awaited) (in_set s.spent) (none_less p st.cache (sym arrived.1)) arrived.0 in
+    let used = st.used in let stays = a.used in
+    first st.cache (omega arith) (λ q there. neither q future (i + 1) (λ r. has r st.cache) (has_place s.awaited) (in_set s.spent) same none none' there)
+  where
+    neither : (q : ℕ) (future : List ℕ) (at : ℕ) (inside awaited spent : ℕ → Bool) → Held future at inside awaited spent
+        → ((k : ℕ) → awaited k ≡ false) → ((k : ℕ) → spent k ≡ false) → inside q ≡ true → ⊥
+    neither q future at inside awaited spent h none none' there = elim (cases_lt (next_use q future) (length future)) [
+      | inl again ↦ false≢true (sym (none (at + next_use q future)) ∙ h.waits q there again)
+      | inr never ↦
+          let top = next_le q future in
+          let last : next_use q future ≡ length future = omega arith in
+          false≢true (sym (none' q) ∙ h.never q there last)
+    ]
+
+    first : (cache : List ℕ) → 0 < length cache → ((q : ℕ) → has q cache ≡ true → ⊥) → ⊥
+    first [] more absent = omega arith
+    first (q ∷ cache) more absent = absent q (has_first q q cache ∙ or_left (q == q) (has q cache) (eq-eqb q q refl))
+
+-- the place of a next use is one of the references
+pub next_inside : (refs : List ℕ) (i k : ℕ) → i < length refs → next_at (i + 1) (get_or refs i 0) (drop (i + 1) refs) ≡ Some k → k < length refs
+next_inside refs i k l e = elim (cases_lt (next_use (get_or refs i 0) (drop (i + 1) refs)) (length (drop (i + 1) refs))) [
+  | inl again ↦
+      let len = length-drop (i + 1) refs in
+      let at : i + 1 + next_use (get_or refs i 0) (drop (i + 1) refs) ≡ k = some_is (sym (next_at_some (i + 1) (get_or refs i 0) (drop (i + 1) refs) again) ∙ e) in
+      omega arith
+  | inr never ↦
+      let top = next_le (get_or refs i 0) (drop (i + 1) refs) in
+      absurd (none_some (sym (next_at_none (i + 1) (get_or refs i 0) (drop (i + 1) refs) (omega arith)) ∙ e))
+]
+  where
+    some_is : {m n : ℕ} → Some m ≡ Some n → m ≡ n
+    some_is e = cc
+
+    none_some : {n : ℕ} → None ≡ Some n → ⊥
+    none_some e = cc
+
 pub stands_hit : (refs : List ℕ) (n i : ℕ) (r s t : Resident) (victims : List Victim) (faults : ℕ) → 1 ≤ n → i < length refs
     → Stands refs n i r victims faults → Arrives r s i true
     → Puts (get_or refs i 0) (next_at (i + 1) (get_or refs i 0) (drop (i + 1) refs)) s t → Stands refs n (i + 1) t victims faults
@@ -140,11 +187,14 @@ stands_hit refs n i r s t victims faults some l st a put =
     let there : has p st.cache ≡ true = sym arrived.1 in
     let is_hit = hit_case there (chosen n p future st.cache some) in
     let stays = after_hit n p future st.cache is_hit in
-    let entered = puts_held p (i + 1) future (others p (λ q. has q st.cache)) s t arrived.0 (gone p (λ q. has q st.cache)) put in
+    let entered = puts_held p (i + 1) future (others p (λ q. has q st.cache)) s t arrived.0 put in
+    let same = puts_same p (next_at (i + 1) p future) s t put in
+    let stay = same.0 in let fit = same.1 in let room = st.room in let kept = a.awaited.room in
     stands_next refs n i r t victims victims faults faults some l st
     (subst (λ (qs : List ℕ). Holds future (i + 1) (λ q. has q qs) t) (sym stays)
-    (held_same future (i + 1) (plus p (others p (λ q. has q st.cache))) (λ q. has q st.cache) (in_set t.awaited) (in_set t.spent) (same_again p st.cache there) entered.0))
-    (let e = ap (λ (qs : List ℕ). length qs) stays in let z = st.size in let w = a.size in let u = entered.1 in omega arith)
+    (held_same future (i + 1) (plus p (others p (λ q. has q st.cache))) (λ q. has q st.cache) (has_place t.awaited) (in_set t.spent) (same_again p st.cache there) entered))
+    (omega arith)
+    (let e = ap (λ (qs : List ℕ). length qs) stays in let z = st.used in let w = a.used in omega arith)
     (sym (ap (λ (o : Option ℕ). victims ++ listed (i + 1) o) is_hit.none ∙ no_victim))
     (sym (ap (λ (b : Bool). counted b faults) there))
   where
@@ -158,32 +208,40 @@ stands_hit refs n i r s t victims faults some l st a put =
 
 -- the page that left, of a cache that doesn't have the next reference's
 leaves_furthest : (refs : List ℕ) (at : ℕ) (cache : List ℕ) (r s : Resident) (v : ℕ) → Holds (drop at refs) at (λ q. has q cache) r → Leaves refs r s v
-    → IsFurthest (drop at refs) cache v × Holds (drop at refs) at (others v (λ q. has q cache)) s × (size s + 1 ≡ size r)
+    → IsFurthest (drop at refs) cache v × Holds (drop at refs) at (others v (λ q. has q cache)) s × (s.used ≡ r.used)
 leaves_furthest refs at cache r s v h (inl a) = (
-  spent_furthest v at (drop at refs) cache (in_set r.awaited) (in_set r.spent) h a.there a.lowest,
-  subst (λ t. Held (drop at refs) at (others v (λ q. has q cache)) (in_set t) (in_set s.spent)) (sym a.awaited)
-      (held_spent v at (drop at refs) (λ q. has q cache) (in_set r.awaited) (in_set r.spent) (in_set s.spent) h a.there a.spent),
-  a.size,
+  spent_furthest v at (drop at refs) cache (has_place r.awaited) (in_set r.spent) h a.there a.lowest,
+  subst (λ t. Held (drop at refs) at (others v (λ q. has q cache)) (has_place t) (in_set s.spent)) (sym a.awaited)
+      (held_spent v at (drop at refs) (λ q. has q cache) (has_place r.awaited) (in_set r.spent) (in_set s.spent) h a.there a.spent),
+  a.used,
 )
 leaves_furthest refs at cache r s v h (inr a) =
     let future = drop at refs in
     let d = h.due a.place a.there in
     let page : d.0 ≡ v =
     sym (next_is d.0 future d.2) ∙ get_or-drop at refs (next_use d.0 future) 0 ∙
-    ap (λ (k : ℕ). get_or refs k 0) (sym d.3) ∙ sym a.used
+    ap (λ (k : ℕ). get_or refs k 0) (sym d.3) ∙ sym a.page_is
     in
     let there : has v cache ≡ true = ap (λ (q : ℕ). has q cache) (sym page) ∙ d.1 in
     let uses = ap (λ (q : ℕ). next_use q future) page in
     let n = d.2 in
     let e = d.3 in
     let place : a.place ≡ at + next_use v future = omega arith in (
-      awaited_furthest v at future cache (in_set r.awaited) (in_set r.spent) h there (omega arith) a.none
-          (subst (λ (k : ℕ). (j : ℕ) → in_set r.awaited j ≡ true → j ≤ k) place a.last),
-      subst (λ t. Held future at (others v (λ q. has q cache)) (in_set s.awaited) (in_set t)) (sym a.spent)
-          (held_awaited v at future (λ q. has q cache) (in_set r.awaited) (in_set s.awaited) (in_set r.spent) h (omega arith)
-          (subst (λ (k : ℕ). Changed (in_set r.awaited) (in_set s.awaited) k false) place a.awaited)),
-      a.size,
+      awaited_furthest v at future cache (has_place r.awaited) (in_set r.spent) h there (omega arith) a.none
+          (subst (λ (k : ℕ). (j : ℕ) → has_place r.awaited j ≡ true → j ≤ k) place a.last),
+      subst (λ t. Held future at (others v (λ q. has q cache)) (has_place s.awaited) (in_set t)) (sym a.spent)
+          (held_awaited v at future (λ q. has q cache) (has_place r.awaited) (has_place s.awaited) (in_set r.spent) h (omega arith)
+          (subst (λ (k : ℕ). Changed (has_place r.awaited) (has_place s.awaited) k false) place a.awaited.places)),
+      a.used,
     )
+
+leaves_room : (refs : List ℕ) (r s : Resident) (v : ℕ) → Leaves refs r s v → capacity s.awaited ≡ capacity r.awaited
+leaves_room refs r s v (inl a) = ap (λ (b : Bits). capacity b) a.awaited
+leaves_room refs r s v (inr a) = a.awaited.room
+
+pub room_kept : (refs : List ℕ) (n i : ℕ) (r s : Resident) (before later : List Victim) → HasRoom refs n i r s before later → capacity s.awaited ≡ capacity r.awaited
+room_kept refs n i r s before later (inl room) = ap (λ (b : Bits). capacity b) room.awaited
+room_kept refs n i r s before later (inr made) = leaves_room refs r s made.victim made.leaves
 
 pub stands_miss : (refs : List ℕ) (n i : ℕ) (r s t u : Resident) (victims later : List Victim) (faults : ℕ) → 1 ≤ n → i < length refs
     → Stands refs n i r victims faults → Arrives r s i false → HasRoom refs n i s t victims later
@@ -193,15 +251,23 @@ stands_miss refs n i r s t u victims later faults some l st a (inl room) put =
     let future = drop (i + 1) refs in
     let arrived = arrives_held p i future st.cache r s false (split_held refs i (λ q. has q st.cache) r l st.held) a in
     let away : has p st.cache ≡ false = sym arrived.1 in
-    let same = held_same future (i + 1) (others p (λ q. has q st.cache)) (λ q. has q st.cache) (in_set s.awaited) (in_set s.spent) (none_less p st.cache away) arrived.0 in
-    let few = room.room in let z = st.size in let w = a.size in
+    let same = held_same future (i + 1) (others p (λ q. has q st.cache)) (λ q. has q st.cache) (has_place s.awaited) (in_set s.spent) (none_less p st.cache away) arrived.0 in
+    let few = room.room in let z = st.used in let w = a.used in
     let is_room = room_case away (omega arith) (chosen n p future st.cache some) in
     let now = after_room n p future st.cache is_room in
-    let entered = puts_held p (i + 1) future (λ q. has q st.cache) t u (subst (λ (x : Resident). Holds future (i + 1) (λ q. has q st.cache) x) (sym room.same) same) away put in
+    let still : Holds future (i + 1) (λ q. has q st.cache) t =
+    subst (λ (b : Bits). Held future (i + 1) (λ q. has q st.cache) (has_place b) (in_set t.spent)) (sym room.awaited)
+    (subst (λ x. Held future (i + 1) (λ q. has q st.cache) (has_place s.awaited) (in_set x)) (sym room.spent) same)
+    in
+    let entered = puts_held p (i + 1) future (λ q. has q st.cache) t u still put in
+    let put_same = puts_same p (next_at (i + 1) p future) t u put in
+    let stay = put_same.0 in let fit = put_same.1 in let all = st.room in let kept = a.awaited.room in
+    let taken = ap (λ (b : Bits). capacity b) room.awaited in
     stands_next refs n i r u victims later faults (faults + 1) some l st
     (subst (λ (qs : List ℕ). Holds future (i + 1) (λ q. has q qs) u) (sym now)
-    (held_same future (i + 1) (plus p (λ q. has q st.cache)) (λ q. has q (p ∷ st.cache)) (in_set u.awaited) (in_set u.spent) (λ q. sym (has_first p q st.cache)) entered.0))
-    (let e = ap (λ (qs : List ℕ). length qs) now in let g = ap (λ (x : Resident). size x) room.same in let v = entered.1 in omega arith)
+    (held_same future (i + 1) (plus p (λ q. has q st.cache)) (λ q. has q (p ∷ st.cache)) (has_place u.awaited) (in_set u.spent) (λ q. sym (has_first p q st.cache)) entered))
+    (omega arith)
+    (let e = ap (λ (qs : List ℕ). length qs) now in let g = room.used in omega arith)
     (room.victims ∙ sym (ap (λ (o : Option ℕ). victims ++ listed (i + 1) o) is_room.none ∙ nil_listed (i + 1) victims))
     (sym (ap (λ (b : Bool). counted b faults) away))
   where
@@ -215,25 +281,28 @@ stands_miss refs n i r s t u victims later faults some l st a (inr made) put =
     let future = drop (i + 1) refs in
     let arrived = arrives_held p i future st.cache r s false (split_held refs i (λ q. has q st.cache) r l st.held) a in
     let away : has p st.cache ≡ false = sym arrived.1 in
-    let same = held_same future (i + 1) (others p (λ q. has q st.cache)) (λ q. has q st.cache) (in_set s.awaited) (in_set s.spent) (none_less p st.cache away) arrived.0 in
-    let full = made.full in let z = st.size in let w = a.size in
+    let same = held_same future (i + 1) (others p (λ q. has q st.cache)) (λ q. has q st.cache) (has_place s.awaited) (in_set s.spent) (none_less p st.cache away) arrived.0 in
+    let full = made.full in let z = st.used in let w = a.used in
     let left = leaves_furthest refs (i + 1) st.cache s t v same made.leaves in
     let is_full = full_case n p future st.cache v away (omega arith) left.0 in
     let now = is_full.1 in
-    let entered = puts_held p (i + 1) future (others v (λ q. has q st.cache)) t u left.1 (and_left (has p st.cache) (not (p == v)) away) put in
+    let entered = puts_held p (i + 1) future (others v (λ q. has q st.cache)) t u left.1 put in
+    let put_same = puts_same p (next_at (i + 1) p future) t u put in
+    let stay = put_same.0 in let fit = put_same.1 in let all = st.room in let kept = a.awaited.room in let taken = leaves_room refs s t v made.leaves in
     stands_next refs n i r u victims later faults (faults + 1) some l st
     (subst (λ (qs : List ℕ). Holds future (i + 1) (λ q. has q qs) u) (sym now)
-    (held_same future (i + 1) (plus p (others v (λ q. has q st.cache))) (λ q. has q (p ∷ without_first v st.cache)) (in_set u.awaited) (in_set u.spent)
-    (λ q. sym (has_first p q (without_first v st.cache) ∙ ap (λ (b : Bool). (q == p) || b) (has-without v q st.cache st.is_cache.once left.0.there))) entered.0))
-    (let e = ap (λ (qs : List ℕ). length qs) now in let g = left.2 in let x = entered.1 in let y = length-without v st.cache left.0.there in omega arith)
+    (held_same future (i + 1) (plus p (others v (λ q. has q st.cache))) (λ q. has q (p ∷ without_first v st.cache)) (has_place u.awaited) (in_set u.spent)
+    (λ q. sym (has_first p q (without_first v st.cache) ∙ ap (λ (b : Bool). (q == p) || b) (has-without v q st.cache st.is_cache.once left.0.there))) entered))
+    (omega arith)
+    (let e = ap (λ (qs : List ℕ). length qs) now in let g = left.2 in let y = length-without v st.cache left.0.there in omega arith)
     (made.victims ∙ sym (ap (λ (o : Option ℕ). victims ++ listed (i + 1) o) is_full.0 ∙ one_listed (i + 1) v victims))
     (sym (ap (λ (b : Bool). counted b faults) away))
 
 -- ---- before the first reference and after the last
 
-pub stands_start : (refs : List ℕ) (n : ℕ) (r : Resident) → ((k : ℕ) → in_set r.awaited k ≡ false) → ((q : ℕ) → in_set r.spent q ≡ false) → size r ≡ 0 → Stands refs n 0 r [] 0
+pub stands_start : (refs : List ℕ) (n : ℕ) (r : Resident) → length refs ≤ capacity r.awaited → ((k : ℕ) → has_place r.awaited k ≡ false) → ((q : ℕ) → in_set r.spent q ≡ false) → r.used ≡ 0 → Stands refs n 0 r [] 0
 unfolding furthest_victims has
-stands_start refs n r none none' empty = record {
+stands_start refs n r room none none' empty = record {
   cache = [];
   is_cache = record { once = λ q. omega arith; small = omega arith };
   held = record {
@@ -242,7 +311,8 @@ stands_start refs n r none none' empty = record {
     over = λ q s. absurd (false≢true (sym (none' q) ∙ s));
     never = λ q i l. absurd (false≢true i);
   };
-  size = empty;
+  room = room;
+  used = empty;
   run = refl;
   made = refl;
   few = omega arith;

@@ -1,12 +1,13 @@
 -- The two sets in which the code keeps a cache, and how each step changes them.
-use Rattle.std.specs.Prelude.{◌≡◌, ℕ, ◌+◌, ◌<◌, ◌≤◌, Bool, true, false, List, [], ◌∷◌, ◌++◌, length, drop, slice_index, Option, Some, None, ◌⊎◌}
+use Rattle.std.specs.Prelude.{◌≡◌, ℕ, ◌+◌, ◌<◌, ◌≤◌, Bool, true, false, nat_lt, List, [], ◌∷◌, ◌++◌, length, drop, slice_index, Option, Some, None, ◌⊎◌}
 use Rattle.std.specs.Ordering.{nat_cmp}
-use Rattle.std.specs.BTreeSet.{BTreeSet, contains, btree_set_len}
+use Rattle.std.specs.BTreeSet.{BTreeSet, contains}
 use Rattle.page_opt.specs.declared.Victim.{Victim}
 use Rattle.page_opt.specs.declared.resident.Resident.{Resident}
 use Rattle.page_opt.specs.Plans.{has, runs}
 use Rattle.page_opt.specs.Furthest.{victims_from, furthest_victims}
 use Rattle.page_opt.specs.Cache.{bit, IsCache, Changed, Held}
+use Rattle.page_opt.specs.PlaceSet.{Bits, capacity, has_place}
 
 -- the set has the number
 abbrev pub in_set : BTreeSet ℕ → ℕ → Bool
@@ -16,20 +17,32 @@ in_set s k = contains nat_cmp s k
 abbrev pub Changes : BTreeSet ℕ → BTreeSet ℕ → ℕ → Bool → Type 0
 Changes old new k to = Changed (in_set old) (in_set new) k to
 
--- how many pages are in the cache
-abbrev pub size : Resident → ℕ
-size r = btree_set_len r.awaited + btree_set_len r.spent
-
 -- each awaited place is one of the references
 abbrev pub IsWithin : List ℕ → Resident → Type 0
-IsWithin refs r = (k : ℕ) → in_set r.awaited k ≡ true → k < length refs
+IsWithin refs r = (k : ℕ) → has_place r.awaited k ≡ true → k < length refs
+
+-- not both sets are empty
+abbrev pub HasPages : Resident → Type 0
+HasPages r = ((k : ℕ) → has_place r.awaited k ≡ false) → ((q : ℕ) → in_set r.spent q ≡ false) → ⊥
+
+-- one place was put in or taken out
+pub record Awaits (old new : Bits) (k : ℕ) (to : Bool) : Type 0 where
+  pub room : capacity new ≡ capacity old
+  pub places : Changed (has_place old) (has_place new) k to
 
 -- the page that is used at a place was in the cache or not, and is awaited there no longer
 pub record Arrives (old new : Resident) (place : ℕ) (hit : Bool) : Type 0 where
-  pub test : hit ≡ in_set old.awaited place
-  pub awaited : Changes old.awaited new.awaited place false
+  pub test : hit ≡ has_place old.awaited place
+  pub awaited : Awaits old.awaited new.awaited place false
   pub spent : new.spent ≡ old.spent
-  pub size : size new + bit hit ≡ size old
+  pub used : new.used ≡ old.used
+
+-- a frame was free and is taken, or none was
+pub record Takes (n : ℕ) (old new : Resident) (free : Bool) : Type 0 where
+  pub test : free ≡ nat_lt old.used n
+  pub awaited : new.awaited ≡ old.awaited
+  pub spent : new.spent ≡ old.spent
+  pub used : new.used ≡ old.used + bit free
 
 -- the lowest page that is never used again left
 pub record LeavesSpent (old new : Resident) (page : ℕ) : Type 0 where
@@ -37,30 +50,32 @@ pub record LeavesSpent (old new : Resident) (page : ℕ) : Type 0 where
   pub lowest : (q : ℕ) → in_set old.spent q ≡ true → page ≤ q
   pub spent : Changes old.spent new.spent page false
   pub awaited : new.awaited ≡ old.awaited
-  pub size : size new + 1 ≡ size old
+  pub used : new.used ≡ old.used
 
 -- no page is never used again, and the one that is used again last left
 pub record LeavesAwaited (refs : List ℕ) (old new : Resident) (page : ℕ) : Type 0 where
   pub none : (q : ℕ) → in_set old.spent q ≡ false
   pub place : ℕ
-  pub there : in_set old.awaited place ≡ true
-  pub last : (k : ℕ) → in_set old.awaited k ≡ true → k ≤ place
-  pub used : page ≡ slice_index refs place
-  pub awaited : Changes old.awaited new.awaited place false
+  pub there : has_place old.awaited place ≡ true
+  pub last : (k : ℕ) → has_place old.awaited k ≡ true → k ≤ place
+  pub page_is : page ≡ slice_index refs place
+  pub awaited : Awaits old.awaited new.awaited place false
   pub spent : new.spent ≡ old.spent
-  pub size : size new + 1 ≡ size old
+  pub used : new.used ≡ old.used
 
 abbrev pub Leaves : List ℕ → Resident → Resident → ℕ → Type 0
 Leaves refs old new page = LeavesSpent old new page ⊎ LeavesAwaited refs old new page
 
 -- there was room, or else a page left as the victim of the reference at place i
 pub record HadRoom (n : ℕ) (old new : Resident) (before after : List Victim) : Type 0 where
-  pub room : size old < n
-  pub same : new ≡ old
+  pub room : old.used < n
+  pub awaited : new.awaited ≡ old.awaited
+  pub spent : new.spent ≡ old.spent
+  pub used : new.used ≡ old.used + 1
   pub victims : after ≡ before
 
 pub record MadeRoom (refs : List ℕ) (n i : ℕ) (old new : Resident) (before after : List Victim) : Type 0 where
-  pub full : n ≤ size old
+  pub full : n ≤ old.used
   pub victim : ℕ
   pub leaves : Leaves refs old new victim
   pub victims : after ≡ before ++ record { at = i + 1; page = victim } ∷ []
@@ -70,14 +85,14 @@ HasRoom refs n i old new before after = HadRoom n old new before after ⊎ MadeR
 
 -- a page was put in, by the place of its next use
 pub record PutAwaited (old new : Resident) (k : ℕ) : Type 0 where
-  pub awaited : Changes old.awaited new.awaited k true
+  pub awaited : Awaits old.awaited new.awaited k true
   pub spent : new.spent ≡ old.spent
-  pub size : in_set old.awaited k ≡ false → size new ≡ size old + 1
+  pub used : new.used ≡ old.used
 
 pub record PutSpent (old new : Resident) (page : ℕ) : Type 0 where
   pub spent : Changes old.spent new.spent page true
   pub awaited : new.awaited ≡ old.awaited
-  pub size : in_set old.spent page ≡ false → size new ≡ size old + 1
+  pub used : new.used ≡ old.used
 
 abbrev pub Puts : ℕ → Option ℕ → Resident → Resident → Type 0
 Puts page (Some k) old new = PutAwaited old new k
@@ -87,8 +102,9 @@ Puts page None old new = PutSpent old new page
 pub record Stands (refs : List ℕ) (n i : ℕ) (r : Resident) (victims : List Victim) (faults : ℕ) : Type 0 where
   pub cache : List ℕ
   pub is_cache : IsCache n cache
-  pub held : Held (drop i refs) i (λ q. has q cache) (in_set r.awaited) (in_set r.spent)
-  pub size : size r ≡ length cache
+  pub held : Held (drop i refs) i (λ q. has q cache) (has_place r.awaited) (in_set r.spent)
+  pub room : length refs ≤ capacity r.awaited
+  pub used : r.used ≡ length cache
   pub run : runs n (i + 1) (drop i refs) (Some (record { cache = cache; victims = victims_from n (i + 1) (drop i refs) cache; faults = faults })) ≡ runs n 1 refs (Some (record { cache = []; victims = furthest_victims refs n; faults = 0 }))
   pub made : victims ++ victims_from n (i + 1) (drop i refs) cache ≡ furthest_victims refs n
   pub few : faults ≤ i

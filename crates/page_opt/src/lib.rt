@@ -11,9 +11,10 @@ ghost use Rattle.page_opt.specs.declared.Victim.{Victim as VictimOf};
 ghost use Rattle.page_opt.specs.Plans.{IsPlan, Rises, plan_faults};
 ghost use Rattle.page_opt.specs.Furthest.{furthest_victims};
 ghost use Rattle.page_opt.specs.Cache.{next_at};
-ghost use Rattle.page_opt.specs.Held.{IsWithin, HasRoom, Stands};
+ghost use Rattle.page_opt.specs.Held.{IsWithin, HasPages, HasRoom, Stands};
 
 mod next_use;
+mod place_set;
 mod replay;
 mod resident;
 
@@ -53,7 +54,7 @@ pub fn least_faults(alloc: Global, refs: &[u32], frames: u32) -> Result<Plan, No
     ensures furthest { IfOk result (λ plan. plan.victims.items ≡ furthest_victims refs.now frames) }
 {
     let next = next_uses(alloc, refs)?;
-    let mut resident = Resident::new(alloc);
+    let mut resident = Resident::new(alloc, refs.len())?;
     let mut plan = Plan {
         faults: 0,
         victims: Vec::new(alloc),
@@ -100,9 +101,10 @@ fn make_room(
     requires small { length refs.now ≤ 4000000 }
     requires within { i < length refs.now }
     requires places { IsWithin refs.now resident.old }
+    requires some { frames ≤ resident.old.used → HasPages resident.old }
     ensures { OnOk result (HasRoom refs.now frames i resident.old resident.new victims.old.items victims.new.items) }
 {
-    if !resident.is_full(frames) {
+    if resident.take_frame(frames) {
         return Ok(());
     }
     let page = resident.evict(refs);

@@ -4,7 +4,7 @@ ghost use Rattle.page_opt.specs.Cache.{next_at};
 
 use crate::NoMemory;
 use std::alloc::Global;
-use std::collections::BTreeMap;
+use std::collections::HashMap;
 
 /// For each reference the place of the next one to the same page, if there is one.
 pub(crate) fn next_uses(alloc: Global, refs: &[u32]) -> Result<Vec<Option<u32>>, NoMemory>
@@ -13,7 +13,7 @@ pub(crate) fn next_uses(alloc: Global, refs: &[u32]) -> Result<Vec<Option<u32>>,
     ensures next { IfOk result (λ next. (i : ℕ) (d : Option ℕ) → i < length refs.now → slice_index_or next.items i d ≡ next_at (i + 1) (slice_index refs.now i) (drop (i + 1) refs.now)) }
 {
     let mut next = vec![in alloc; None; refs.len()]?;
-    let mut seen = BTreeMap::new(alloc);
+    let mut seen = HashMap::new(alloc);
     for i in (0..refs.len()).rev() {
         next[i] = seen.insert(refs[i], i as u32)?;
     }

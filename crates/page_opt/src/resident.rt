@@ -1,9 +1,11 @@
 //! The pages in the cache, in the order in which they are to leave.
-ghost use Rattle.std.specs.Prelude.{◌≡◌, ℕ, ◌+◌, ◌<◌, false, true, nat_le, OnOk};
-ghost use Rattle.std.specs.BTreeSet.{btree_set_len};
-ghost use Rattle.page_opt.specs.Held.{in_set, size as size_of, IsWithin, Changes, Arrives, Leaves, Puts};
+ghost use Rattle.std.specs.Prelude.{◌≡◌, ℕ, ◌+◌, ◌<◌, ◌≤◌, ◌^◌, false, true, IfOk, OnOk};
+ghost use Rattle.std.specs.Option.{ForSome};
+ghost use Rattle.page_opt.specs.PlaceSet.{capacity, has_place};
+ghost use Rattle.page_opt.specs.Held.{in_set, IsWithin, HasPages, Arrives, Takes, Leaves, Puts};
 
 use crate::NoMemory;
+use crate::place_set::PlaceSet;
 use std::alloc::Global;
 use std::collections::BTreeSet;
 
@@ -11,69 +13,76 @@ use std::collections::BTreeSet;
 /// their numbers.
 #[derive(Drop)]
 pub(crate) struct Resident {
-    awaited: BTreeSet<u32>,
+    awaited: PlaceSet,
     spent: BTreeSet<u32>,
+    /// How many frames have been taken.
+    used: u32,
 }
 
 impl Resident {
-    /// An empty cache.
-    pub(crate) fn new(alloc: Global) -> Resident
-        ensures awaited { (k : ℕ) → in_set result.awaited k ≡ false }
-        ensures spent { (q : ℕ) → in_set result.spent q ≡ false }
-        ensures size { size_of result ≡ 0 }
+    /// An empty cache for so many references.
+    pub(crate) fn new(alloc: Global, references: usize) -> Result<Resident, NoMemory>
+        requires { references ≤ 4000000 }
+        ensures room { IfOk result (λ resident. references ≤ capacity resident.awaited) }
+        ensures awaited { IfOk result (λ resident. (k : ℕ) → has_place resident.awaited k ≡ false) }
+        ensures spent { IfOk result (λ resident. (q : ℕ) → in_set resident.spent q ≡ false) }
+        ensures used { IfOk result (λ resident. resident.used ≡ 0) }
     {
-        Resident {
-            awaited: BTreeSet::new(alloc),
+        let awaited = PlaceSet::new(alloc, references)?;
+        Ok(Resident {
+            awaited,
             spent: BTreeSet::new(alloc),
-        }
+            used: 0,
+        })
     }
 
     /// Whether the page that is used at a place is in the cache. It is awaited there no longer.
     pub(crate) fn arrive(&mut self, place: u32) -> bool
+        requires { place < capacity self.old.awaited }
         ensures { Arrives self.old self.new place result }
     {
-        self.awaited.remove(&place)
+        self.awaited.remove(place as usize)
     }
 
-    /// Whether no frame is free.
-    pub(crate) fn is_full(&self, frames: u32) -> bool
-        ensures { result ≡ nat_le frames (size_of self.now) }
+    /// Takes a frame, and answers whether one was free.
+    pub(crate) fn take_frame(&mut self, frames: u32) -> bool
+        ensures { Takes frames self.old self.new result }
     {
-        self.awaited.len() + self.spent.len() >= frames as usize
+        if self.used >= frames {
+            return false;
+        }
+        self.used += 1;
+        true
     }
 
     /// Takes out the page that is used again last or never, and of those that are never used again the
     /// lowest.
     pub(crate) fn evict(&mut self, refs: &[u32]) -> u32
-        requires some { 0 < size_of self.old }
+        requires some { HasPages self.old }
         requires within { IsWithin refs.now self.old }
         ensures { Leaves refs.now self.old self.new result }
     {
         if let Some(page) = self.spent.pop_first() {
             return page;
         }
-        let Some(place) = self.awaited.pop_last() else {
+        let Some(place) = self.awaited.last() else {
             unreachable!()
         };
-        refs[place as usize]
+        self.awaited.remove(place);
+        refs[place]
     }
 
     /// Puts a page in, by the place of its next use.
     pub(crate) fn put(&mut self, page: u32, next: Option<u32>) -> Result<(), NoMemory>
+        requires { ForSome next (λ place. place < capacity self.old.awaited) }
         ensures { OnOk result (Puts page next self.old self.new) }
     {
         match next {
-            Some(place) => add(&mut self.awaited, place),
-            None => add(&mut self.spent, page),
+            Some(place) => self.awaited.insert(place as usize),
+            None => {
+                self.spent.insert(page)?;
+            }
         }
+        Ok(())
     }
-}
-
-/// Adds a number to a set.
-fn add(set: &mut BTreeSet<u32>, number: u32) -> Result<(), NoMemory>
-    ensures changes { OnOk result (Changes set.old set.new number true) }
-    ensures len { OnOk result (in_set set.old number ≡ false → btree_set_len set.new ≡ btree_set_len set.old + 1) }
-{
-    set.insert(number)?;
-    Ok(())
 }

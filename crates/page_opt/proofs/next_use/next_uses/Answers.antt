@@ -1,15 +1,15 @@
-use Rattle.std.proofs.Common.{◌≡◌, ℕ, ◌+◌, ◌-◌, ◌<◌, length, drop, get_or, ap, ◌∙◌, subst, arith, rules}
-use Rattle.std.specs.Ordering.{nat_cmp}
-use Rattle.std.specs.BTreeMap.{get, is_at}
+use Rattle.std.proofs.Common.{◌≡◌, ℕ, ◌+◌, ◌-◌, ◌<◌, length, drop, get_or, nat_eq, ap, ◌∙◌, subst, arith, rules}
+use Rattle.std.specs.HashMap.{get}
 use Rattle.std.specs.Map.{lookup}
+use Rattle.std.proofs.lemmas.Bool.{ne_eqb}
 use Rattle.page_opt.specs.Cache.{next_at}
-use Rattle.page_opt.proofs.Places.{next_at_end, apart, seen_more, AreNext, next_more}
+use Rattle.page_opt.proofs.Places.{next_at_end, seen_more, AreNext, next_more}
 use Rattle.page_opt.proofs.next_use.next_uses.Goals as goal
 
 pub loop-i-init : goal.loop-i-init
 loop-i-init c = record {
   len = c.in_ok-next.ensures.len;
-  seen = λ q. ap (λ es. lookup (is_at (nat_cmp q)) es) c.new-seen.ensures.empty ∙ next_at_end c.args.refs.now q;
+  seen = λ q. ap (λ es. lookup (nat_eq q) es) c.new-seen.ensures.empty ∙ next_at_end c.args.refs.now q;
   next = λ k d low high. absurd (omega arith);
 }
 
@@ -23,13 +23,13 @@ loop-i-preserved c =
     let u = c.in_ok-next-2.ensures.updates in
     record {
       len = search rules;
-      seen = seen_more refs j (get nat_cmp c.loop-i.seen) (get nat_cmp c.insert.new.self) l
-          (subst (λ (i : ℕ). (q : ℕ) → get nat_cmp c.loop-i.seen q ≡ next_at i q (drop i refs)) last seen)
+      seen = seen_more refs j (get nat_eq c.loop-i.seen) (get nat_eq c.insert.new.self) l
+          (subst (λ (i : ℕ). (q : ℕ) → get nat_eq c.loop-i.seen q ≡ next_at i q (drop i refs)) last seen)
           u.1
-          (λ q other. u.2 q (apart (get_or refs j 0) q other));
+          (λ q other. u.2 q (ne_eqb (get_or refs j 0) q other));
       next = next_more refs j c.loop-i.next.items c.in_ok-next-2.field-0 (omega arith)
           (subst (λ (i : ℕ). AreNext refs i c.loop-i.next.items) last c.loop-i.invariant.next)
-          (c.in_ok-next-2.ensures.old ∙ subst (λ (i : ℕ). get nat_cmp c.loop-i.seen (get_or refs j 0) ≡ next_at i (get_or refs j 0) (drop i refs)) last (seen (get_or refs j 0)));
+          (c.in_ok-next-2.ensures.old ∙ subst (λ (i : ℕ). get nat_eq c.loop-i.seen (get_or refs j 0) ≡ next_at i (get_or refs j 0) (drop i refs)) last (seen (get_or refs j 0)));
     }
 
 pub returns-clause-next : goal.returns-clause-next
