@@ -33,7 +33,7 @@ unfoldable pub after : List ℕ → List ℕ → List ℕ
 after [] history = history
 after (page ∷ refs) history = after refs (page ∷ history)
 
-choose : (b c : Bool) (x y : ℕ) → b ≡ c → (if b then x else y) ≡ (if c then x else y)
+pub choose : (b c : Bool) (x y : ℕ) → b ≡ c → (if b then x else y) ≡ (if c then x else y)
 choose b c x y e = ap (λ (t : Bool). if t then x else y) e
 
 hit_or_fault : (b : Bool) → (if b then 0 else 1) + (if b then 1 else 0) ≡ 1
@@ -316,7 +316,10 @@ total-take-push zero xs = refl
 total-take-push (suc n) [] = let e = ap total (take-nil n) in omega arith
 total-take-push (suc n) (x ∷ xs) = ap (λ t. x + t) (total-take-push n xs)
 
-total-take-set : (n : ℕ) (xs : List ℕ) (at : ℕ) → at < length xs → total (take n (set xs at (get_or xs at 0 + 1))) ≡ (if ltb at n then 1 else 0) + total (take n xs)
+pub ltb_suc : (m n : ℕ) → ltb (suc m) (suc n) ≡ ltb m n
+ltb_suc m n = reaches_suc n (Some m)
+
+pub total-take-set : (n : ℕ) (xs : List ℕ) (at : ℕ) → at < length xs → total (take n (set xs at (get_or xs at 0 + 1))) ≡ (if ltb at n then 1 else 0) + total (take n xs)
 unfolding total
 total-take-set n [] at lt = absurd (omega arith)
 total-take-set zero (x ∷ xs) at lt = let e = choose (ltb at 0) false 1 0 (le-ltb at 0 (omega arith)) in omega arith

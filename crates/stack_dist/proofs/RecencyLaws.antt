@@ -1,14 +1,13 @@
 -- The marked references of a history, in order, are the stack of pages.
-use Rattle.std.proofs.Common.{◌≡◌, ℕ, zero, suc, ◌+◌, ◌-◌, ◌<◌, ◌≤◌, Bool, true, false, cond, eqb, List, [], ◌∷◌, length, get_or, set, take, replicate, Option, Some, None, refl, sym, ap, ◌∙◌, subst, arith, inl, inr}
+use Rattle.std.proofs.Common.{◌≡◌, ℕ, zero, suc, ◌+◌, ◌-◌, ◌<◌, ◌≤◌, Bool, true, false, cond, eqb, ltb, List, [], ◌∷◌, length, get_or, set, take, replicate, Option, Some, None, refl, sym, ap, ◌∙◌, subst, arith, inl, inr}
+use Rattle.std.specs.Prelude.{if◌then◌else◌}
 use Rattle.std.specs.Option.{option_map}
-use Rattle.std.specs.Ordering.{is_eq, nat_cmp}
-use Rattle.std.specs.declared.cmp.Ordering.TheVariants.{Less, Equal, Greater}
-use Rattle.std.proofs.lemmas.Bool.{cases_Bool, cond-true, cond-false, eqb-false, cases_lt, lt-ltb, le-ltb, ne_eqb}
+use Rattle.std.proofs.lemmas.Bool.{cases_Bool, cond-true, cond-false, eqb-false, lt-ltb, le-ltb}
 use Rattle.std.proofs.lemmas.List.{get_or-set_other, get_or_default, length-set, take_all}
 use Rattle.vm_facts.specs.Lists.{without_first}
 use Rattle.stack_dist.specs.Tree.{total}
-use Rattle.stack_dist.specs.Recency.{stack, place_in, marks, unmarked, marks_before, padded, hits_within, counted}
-use Rattle.stack_dist.proofs.LruLaws.{place_here, place_later, place_below, page_at, suc_of, hit_counted, depths_counted, get-le-total, hits_within-le, after, after_more}
+use Rattle.stack_dist.specs.Recency.{stack, place_in, marks, unmarked, marks_before, gaps, gapped, filled_before, padded, hits_within, counted}
+use Rattle.stack_dist.proofs.LruLaws.{place_here, place_later, place_below, page_at, suc_of, choose, ltb_suc, hit_counted, depths_counted, total-take-set, get-le-total, hits_within-le, after, after_more}
 
 -- ---- a page as often as its mark says
 
@@ -183,20 +182,53 @@ length-marks (page ∷ history) = ap suc (same (place_in page history) ∙ lengt
     same None = refl
     same (Some k) = length-set (marks history) k 0
 
-total-set-le : (xs : List ℕ) (at : ℕ) → total (set xs at 0) ≤ total xs
-unfolding total
-total-set-le [] at = omega arith
-total-set-le (x ∷ xs) zero = omega arith
-total-set-le (x ∷ xs) (suc at) = let h = total-set-le xs at in omega arith
+-- ---- the gaps of a history
 
-pub total-marks : (history : List ℕ) → total (marks history) ≤ length history
-unfolding marks total
-total-marks [] = omega arith
-total-marks (page ∷ history) = let h = total-marks history in let l = less (place_in page history) in omega arith
+pub length-gapped : (o : Option ℕ) (xs : List ℕ) → length (gapped o xs) ≡ length xs
+length-gapped None xs = refl
+length-gapped (Some k) xs = length-set xs k (get_or xs k 0 + 1)
+
+length-gaps : (history : List ℕ) → length (gaps history) ≡ length history
+unfolding gaps
+length-gaps [] = refl
+length-gaps (page ∷ history) = ap suc (length-gapped (place_in page history) (gaps history) ∙ length-gaps history)
+
+total-take-unset : (n : ℕ) (xs : List ℕ) (at : ℕ) → at < length xs → get_or xs at 0 ≡ 1 → total (take n xs) ≡ (if ltb at n then 1 else 0) + total (take n (set xs at 0))
+unfolding total
+total-take-unset n [] at lt one = absurd (omega arith)
+total-take-unset zero (x ∷ xs) at lt one = let e = choose (ltb at 0) false 1 0 (le-ltb at 0 (omega arith)) in omega arith
+total-take-unset (suc n) (x ∷ xs) zero lt one = let e = choose (ltb 0 (suc n)) true 1 0 (lt-ltb 0 (suc n) (omega arith)) in omega arith
+total-take-unset (suc n) (x ∷ xs) (suc at) lt one =
+    let h = total-take-unset n xs at (omega arith) one in
+    let e = choose (ltb (suc at) (suc n)) (ltb at n) 1 0 (ltb_suc at n) in
+    omega arith
+
+-- each place is marked or a gap
+marks_and_gaps : (history : List ℕ) (k : ℕ) → k ≤ length history → total (take k (gaps history)) + total (take k (marks history)) ≡ k
+unfolding gaps marks total
+marks_and_gaps [] zero le = refl
+marks_and_gaps [] (suc k) le = absurd (omega arith)
+marks_and_gaps (page ∷ history) zero le = refl
+marks_and_gaps (page ∷ history) (suc k) le =
+    let so_far = marks_and_gaps history k (omega arith) in let now = moved (place_in page history) refl in omega arith
   where
-    less : (o : Option ℕ) → total (unmarked o (marks history)) ≤ total (marks history)
-    less None = omega arith
-    less (Some k) = total-set-le (marks history) k
+    moved : (o : Option ℕ) → place_in page history ≡ o
+        → total (take k (gapped o (gaps history))) + total (take k (unmarked o (marks history))) ≡ total (take k (gaps history)) + total (take k (marks history))
+    moved None e = refl
+    moved (Some i) e =
+        let below = place_below page history i e in
+        let len = length-gaps history in
+        let marked = length-marks history in
+        let more = total-take-set k (gaps history) i (omega arith) in
+        let less = total-take-unset k (marks history) i (omega arith) (marked_at history page i e) in
+        omega arith
+
+total-gaps : (history : List ℕ) → total (gaps history) ≤ length history
+total-gaps history =
+    let both = marks_and_gaps history (length history) (omega arith) in
+    let len = length-gaps history in
+    let all = ap total (take_all (length history) (gaps history) (omega arith)) in
+    omega arith
 
 -- ---- behind zeros
 
@@ -215,12 +247,6 @@ unfolding padded
 replicate-padded zero = refl
 replicate-padded (suc n) = ap (λ (t : List ℕ). 0 ∷ t) (replicate-padded n)
 
-pub get_or-padded : (n : ℕ) (xs : List ℕ) (k m : ℕ) → m ≡ n + k → get_or (padded n xs) m 0 ≡ get_or xs k 0
-unfolding padded
-get_or-padded zero xs k m e = let same : m ≡ k = omega arith in ap (λ (i : ℕ). get_or xs i 0) same
-get_or-padded (suc n) xs k zero e = absurd (omega arith)
-get_or-padded (suc n) xs k (suc m) e = get_or-padded n xs k m (omega arith)
-
 total-take-padded : (n : ℕ) (xs : List ℕ) (k m : ℕ) → m ≡ n + k → total (take m (padded n xs)) ≡ total (take k xs)
 unfolding padded total
 total-take-padded zero xs k m e = let same : m ≡ k = omega arith in ap (λ (i : ℕ). total (take i xs)) same
@@ -233,42 +259,35 @@ set-padded zero xs k m v e = let same : m ≡ k = omega arith in ap (λ (i : ℕ
 set-padded (suc n) xs k zero v e = absurd (omega arith)
 set-padded (suc n) xs k (suc m) v e = ap (λ (t : List ℕ). 0 ∷ t) (set-padded n xs k m v (omega arith))
 
-set_first-padded : (n : ℕ) (xs : List ℕ) → set (padded (suc n) xs) n 1 ≡ padded n (1 ∷ xs)
+padded_next : (n : ℕ) (xs : List ℕ) → padded (suc n) xs ≡ padded n (0 ∷ xs)
 unfolding padded
-set_first-padded zero xs = refl
-set_first-padded (suc n) xs = ap (λ (t : List ℕ). 0 ∷ t) (set_first-padded n xs)
+padded_next zero xs = refl
+padded_next (suc n) xs = ap (λ (t : List ℕ). 0 ∷ t) (padded_next n xs)
 
-pub first_free : (n : ℕ) (xs : List ℕ) → get_or (padded (suc n) xs) n 0 ≡ 0
+get_or-padded : (n : ℕ) (xs : List ℕ) (k m : ℕ) → m ≡ n + k → get_or (padded n xs) m 0 ≡ get_or xs k 0
 unfolding padded
-first_free zero xs = refl
-first_free (suc n) xs = first_free n xs
+get_or-padded zero xs k m e = let same : m ≡ k = omega arith in ap (λ (i : ℕ). get_or xs i 0) same
+get_or-padded (suc n) xs k zero e = absurd (omega arith)
+get_or-padded (suc n) xs k (suc m) e = get_or-padded n xs k m (omega arith)
 
 abbrev pub moved_by : ℕ → Option ℕ → Option ℕ
 moved_by n o = option_map (λ k. n + k) o
-
-marks_before-padded : (n : ℕ) (o : Option ℕ) (xs : List ℕ) → marks_before (moved_by n o) (padded n xs) ≡ marks_before o xs
-marks_before-padded n None xs = refl
-marks_before-padded n (Some k) xs = ap (λ (t : ℕ). Some t) (total-take-padded n xs k (n + k) refl)
-
-unmarked-padded : (n : ℕ) (o : Option ℕ) (xs : List ℕ) → unmarked (moved_by n o) (padded n xs) ≡ padded n (unmarked o xs)
-unmarked-padded n None xs = refl
-unmarked-padded n (Some k) xs = set-padded n xs k (n + k) 0 refl
 
 -- ---- one more reference
 
 -- what the pass over the references keeps: the places below `place` are free
 pub record Follows (history : List ℕ) (last : ℕ → Option ℕ) (place : ℕ) (tree hits : List ℕ) : Type 0 where
   pub places : (q : ℕ) → last q ≡ moved_by place (place_in q history)
-  pub marked : tree ≡ padded place (marks history)
+  pub gaps_are : tree ≡ padded place (gaps history)
   pub depths : length hits ≡ length (stack history)
   pub counts : (n : ℕ) → total (take n hits) ≡ hits_within n history
 
 pub starts : (size : ℕ) (last : ℕ → Option ℕ) (tree hits : List ℕ) → ((q : ℕ) → last q ≡ None) → tree ≡ replicate size 0 → hits ≡ []
     → Follows (after [] []) last size tree hits
-unfolding place_in marks stack hits_within total after
+unfolding place_in gaps stack hits_within total after
 starts size last tree hits none zeros empty = record {
   places = none;
-  marked = zeros ∙ replicate-padded size;
+  gaps_are = zeros ∙ replicate-padded size;
   depths = ap (λ (xs : List ℕ). length xs) empty;
   counts = λ n. ap (λ (xs : List ℕ). total (take n xs)) empty ∙ nothing n;
 }
@@ -277,86 +296,65 @@ starts size last tree hits none zeros empty = record {
     nothing zero = refl
     nothing (suc n) = refl
 
--- the depth of the page is on the stack
-pub depth_found : (history : List ℕ) (last : ℕ → Option ℕ) (place page : ℕ) (tree hits : List ℕ) → Follows history last place tree hits
-    → marks_before (last page) tree ≡ place_in page (stack history)
-depth_found history last place page tree hits f =
-    ap (λ (o : Option ℕ). marks_before o tree) (f.places page) ∙
-    ap (λ (t : List ℕ). marks_before (moved_by place (place_in page history)) t) f.marked ∙
-    marks_before-padded place (place_in page history) (marks history) ∙
-    depth_by_marks page history
-
 moved_on : (place : ℕ) (o : Option ℕ) → moved_by (suc place) o ≡ moved_by place (option_map suc o)
 moved_on place None = refl
 moved_on place (Some k) = let e : suc place + k ≡ place + suc k = omega arith in ap (λ (t : ℕ). Some t) e
 
-last_mark : (n : ℕ) (o : Option ℕ) (at : ℕ) → moved_by n o ≡ Some at → (k : ℕ) × (o ≡ Some k) × (at ≡ n + k)
-last_mark n None at e = cc
-last_mark n (Some k) at e = (k, refl, cc)
+place_before : (n : ℕ) (o : Option ℕ) (at : ℕ) → moved_by n o ≡ Some at → (k : ℕ) × (o ≡ Some k) × (at ≡ n + k)
+place_before n None at e = cc
+place_before n (Some k) at e = (k, refl, cc)
 
--- the mark of the page's last reference is there
-pub mark_there : (history : List ℕ) (last : ℕ → Option ℕ) (place page at : ℕ) (tree hits : List ℕ) → Follows history last place tree hits → last page ≡ Some at
-    → (at < length tree) × (get_or tree at 0 ≡ 1)
-mark_there history last place page at tree hits f e =
-    let k = last_mark place (place_in page history) at (sym (f.places page) ∙ e) in
+-- the depth of the page is on the stack
+pub depth_found : (history : List ℕ) (last : ℕ → Option ℕ) (place page : ℕ) (tree hits : List ℕ) → Follows history last place tree hits
+    → filled_before place (last page) tree ≡ place_in page (stack history)
+depth_found history last place page tree hits f =
+    ap (λ (o : Option ℕ). filled_before place o tree) (f.places page) ∙
+    ap (λ (t : List ℕ). filled_before place (moved_by place (place_in page history)) t) f.gaps_are ∙
+    filled (place_in page history) refl ∙
+    depth_by_marks page history
+  where
+    filled : (o : Option ℕ) → place_in page history ≡ o → filled_before place (moved_by place o) (padded place (gaps history)) ≡ marks_before o (marks history)
+    filled None e = refl
+    filled (Some k) e =
+        let below = place_below page history k e in
+        let both = marks_and_gaps history k (omega arith) in
+        let same = total-take-padded place (gaps history) k (place + k) refl in
+        let depth : place + k - place - total (take (place + k) (padded place (gaps history))) ≡ total (take k (marks history)) = omega arith in
+        ap (λ (t : ℕ). Some t) depth
+
+-- the place of the page's last reference is there, and a gap can be left at it
+pub record Ready (latest references at : ℕ) (tree : List ℕ) : Type 0 where
+  pub within : at < length tree
+  pub order : latest + total (take at tree) ≤ at
+
+pub ready : (history : List ℕ) (last : ℕ → Option ℕ) (place page at : ℕ) (tree hits : List ℕ) → Follows history last place tree hits → last page ≡ Some at
+    → Ready place (length history) at tree
+ready history last place page at tree hits f e =
+    let k = place_before place (place_in page history) at (sym (f.places page) ∙ e) in
     let below = place_below page history k.0 k.1 in
-    let len = ap (λ (t : List ℕ). length t) f.marked ∙ length-padded place (marks history) in
-    let marked = length-marks history in
-    let far = k.2 in (
-      omega arith,
-      ap (λ (t : List ℕ). get_or t at 0) f.marked ∙ get_or-padded place (marks history) k.0 at k.2 ∙ marked_at history page k.0 k.1,
-    )
+    let far = k.2 in
+    let len = ap (λ (t : List ℕ). length t) f.gaps_are ∙ length-padded place (gaps history) in
+    let gaps_len = length-gaps history in
+    let sums = ap (λ (t : List ℕ). total (take at t)) f.gaps_are ∙ total-take-padded place (gaps history) k.0 at k.2 in
+    let both = marks_and_gaps history k.0 (omega arith) in
+    record { within = omega arith; order = omega arith }
 
--- the tree without_first the page's mark
-without_mark : (history : List ℕ) (last : ℕ → Option ℕ) (place page : ℕ) (tree hits : List ℕ) → Follows history last place tree hits
-    → unmarked (last page) tree ≡ padded place (unmarked (place_in page history) (marks history))
-without_mark history last place page tree hits f =
-    ap (λ (o : Option ℕ). unmarked o tree) (f.places page) ∙
-    ap (λ (t : List ℕ). unmarked (moved_by place (place_in page history)) t) f.marked ∙
-    unmarked-padded place (place_in page history) (marks history)
-
-total-unmarked : (o : Option ℕ) (xs : List ℕ) → total (unmarked o xs) ≤ total xs
-total-unmarked None xs = omega arith
-total-unmarked (Some k) xs = total-set-le xs k
-
-length-unmarked : (o : Option ℕ) (xs : List ℕ) → length (unmarked o xs) ≡ length xs
-length-unmarked None xs = refl
-length-unmarked (Some k) xs = length-set xs k 0
-
-get_or-padded_low : (n : ℕ) (xs : List ℕ) (k : ℕ) → k < n → get_or (padded n xs) k 0 ≡ 0
-unfolding padded
-get_or-padded_low zero xs k lt = absurd (omega arith)
-get_or-padded_low (suc n) xs zero lt = refl
-get_or-padded_low (suc n) xs (suc k) lt = get_or-padded_low n xs k (omega arith)
-
--- the place for the new mark is there and free, and the marks are few
-pub record Ready (place references : ℕ) (tree : List ℕ) : Type 0 where
-  pub within : place - 1 < length tree
-  pub few : total tree ≤ references
-  pub free : get_or tree (place - 1) 0 ≡ 0
-
-pub ready : (history : List ℕ) (last : ℕ → Option ℕ) (place page : ℕ) (tree hits left : List ℕ) (before : Option ℕ) → Follows history last place tree hits
-    → 0 < place → before ≡ last page → left ≡ unmarked before tree → Ready place (length history) left
-ready history last place page tree hits left before f some was is =
-    let off = is ∙ ap (λ (o : Option ℕ). unmarked o tree) was ∙ without_mark history last place page tree hits f in
-    let len = ap (λ (t : List ℕ). length t) off ∙ length-padded place (unmarked (place_in page history) (marks history)) in
-    let sums = ap (λ (t : List ℕ). total t) off ∙ total-padded place (unmarked (place_in page history) (marks history)) in
-    let fewer = total-unmarked (place_in page history) (marks history) in
-    let few = total-marks history in
-    record {
-      within = omega arith;
-      few = omega arith;
-      free = ap (λ (t : List ℕ). get_or t (place - 1) 0) off ∙
-          get_or-padded_low place (unmarked (place_in page history) (marks history)) (place - 1) (omega arith);
-    }
+pub few_gaps : (history : List ℕ) (last : ℕ → Option ℕ) (place : ℕ) (tree hits : List ℕ) → Follows history last place tree hits
+    → (length tree ≡ place + length history) × (total tree ≤ length history)
+few_gaps history last place tree hits f =
+    let len = ap (λ (t : List ℕ). length t) f.gaps_are ∙ length-padded place (gaps history) in
+    let gaps_len = length-gaps history in
+    let sums = ap (λ (t : List ℕ). total t) f.gaps_are ∙ total-padded place (gaps history) in
+    let few = total-gaps history in
+    (omega arith, omega arith)
 
 -- the depth is one that is counted, and its count is small
 pub depth_counts : (history : List ℕ) (last : ℕ → Option ℕ) (place page depth : ℕ) (tree hits : List ℕ) (before : Option ℕ)
-    → Follows history last place tree hits → before ≡ last page → marks_before before tree ≡ Some depth
+    → Follows history last place tree hits → before ≡ last page → filled_before place before tree ≡ Some depth
     → (depth < length hits) × (get_or hits depth 0 ≤ length history)
 depth_counts history last place page depth tree hits before f was is =
     let at =
-    sym (depth_found history last place page tree hits f) ∙ sym (ap (λ (o : Option ℕ). marks_before o tree) was) ∙ is
+    sym (depth_found history last place page tree hits f) ∙ sym (ap (λ (o : Option ℕ). filled_before place o tree) was) ∙ is
     in
     let below = place_below page (stack history) depth at in
     let room = f.depths in
@@ -365,19 +363,26 @@ depth_counts history last place page depth tree hits before f was is =
     let all = hits_within-le (suc depth) history in
     (omega arith, omega arith)
 
+gapped-padded : (n : ℕ) (o : Option ℕ) (xs : List ℕ) → gapped (moved_by n o) (padded n xs) ≡ padded n (gapped o xs)
+gapped-padded n None xs = refl
+gapped-padded n (Some k) xs =
+    ap (λ (v : ℕ). set (padded n xs) (n + k) (v + 1)) (get_or-padded n xs k (n + k) refl) ∙ set-padded n xs k (n + k) (get_or xs k 0 + 1) refl
+
 follows_more : (history : List ℕ) (last last' : ℕ → Option ℕ) (place n page : ℕ) (tree hits : List ℕ) → Follows history last place tree hits → place ≡ suc n
     → ((q : ℕ) → last' q ≡ cond (eqb page q) (Some n) (last q))
-    → Follows (page ∷ history) last' n (set (unmarked (last page) tree) n 1) (counted hits (marks_before (last page) tree))
-unfolding place_in marks stack
+    → Follows (page ∷ history) last' n (gapped (last page) tree) (counted hits (filled_before place (last page) tree))
+unfolding place_in gaps stack
 follows_more history last last' place n page tree hits f is put = record {
   places = λ q.
       put q ∙
       ap (λ (o : Option ℕ). cond (eqb page q) (Some n) o) (f.places q ∙ ap (λ (m : ℕ). moved_by m (place_in q history)) is) ∙
       found (eqb page q) (place_in q history);
-  marked =
-      ap (λ (t : List ℕ). set t n 1)
-      (without_mark history last place page tree hits f ∙ ap (λ (m : ℕ). padded m (unmarked (place_in page history) (marks history))) is) ∙
-      set_first-padded n (unmarked (place_in page history) (marks history));
+  gaps_are =
+      ap (λ (o : Option ℕ). gapped o tree) (f.places page) ∙
+      ap (λ (t : List ℕ). gapped (moved_by place (place_in page history)) t) f.gaps_are ∙
+      gapped-padded place (place_in page history) (gaps history) ∙
+      ap (λ (m : ℕ). padded m (gapped (place_in page history) (gaps history))) is ∙
+      padded_next n (gapped (place_in page history) (gaps history));
   depths =
       ap (λ (o : Option ℕ). length (counted hits o)) (depth_found history last place page tree hits f) ∙
       depths_counted page (stack history) hits f.depths;
@@ -390,35 +395,20 @@ follows_more history last last' place n page tree hits f is put = record {
     found true o = let e : n ≡ n + 0 = omega arith in ap (λ (t : ℕ). Some t) e
     found false o = moved_on n o
 
-is_eq-cmp : (x y : ℕ) → is_eq (nat_cmp x y) ≡ eqb x y
-is_eq-cmp x y = elim (cases_lt x y) [
-  | inl below ↦
-      ap (λ (b : Bool). is_eq (cond b Less (cond (eqb x y) Equal Greater))) (lt-ltb x y below) ∙ sym (ne_eqb x y (λ e. omega arith))
-  | inr above ↦
-      ap (λ (b : Bool). is_eq (cond b Less (cond (eqb x y) Equal Greater))) (le-ltb x y above) ∙ same (eqb x y)
-]
-  where
-    same : (b : Bool) → is_eq (cond b Equal Greater) ≡ b
-    same true = refl
-    same false = refl
-
 -- a step of the pass, by what each call says
-pub follows_step : (refs : List ℕ) (i : ℕ) (last last' : ℕ → Option ℕ) (place : ℕ) (tree left tree' hits hits' : List ℕ) (before depth : Option ℕ)
+pub follows_step : (refs : List ℕ) (i : ℕ) (last last' : ℕ → Option ℕ) (place : ℕ) (tree tree' hits hits' : List ℕ) (before depth : Option ℕ)
     → i < length refs → Follows (after (take i refs) []) last place tree hits → 0 < place → before ≡ last (get_or refs i 0)
-    → depth ≡ marks_before before tree → left ≡ unmarked before tree → tree' ≡ set left (place - 1) 1 → hits' ≡ counted hits depth
-    → ((q : ℕ) → last' q ≡ cond (is_eq (nat_cmp (get_or refs i 0) q)) (Some (place - 1)) (last q))
+    → depth ≡ filled_before place before tree → tree' ≡ gapped before tree → hits' ≡ counted hits depth
+    → ((q : ℕ) → last' q ≡ cond (eqb (get_or refs i 0) q) (Some (place - 1)) (last q))
     → Follows (after (take (i + 1) refs) []) last' (place - 1) tree' hits'
-follows_step refs i last last' place tree left tree' hits hits' before depth lt f some was d l t h put =
+follows_step refs i last last' place tree tree' hits hits' before depth lt f some was d t h put =
     let page = get_or refs i 0 in
-    let stepped =
-    follows_more (after (take i refs) []) last last' place (place - 1) page tree hits f (omega arith)
-    (λ q. put q ∙ ap (λ (b : Bool). cond b (Some (place - 1)) (last q)) (is_eq-cmp page q))
-    in
-    let tree_is = t ∙ ap (λ (xs : List ℕ). set xs (place - 1) 1) (l ∙ ap (λ (o : Option ℕ). unmarked o tree) was) in
-    let hits_are = h ∙ ap (λ (o : Option ℕ). counted hits o) (d ∙ ap (λ (o : Option ℕ). marks_before o tree) was) in
+    let stepped = follows_more (after (take i refs) []) last last' place (place - 1) page tree hits f (omega arith) put in
+    let tree_is = t ∙ ap (λ (o : Option ℕ). gapped o tree) was in
+    let hits_are = h ∙ ap (λ (o : Option ℕ). counted hits o) (d ∙ ap (λ (o : Option ℕ). filled_before place o tree) was) in
     subst (λ (past : List ℕ). Follows past last' (place - 1) tree' hits') (sym (after_more refs i 0 lt))
     (subst (λ (xs : List ℕ). Follows (page ∷ after (take i refs) []) last' (place - 1) xs hits') (sym tree_is)
-    (subst (λ (xs : List ℕ). Follows (page ∷ after (take i refs) []) last' (place - 1) (set (unmarked (last page) tree) (place - 1) 1) xs) (sym hits_are)
+    (subst (λ (xs : List ℕ). Follows (page ∷ after (take i refs) []) last' (place - 1) (gapped (last page) tree) xs) (sym hits_are)
     stepped))
 
 pub all_followed : (refs : List ℕ) (i : ℕ) (last : ℕ → Option ℕ) (place : ℕ) (tree hits : List ℕ) → length refs ≤ i

@@ -2,8 +2,9 @@
 use Rattle.std.proofs.Common.{◌≡◌, ℕ, zero, suc, ◌+◌, ◌-◌, ◌*◌, ◌/◌, ◌%◌, ◌^◌, ◌<◌, ◌≤◌, Bool, true, false, eqb, List, [], ◌∷◌, length, get_or, set, take, drop, replicate, refl, sym, ap, ◌∙◌, subst, arith, inl, inr, ◌⊎◌}
 use Rattle.std.specs.Prelude.{if◌then◌else◌}
 use Rattle.std.proofs.lemmas.List.{length-set, length-drop, get_or-set_same, get_or-set_other, get_or-drop, drop-set-lt, drop-set-add, drop-replicate, take_all}
+use Rattle.std.proofs.lemmas.Nat.{pow-add}
 use Rattle.std.proofs.lemmas.Bool.{cases_eq, cases_lt, eq-eqb, ne_eqb}
-use Rattle.stack_dist.specs.Tree.{total, AreSums, raised, lowered, if_odd}
+use Rattle.stack_dist.specs.Tree.{total, AreSums, raised, IsPower, if_odd}
 
 -- ---- sums of lists
 
@@ -198,45 +199,6 @@ level_up size left right sums h some lt le =
     in
     omega arith
 
--- what the walk keeps: the sum so far and what is left make the whole
-pub record Summing (size left right sum : ℕ) (sums : List ℕ) (whole : ℕ) : Type 0 where
-  pub order : left ≤ right
-  pub above : left < right → 0 < left
-  pub within : right ≤ size + size
-  pub rest : sum + between sums left (right - left) ≡ whole
-
-pub summing_starts : (size right : ℕ) (sums : List ℕ) → size ≤ right → right ≤ size + size
-    → Summing size size right 0 sums (total (take (right - size) (drop size sums)))
-summing_starts size right sums from le = record {
-  order = from;
-  above = λ lt. omega arith;
-  within = le;
-  rest = let all = total-between sums size (right - size) in omega arith;
-}
-
-pub summing_more : (size left right sum x y : ℕ) (sums : List ℕ) (whole : ℕ) → AreSums size sums → Summing size left right sum sums whole → left < right
-    → x ≡ if_odd left (get_or sums left 0) → y ≡ if_odd right (get_or sums (right - 1) 0)
-    → Summing size ((left + 1) / 2) (right / 2) (sum + (x + y)) sums whole
-summing_more size left right sum x y sums whole h s lt e f = record {
-  order = omega arith;
-  above = λ more. let a = s.above lt in omega arith;
-  within = let w = s.within in omega arith;
-  rest = let up = level_up size left right sums h (s.above lt) lt s.within in let r = s.rest in omega arith;
-}
-
-pub summing_fits : (size left right sum x y : ℕ) (sums : List ℕ) (whole : ℕ) → AreSums size sums → Summing size left right sum sums whole → left < right
-    → x ≡ if_odd left (get_or sums left 0) → y ≡ if_odd right (get_or sums (right - 1) 0) → sum + (x + y) ≤ whole
-summing_fits size left right sum x y sums whole h s lt e f =
-    let up = level_up size left right sums h (s.above lt) lt s.within in let r = s.rest in omega arith
-
-pub summing_ends : (size left right sum : ℕ) (sums : List ℕ) (whole : ℕ) → Summing size left right sum sums whole → right ≤ left → sum ≡ whole
-unfolding between
-summing_ends size left right sum sums whole s le =
-    let o = s.order in
-    let r = s.rest in
-    let none = between_same sums left left (right - left) 0 refl (omega arith) in
-    omega arith
-
 -- ---- a walk up the tree
 
 -- 1 at the node, and 0 at others
@@ -287,28 +249,9 @@ one_more sums node k lt = elim (cases_eq k node) [
       omega arith
 ]
 
-one_less : (sums : List ℕ) (node k : ℕ) → node < length sums → 0 < get_or sums node 0
-    → get_or (set sums node (get_or sums node 0 - 1)) k 0 + at_one node k ≡ get_or sums k 0
-one_less sums node k lt some = elim (cases_eq k node) [
-  | inl same ↦
-      let one = one_at node k same in
-      let here = get_or-set_same sums node (get_or sums node 0 - 1) 0 lt in
-      let new = ap (λ (i : ℕ). get_or (set sums node (get_or sums node 0 - 1)) i 0) same in
-      let old = ap (λ (i : ℕ). get_or sums i 0) same in
-      omega arith
-  | inr other ↦
-      let none = none_at node k other in
-      let there = get_or-set_other sums node k (get_or sums node 0 - 1) 0 other in
-      omega arith
-]
-
 -- each inner node has its sum, but the one that is next lacks one
 abbrev pub Lacks : ℕ → ℕ → List ℕ → Type 0
 Lacks size node sums = (k : ℕ) → 0 < k → k < size → get_or sums k 0 + at_one node k ≡ get_or sums (2 * k) 0 + get_or sums (2 * k + 1) 0
-
--- the same where it has one too many
-abbrev pub Exceeds : ℕ → ℕ → List ℕ → Type 0
-Exceeds size node sums = (k : ℕ) → 0 < k → k < size → get_or sums k 0 ≡ get_or sums (2 * k) 0 + get_or sums (2 * k + 1) 0 + at_one node k
 
 pub lacks_none : (size node : ℕ) (sums : List ℕ) → size ≤ node → AreSums size sums → Lacks size node sums
 lacks_none size node sums le h k some lt =
@@ -316,17 +259,8 @@ lacks_none size node sums le h k some lt =
     let none = none_at node k (λ e. omega arith) in
     omega arith
 
-pub exceeds_none : (size node : ℕ) (sums : List ℕ) → size ≤ node → AreSums size sums → Exceeds size node sums
-exceeds_none size node sums le h k some lt =
-    let here : get_or sums k 0 ≡ get_or sums (2 * k) 0 + get_or sums (2 * k + 1) 0 = h k some lt in
-    let none = none_at node k (λ e. omega arith) in
-    omega arith
-
 pub sums_lack_none : (size : ℕ) (sums : List ℕ) → Lacks size 0 sums → AreSums size sums
 sums_lack_none size sums h k some lt = let here = h k some lt in let none = none_at 0 k (λ e. omega arith) in omega arith
-
-pub sums_exceed_none : (size : ℕ) (sums : List ℕ) → Exceeds size 0 sums → AreSums size sums
-sums_exceed_none size sums h k some lt = let here = h k some lt in let none = none_at 0 k (λ e. omega arith) in omega arith
 
 pub lacks_above : (size node : ℕ) (sums : List ℕ) → node < length sums → Lacks size node sums
     → Lacks size (node / 2) (set sums node (get_or sums node 0 + 1))
@@ -335,16 +269,6 @@ lacks_above size node sums lt h k some below =
     let self = one_more sums node k lt in
     let left = one_more sums node (2 * k) lt in
     let right = one_more sums node (2 * k + 1) lt in
-    let parent = parent_of node k some in
-    omega arith
-
-pub exceeds_above : (size node : ℕ) (sums : List ℕ) → node < length sums → 0 < get_or sums node 0 → Exceeds size node sums
-    → Exceeds size (node / 2) (set sums node (get_or sums node 0 - 1))
-exceeds_above size node sums lt one h k some below =
-    let here = h k some below in
-    let self = one_less sums node k lt one in
-    let left = one_less sums node (2 * k) lt one in
-    let right = one_less sums node (2 * k + 1) lt one in
     let parent = parent_of node k some in
     omega arith
 
@@ -404,42 +328,88 @@ raising_more size node counts sums r some =
           omega arith;
     }
 
--- ---- lowering a count
+-- ---- the counts before the one that is raised
 
-pub record Lowering (size node : ℕ) (counts sums : List ℕ) : Type 0 where
-  pub room : length sums ≡ size + size
-  pub inner : node < size
-  pub counts_are : drop size sums ≡ counts
-  pub exceeds : Exceeds size node sums
+-- the sum so far, and what is left of the walk's level, make the whole; the nodes up to the next one are as they were
+pub record Counting (node before whole : ℕ) (old sums : List ℕ) : Type 0 where
+  pub first : ℕ
+  pub power : IsPower first
+  pub from : first ≤ node
+  pub below : node < 2 * first
+  pub rest : before + between old first (node - first) ≡ whole
+  pub same : (k : ℕ) → k ≤ node → get_or sums k 0 ≡ get_or old k 0
 
-pub lowering_starts : (size at : ℕ) (sums : List ℕ) → length sums ≡ size + size → at < size → AreSums size sums → 0 < get_or (drop size sums) at 0
-    → Lowering size ((size + at) / 2) (lowered (drop size sums) at) (set sums (size + at) (get_or sums (size + at) 0 - 1))
-lowering_starts size at sums room lt h some =
-    let same = get_or-drop size sums at 0 in
+pub counting_starts : (size at : ℕ) (sums : List ℕ) → IsPower size → at < size → Counting (size + at) 0 (total (take at (drop size sums))) sums sums
+counting_starts size at sums power lt = record {
+  first = size;
+  power = power;
+  from = omega arith;
+  below = omega arith;
+  rest =
+      let all = total-between sums size at in
+      let same = between_same sums size size (size + at - size) at refl (omega arith) in
+      omega arith;
+  same = λ k le. refl;
+}
+
+pub double_power : (n : ℕ) → IsPower n → IsPower (n * 2)
+double_power n (d, e) = let two = pow-add 2 1 d in (suc d, omega arith)
+
+half_power : (n : ℕ) → IsPower n → 1 < n → IsPower (n / 2) × (n % 2 ≡ 0)
+half_power n (zero, e) some = absurd (omega arith)
+half_power n (suc d, e) some = let two = pow-add 2 1 d in ((d, omega arith), omega arith)
+
+-- one level up: the node to the left is counted where there is one
+step_up : (size node first before whole x : ℕ) (old : List ℕ) → AreSums size old → 1 < node → node < size + size → IsPower first → first ≤ node → node < 2 * first
+    → before + between old first (node - first) ≡ whole → x ≡ if_odd node (get_or old (node - 1) 0)
+    → before + x + between old (first / 2) (node / 2 - first / 2) ≡ whole
+unfolding between
+step_up size node first before whole x old sums some inner power from below rest is =
+    let half = half_power first power (omega arith) in
+    let even = half.1 in
+    let none = even_is first (get_or old first 0) even in
+    let same = between_same old ((first + 1) / 2) (first / 2) (node / 2 - (first + 1) / 2) (node / 2 - first / 2) (omega arith) (omega arith) in
+    elim (cases_lt first node) [
+      | inl more ↦ let up = level_up size first node old sums (omega arith) more (omega arith) in omega arith
+      | inr last ↦
+          let zero_is = even_is node (get_or old (node - 1) 0) (omega arith) in
+          let nothing = between_same old first first (node - first) 0 refl (omega arith) in
+          let nothing_above = between_same old (first / 2) (first / 2) (node / 2 - first / 2) 0 refl (omega arith) in
+          omega arith
+    ]
+
+pub counting_more : (size node before whole x v : ℕ) (old sums : List ℕ) → AreSums size old → 1 < node → node < size + size
+    → Counting node before whole old sums → x ≡ if_odd node (get_or sums (node - 1) 0) → Counting (node / 2) (before + x) whole old (set sums node v)
+counting_more size node before whole x v old sums h some inner c is =
+    let from = c.from in
+    let below = c.below in
+    let half = half_power c.first c.power (omega arith) in
+    let even = half.1 in
     record {
-      room = length-set sums (size + at) (get_or sums (size + at) 0 - 1) ∙ room;
-      inner = omega arith;
-      counts_are =
-          drop-set-add size sums at (get_or sums (size + at) 0 - 1) ∙
-          ap (λ (c : ℕ). set (drop size sums) at (c - 1)) (sym same);
-      exceeds = exceeds_above size (size + at) sums (omega arith) (omega arith) (exceeds_none size (size + at) sums (omega arith) h);
+      first = c.first / 2;
+      power = half.0;
+      from = omega arith;
+      below = omega arith;
+      rest =
+          step_up size node c.first before whole x old h some inner c.power c.from c.below c.rest
+          (is ∙ ap (λ (w : ℕ). if_odd node w) (c.same (node - 1) (omega arith)));
+      same = λ k le. get_or-set_other sums node k v 0 (λ e. omega arith) ∙ c.same k (omega arith);
     }
 
-pub lowering_fits : (size node : ℕ) (counts sums : List ℕ) → Lowering size node counts sums → 0 < node → 0 < get_or sums node 0
-lowering_fits size node counts sums r some =
-    let here = r.exceeds node some r.inner in let one = one_at node node refl in omega arith
+-- what is counted so far, with one node more, is part of the whole
+pub counting_fits : (size node before whole x : ℕ) (old sums : List ℕ) → AreSums size old → 1 < node → node < size + size
+    → Counting node before whole old sums → x ≡ if_odd node (get_or sums (node - 1) 0) → before + x ≤ whole
+counting_fits size node before whole x old sums h some inner c is =
+    let next = (counting_more size node before whole x 0 old sums h some inner c is).rest in omega arith
 
-pub lowering_more : (size node : ℕ) (counts sums : List ℕ) → Lowering size node counts sums → 0 < node
-    → Lowering size (node / 2) counts (set sums node (get_or sums node 0 - 1))
-lowering_more size node counts sums r some =
-    let i = r.inner in
-    let l = r.room in
-    record {
-      room = length-set sums node (get_or sums node 0 - 1) ∙ r.room;
-      inner = omega arith;
-      counts_are = drop-set-lt size sums node (get_or sums node 0 - 1) i ∙ r.counts_are;
-      exceeds = exceeds_above size node sums (omega arith) (lowering_fits size node counts sums r some) r.exceeds;
-    }
+pub counting_ends : (node before whole : ℕ) (old sums : List ℕ) → node ≤ 1 → Counting node before whole old sums → before ≡ whole
+unfolding between
+counting_ends node before whole old sums le c =
+    let from = c.from in
+    let below = c.below in
+    let rest = c.rest in
+    let nothing = between_same old c.first c.first (node - c.first) 0 refl (omega arith) in
+    omega arith
 
 -- ---- the tree as a list of counts
 
@@ -467,6 +437,3 @@ zero_counts size sums e = ap (λ (xs : List ℕ). drop size xs) e ∙ drop_zeros
 
 pub total_raised : (counts : List ℕ) (at : ℕ) → at < length counts → total (raised counts at) ≡ total counts + 1
 total_raised counts at lt = let h = total-set counts at (get_or counts at 0 + 1) lt in omega arith
-
-pub total_lowered : (counts : List ℕ) (at : ℕ) → at < length counts → total (lowered counts at) ≤ total counts
-total_lowered counts at lt = let h = total-set counts at (get_or counts at 0 - 1) lt in omega arith

@@ -1,5 +1,5 @@
 -- Pages by how recently they were referenced. A history is a list of references, the latest first.
-use Rattle.std.specs.Prelude.{ℕ, zero, suc, ◌+◌, ◌==◌, if◌then◌else◌, List, [], ◌∷◌, ◌++◌, take, slice_set, slice_index_or, Option, Some, None}
+use Rattle.std.specs.Prelude.{ℕ, zero, suc, ◌+◌, ◌-◌, ◌==◌, if◌then◌else◌, List, [], ◌∷◌, ◌++◌, take, slice_set, slice_index_or, Option, Some, None}
 use Rattle.std.specs.Option.{option_map}
 use Rattle.stack_dist.specs.Lru.{holds}
 use Rattle.vm_facts.specs.Lists.{without_first}
@@ -24,6 +24,21 @@ unmarked (Some at) marks = slice_set marks at 0
 unfoldable pub marks : List ℕ → List ℕ
 marks [] = []
 marks (page ∷ history) = 1 ∷ unmarked (place_in page history) (marks history)
+
+-- a gap is left at a place, where there is one
+abbrev pub gapped : Option ℕ → List ℕ → List ℕ
+gapped None gaps = gaps
+gapped (Some at) gaps = slice_set gaps at (slice_index_or gaps at 0 + 1)
+
+-- 0 at the latest reference to each page, and 1, a gap, at the others
+unfoldable pub gaps : List ℕ → List ℕ
+gaps [] = []
+gaps (page ∷ history) = 0 ∷ gapped (place_in page history) (gaps history)
+
+-- how many places before one, where there is one, are no gaps, from the latest reference's on
+abbrev pub filled_before : ℕ → Option ℕ → List ℕ → Option ℕ
+filled_before latest None gaps = None
+filled_before latest (Some at) gaps = Some (at - latest - total (take at gaps))
 
 -- the list behind as many zeros
 unfoldable pub padded : ℕ → List ℕ → List ℕ

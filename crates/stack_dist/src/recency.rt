@@ -1,17 +1,17 @@
 //! The depths at which references find their pages, among pages in the order of their last references.
 //!
-//! Each reference has a place of its own. A mark stands at the place of each page's last reference, so the
-//! marks of the pages that were referenced since are the page's depth.
-ghost use Rattle.std.specs.Prelude.{◌≡◌, ℕ, ◌+◌, ◌-◌, ◌<◌, ◌≤◌, ◌^◌, length, take, slice_set, slice_index_or, vec_len, IfOk, OnOk};
+//! Each reference has a place of its own. Where a page is referenced again, a gap is left at the place of its
+//! last reference; so the places since then that are no gaps are the page's depth.
+ghost use Rattle.std.specs.Prelude.{◌≡◌, ℕ, ◌+◌, ◌-◌, ◌<◌, ◌≤◌, ◌^◌, length, take, slice_index_or, vec_len, IfOk, OnOk};
 ghost use Rattle.std.specs.Option.{ForSome};
 ghost use Rattle.stack_dist.specs.Lru.{lru_faults, distinct_pages};
 ghost use Rattle.stack_dist.specs.Tree.{total};
-ghost use Rattle.stack_dist.specs.Recency.{unmarked, marks_before, counted};
+ghost use Rattle.stack_dist.specs.Recency.{gapped, filled_before, counted};
 
 use super::NoMemory;
 use super::tree::CountTree;
 use std::alloc::Global;
-use std::collections::BTreeMap;
+use std::collections::HashMap;
 
 /// For each depth how many references find their page there, from depth 0, the latest page, on: entry d has
 /// the hits that room for d + 1 pages adds.
@@ -21,32 +21,33 @@ pub fn hits_by_depth(alloc: Global, refs: &[u32]) -> Result<Vec<u32>, NoMemory>
     ensures hits { IfOk result (λ hits. (n : ℕ) → total (take n hits.items) + lru_faults refs.now n ≡ length refs.now) }
 {
     let mut hits = Vec::new(alloc);
-    let mut last = BTreeMap::new(alloc);
-    let mut marks = CountTree::new(alloc, refs.len())?;
+    let mut last = HashMap::new(alloc);
+    let mut gaps = CountTree::new(alloc, refs.len())?;
     // Places fall from one reference to the next: before a page's place stand those of later references.
-    let mut place = refs.len();
+    let mut place = gaps.len();
     for page in refs {
+        let before = last.insert(*page, place - 1)?;
+        let depth = leave_gap(&mut gaps, place, before);
         place -= 1;
-        let before = last.insert(*page, place)?;
-        let depth = take_off(&mut marks, before);
-        marks.mark(place);
         count(&mut hits, depth)?;
     }
     Ok(hits)
 }
 
-/// Takes away the mark of a page's last reference, where it has one, and answers how many marks stand before
-/// it.
-fn take_off(marks: &mut CountTree, before: Option<usize>) -> Option<u32>
-    requires { ForSome before (λ at. (at < length marks.old) × (slice_index_or marks.old at 0 ≡ 1)) }
-    ensures depth { result ≡ marks_before before marks.old }
-    ensures unmarked { marks.new ≡ unmarked before marks.old }
+/// Leaves a gap at the place of a page's last reference, where it has one, and answers how many places
+/// before it, from the latest reference's on, are no gaps.
+fn leave_gap(gaps: &mut CountTree, latest: usize, before: Option<usize>) -> Option<u32>
+    requires within { ForSome before (λ at. at < length gaps.old) }
+    requires order { ForSome before (λ at. latest + total (take at gaps.old) ≤ at) }
+    requires small { length gaps.old < 2 ^ 32 }
+    requires fits { total gaps.old < 2 ^ 32 - 1 }
+    ensures depth { result ≡ filled_before latest before gaps.old }
+    ensures gaps { gaps.new ≡ gapped before gaps.old }
 {
     match before {
         Some(at) => {
-            let depth = marks.count_below(at);
-            marks.unmark(at);
-            Some(depth)
+            let gaps_before = gaps.raise(at);
+            Some((at - latest) as u32 - gaps_before)
         }
         None => None,
     }
