@@ -1,3 +1,4 @@
 pub mod TreeLaws
+pub mod GapLaws
 pub mod RecencyLaws
 pub mod LruLaws

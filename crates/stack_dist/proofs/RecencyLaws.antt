@@ -7,7 +7,7 @@ use Rattle.std.proofs.lemmas.List.{get_or-set_other, get_or_default, length-set,
 use Rattle.vm_facts.specs.Lists.{without_first}
 use Rattle.stack_dist.specs.Tree.{total}
 use Rattle.stack_dist.specs.Recency.{stack, place_in, marks, unmarked, marks_before, gaps, gapped, filled_before, padded, hits_within, counted}
-use Rattle.stack_dist.proofs.LruLaws.{place_here, place_later, place_below, page_at, suc_of, choose, ltb_suc, hit_counted, depths_counted, total-take-set, get-le-total, hits_within-le, after, after_more}
+use Rattle.stack_dist.proofs.LruLaws.{place_here, place_later, place_below, page_at, suc_of, choose, ltb_suc, hit_counted, depths_counted, total-take-set, total-take-more, get-le-total, hits_within-le, after, after_more}
 
 -- ---- a page as often as its mark says
 
@@ -326,6 +326,7 @@ depth_found history last place page tree hits f =
 pub record Ready (latest references at : ℕ) (tree : List ℕ) : Type 0 where
   pub within : at < length tree
   pub order : latest + total (take at tree) ≤ at
+  pub none : get_or tree at 0 ≡ 0
 
 pub ready : (history : List ℕ) (last : ℕ → Option ℕ) (place page at : ℕ) (tree hits : List ℕ) → Follows history last place tree hits → last page ≡ Some at
     → Ready place (length history) at tree
@@ -337,7 +338,12 @@ ready history last place page at tree hits f e =
     let gaps_len = length-gaps history in
     let sums = ap (λ (t : List ℕ). total (take at t)) f.gaps_are ∙ total-take-padded place (gaps history) k.0 at k.2 in
     let both = marks_and_gaps history k.0 (omega arith) in
-    record { within = omega arith; order = omega arith }
+    let next = marks_and_gaps history (suc k.0) (omega arith) in
+    let one_gap = total-take-more (gaps history) k.0 in
+    let one_mark = total-take-more (marks history) k.0 in
+    let marked = marked_at history page k.0 k.1 in
+    let here = ap (λ (t : List ℕ). get_or t at 0) f.gaps_are ∙ get_or-padded place (gaps history) k.0 at k.2 in
+    record { within = omega arith; order = omega arith; none = omega arith }
 
 pub few_gaps : (history : List ℕ) (last : ℕ → Option ℕ) (place : ℕ) (tree hits : List ℕ) → Follows history last place tree hits
     → (length tree ≡ place + length history) × (total tree ≤ length history)

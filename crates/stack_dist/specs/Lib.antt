@@ -1,3 +1,4 @@
 pub mod Lru
 pub mod Tree
+pub mod Gaps
 pub mod Recency

@@ -26,11 +26,11 @@ pub record IsTree (a : Inside) : Type 0 where
   pub sums : AreSums a.size a.sums.items
   pub fits : total (counts_of a) < 2 ^ 32
 
--- at least so many counts, all 0
-pub record AreZeros (least : ℕ) (counts : List ℕ) : Type 0 where
+-- at least so many counts and at most so many, all 0
+pub record AreZeros (least most : ℕ) (counts : List ℕ) : Type 0 where
   pub size : ℕ
   pub enough : least ≤ size
-  pub small : size < 2 ^ 32
+  pub small : size ≤ most
   pub zeros : counts ≡ replicate size 0
 
 -- one count is greater by one

@@ -10,6 +10,7 @@ ghost use Rattle.std.specs.Prelude.{◌≡◌, ℕ, ◌+◌, ◌-◌, ◌<◌, �
 ghost use Rattle.stack_dist.specs.Lru.{lru_faults, distinct_pages};
 ghost use Rattle.stack_dist.specs.Tree.{total};
 
+mod gaps;
 mod recency;
 mod tree;
 

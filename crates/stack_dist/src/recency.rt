@@ -9,7 +9,7 @@ ghost use Rattle.stack_dist.specs.Tree.{total};
 ghost use Rattle.stack_dist.specs.Recency.{gapped, filled_before, counted};
 
 use super::NoMemory;
-use super::tree::CountTree;
+use super::gaps::Gaps;
 use std::alloc::Global;
 use std::collections::HashMap;
 
@@ -22,7 +22,7 @@ pub fn hits_by_depth(alloc: Global, refs: &[u32]) -> Result<Vec<u32>, NoMemory>
 {
     let mut hits = Vec::new(alloc);
     let mut last = HashMap::new(alloc);
-    let mut gaps = CountTree::new(alloc, refs.len())?;
+    let mut gaps = Gaps::new(alloc, refs.len())?;
     // Places fall from one reference to the next: before a page's place stand those of later references.
     let mut place = gaps.len();
     for page in refs {
@@ -36,9 +36,10 @@ pub fn hits_by_depth(alloc: Global, refs: &[u32]) -> Result<Vec<u32>, NoMemory>
 
 /// Leaves a gap at the place of a page's last reference, where it has one, and answers how many places
 /// before it, from the latest reference's on, are no gaps.
-fn leave_gap(gaps: &mut CountTree, latest: usize, before: Option<usize>) -> Option<u32>
+fn leave_gap(gaps: &mut Gaps, latest: usize, before: Option<usize>) -> Option<u32>
     requires within { ForSome before (λ at. at < length gaps.old) }
     requires order { ForSome before (λ at. latest + total (take at gaps.old) ≤ at) }
+    requires none { ForSome before (λ at. slice_index_or gaps.old at 0 ≡ 0) }
     requires small { length gaps.old < 2 ^ 32 }
     requires fits { total gaps.old < 2 ^ 32 - 1 }
     ensures depth { result ≡ filled_before latest before gaps.old }
@@ -46,7 +47,7 @@ fn leave_gap(gaps: &mut CountTree, latest: usize, before: Option<usize>) -> Opti
 {
     match before {
         Some(at) => {
-            let gaps_before = gaps.raise(at);
+            let gaps_before = gaps.leave(at);
             Some((at - latest) as u32 - gaps_before)
         }
         None => None,

@@ -1,5 +1,5 @@
 //! A list of counts, of which one is raised, and those before it are summed, in a single walk of O(log n).
-ghost use Rattle.std.specs.Prelude.{◌≡◌, ℕ, ◌+◌, ◌-◌, ◌<◌, ◌≤◌, ◌^◌, length, take, drop, slice_index_or, IfOk};
+ghost use Rattle.std.specs.Prelude.{◌≡◌, ℕ, ◌+◌, ◌-◌, ◌*◌, ◌<◌, ◌≤◌, ◌^◌, length, take, drop, slice_index_or, IfOk};
 ghost use Rattle.stack_dist.specs.Tree.{total, AreZeros, AreSums, IsPower, raised, if_odd as count_if_odd};
 
 use super::NoMemory;
@@ -30,7 +30,7 @@ impl CountTree {
     /// At least as many counts as given, all 0.
     pub fn new(alloc: Global, least: usize) -> Result<CountTree, NoMemory>
         requires { least ≤ 4_000_000 }
-        ensures { IfOk result (AreZeros least) }
+        ensures { IfOk result (AreZeros least (2 * least + 2)) }
     {
         let mut size = 2;
         while size < least {
@@ -84,9 +84,9 @@ fn raise(sums: &mut [u32], size: usize, at: usize) -> u32
     before
 }
 
-/// The count, or 0 where the number is even.
+/// The count, or 0 where the number is even. It is made by shifts, since a branch would be taken at random.
 fn if_odd(n: usize, count: u32) -> u32
     ensures { result ≡ count_if_odd n count }
 {
-    if n % 2 == 1 { count } else { 0 }
+    ((u64::from(count) << (32 * (n % 2))) >> 32) as u32
 }

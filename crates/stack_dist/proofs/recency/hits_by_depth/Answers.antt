@@ -15,7 +15,7 @@ loop-page-init c =
     record {
       places = omega arith;
       enough = omega arith;
-      small = omega arith;
+      small = let limit = c.requires in omega arith;
       follows =
           subst (λ (n : ℕ). Follows (after [] []) (get nat_eq c.new-last.result) n c.in_ok-gaps.gaps c.new-hits.result.items) (sym (c.len-place.ensures ∙ len))
           (starts zeros.size (get nat_eq c.new-last.result) c.in_ok-gaps.gaps c.new-hits.result.items
@@ -33,6 +33,12 @@ leave_gap-depth-requires-clause-order c at is =
     (ready (after (take c.loop-page.page-index c.args.refs.now) []) (get nat_eq c.loop-page.last) c.loop-page.place
     (get_or c.args.refs.now c.loop-page.page-index 0) at c.loop-page.gaps c.loop-page.hits.items c.loop-page.invariant.follows
     (sym c.in_ok-before.ensures.old ∙ is)).order
+
+pub leave_gap-depth-requires-clause-none : goal.leave_gap-depth-requires-clause-none
+leave_gap-depth-requires-clause-none c at is =
+    (ready (after (take c.loop-page.page-index c.args.refs.now) []) (get nat_eq c.loop-page.last) c.loop-page.place
+    (get_or c.args.refs.now c.loop-page.page-index 0) at c.loop-page.gaps c.loop-page.hits.items c.loop-page.invariant.follows
+    (sym c.in_ok-before.ensures.old ∙ is)).none
 
 pub leave_gap-depth-requires-clause-fits : goal.leave_gap-depth-requires-clause-fits
 leave_gap-depth-requires-clause-fits c =

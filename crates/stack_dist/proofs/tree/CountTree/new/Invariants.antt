@@ -1,4 +1,4 @@
-use Rattle.std.proofs.Common.{◌-◌, ◌<◌, ◌≤◌}
+use Rattle.std.proofs.Common.{◌+◌, ◌-◌, ◌*◌, ◌<◌, ◌≤◌}
 use Rattle.stack_dist.specs.Tree.{IsPower}
 use Rattle.stack_dist.proofs.tree.CountTree.new.Given as goal
 
@@ -6,7 +6,7 @@ abbrev pub invariant-loop-size : goal.invariant-loop-size
 invariant-loop-size l = record {
   power : IsPower l.size;
   some : 1 < l.size;
-  small : l.size ≤ 8000000;
+  small : l.size ≤ 2 * l.least + 2;
 }
 
 abbrev pub decreases-loop-size : goal.decreases-loop-size
