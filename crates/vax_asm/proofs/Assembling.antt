@@ -1,5 +1,5 @@
 -- The lines of a source so far, laid out.
-use Rattle.std.proofs.Common.{◌≡◌, ◌⊎◌, inl, inr, ℕ, zero, suc, ◌+◌, ◌<◌, ◌≤◌, Bool, true, false, List, [], ◌∷◌, ◌++◌, length, take, map, Option, Some, None, refl, sym, ◌∙◌, ap, subst, arith, length-append, append_assoc}
+use Rattle.std.proofs.Common.{◌≡◌, ◌⊎◌, inl, inr, ℕ, zero, suc, ◌+◌, ◌-◌, ◌<◌, ◌≤◌, Bool, true, false, List, [], ◌∷◌, ◌++◌, length, take, map, Option, Some, None, refl, sym, ◌∙◌, ap, subst, arith, length-append, append_assoc}
 use Rattle.std.specs.Prelude.{if◌then◌else◌, is_some, ◌==◌}
 use Rattle.std.specs.Option.{unwrap_or}
 use Rattle.std.proofs.lemmas.List.{append-nil}
@@ -36,6 +36,16 @@ labels_end labels at left rest all (inr e) h =
     take_zero (x ∷ l) = refl
 
 -- ---- one more line
+
+pub labels_step : (labels labels' : List Definition) (at left size : ℕ) (rest more : List ℕ) (item : Option SourceLine) (all : List Definition) → labels' ≡ labels ++ item_definition at item → size ≡ item_size item → 0 < left → items_in rest ≡ item ∷ items_in more → labels ++ definitions at (take left (items_in rest)) ≡ all → labels' ++ definitions (at + size) (take (left - 1) (items_in more)) ≡ all
+labels_step labels labels' at zero size rest more item all e sized some next h = absurd (omega (arith, some))
+labels_step labels labels' at (suc left) size rest more item all e sized some next h =
+    let one_less : suc left - 1 ≡ left = omega arith in
+    ap (λ (n : ℕ). labels' ++ definitions (at + n) (take (suc left - 1) (items_in more))) sized ∙
+    ap (λ (n : ℕ). labels' ++ definitions (at + item_size item) (take n (items_in more))) one_less ∙
+    ap (λ (l : List Definition). l ++ definitions (at + item_size item) (take left (items_in more))) e ∙
+    append_assoc labels (item_definition at item) (definitions (at + item_size item) (take left (items_in more))) ∙
+    ap (λ (l : List (Option SourceLine)). labels ++ definitions at (take (suc left) l)) (sym next) ∙ h
 
 address_append : (before : List (Option SourceLine)) (item : Option SourceLine) → address_after (before ++ item ∷ []) ≡ address_after before + item_size item
 address_append [] item = omega arith

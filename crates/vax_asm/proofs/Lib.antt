@@ -9,6 +9,7 @@ pub mod Respelled
 pub mod Reread
 pub mod Resaid
 pub mod Shows
+pub mod Places
 pub mod Items
 pub mod Sizes
 pub mod Assembling

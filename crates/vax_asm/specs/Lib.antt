@@ -5,6 +5,7 @@ pub mod Operands
 pub mod Mnemonics
 pub mod Sentences
 pub mod Encoding
+pub mod Places
 pub mod Showing
 pub mod Lines
 pub mod Program

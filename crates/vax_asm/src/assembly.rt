@@ -1,12 +1,23 @@
-ghost use Rattle.std.specs.Prelude.{◌≡◌, []};
-ghost use Rattle.vax_asm.specs.Encoding.{EncodesAs};
+ghost use Rattle.std.specs.Prelude.{◌≡◌, ◌≤◌, [], length, IfSome};
+ghost use Rattle.vax_asm.specs.Encoding.{EncodesAs, sentence_bytes};
 ghost use Rattle.vax_asm.specs.Showing.{ShowsAs};
 
 use crate::answers::{Encoded, Shown};
 use crate::bytes::sentence_at;
+use crate::code::Code;
 use crate::encoding::sentence_bytes;
+use crate::labels::Labels;
 use crate::sentences::{is_short, sentence_of};
 use crate::showing::text_of;
+use crate::syntax::Sentence;
+
+// The bytes of an instruction that names no label.
+fn lone_bytes(at: u32, sentence: &Sentence) -> Option<Code>
+    ensures value { result ≡ sentence_bytes [] at sentence.now }
+    ensures few { IfSome result (λ code. length code ≤ 19) }
+{
+    sentence_bytes(&Labels::none(), at, sentence)
+}
 
 /// The bytes of one instruction, a line without labels and without its LF, at an address.
 pub fn encode(line: &[u8], at: u32) -> Encoded
@@ -18,7 +29,7 @@ pub fn encode(line: &[u8], at: u32) -> Encoded
     let Some(sentence) = sentence_of(line) else {
         return Encoded::Bad;
     };
-    match sentence_bytes(&[], at, &sentence) {
+    match lone_bytes(at, &sentence) {
         Some(code) => {
             let (bytes, length) = code.into_parts();
             Encoded::Is { bytes, length }

@@ -1,10 +1,10 @@
 // The bytes that operands and instructions have.
-ghost use Rattle.std.specs.Prelude.{◌≡◌, ℕ, ◌+◌, ◌≤◌, ◌<◌, ◌⊎◌, ◌^◌, find, length, IfSome, Option, Some, None, List, []};
-ghost use Rattle.vax_asm.specs.Mnemonics.{same_text};
-ghost use Rattle.vax_asm.specs.Encoding.{whole_of, half_of, value_bits, displacement_bits, found, number_of_value, bits_of_value, plain_specifier, with_number, displacement_mode, place_bytes, leaves_index, indexed_bytes, literal_bytes, immediate_bytes, distance, branch_bits, target_bytes, displaced_bytes, branch_bytes, specifier_bytes, absent_bytes, operand_bytes, sentence_bytes};
+ghost use Rattle.std.specs.Prelude.{◌≡◌, ℕ, ◌+◌, ◌≤◌, ◌<◌, ◌⊎◌, ◌^◌, length, IfSome, Option, Some, None, List, []};
+ghost use Rattle.vax_asm.specs.Encoding.{whole_of, half_of, value_bits, displacement_bits, number_of_value, bits_of_value, plain_specifier, with_number, displacement_mode, place_bytes, leaves_index, indexed_bytes, literal_bytes, immediate_bytes, distance, branch_bits, target_bytes, displaced_bytes, branch_bytes, specifier_bytes, absent_bytes, operand_bytes, sentence_bytes};
 
 use crate::code::Code;
-use crate::syntax::{Definition, Label, Number, Place, Sentence, Value, Written};
+use crate::labels::Labels;
+use crate::syntax::{Number, Place, Sentence, Value, Written};
 use vax_code::{Access, Row, Slot};
 
 // How many numbers so many bytes hold.
@@ -57,24 +57,14 @@ fn displacement_bits(size: u8, number: Number) -> Option<u32>
     None
 }
 
-#[tactic(auto, unfolding(crate::specs::Encoding::found))]
-pub fn find_definition(labels: &[Definition], label: Label) -> Option<Definition>
-    ensures { result ≡ found labels.now label }
-{
-    labels
-        .iter()
-        .copied()
-        .find(|definition| definition.label.bytes == label.bytes)
-}
-
 #[tactic(auto, unfolding(crate::specs::Encoding::number_of_value))]
-fn number_of_value(labels: &[Definition], value: Value) -> Option<Number>
+fn number_of_value(labels: &Labels, value: Value) -> Option<Number>
     ensures { result ≡ number_of_value labels.now value }
 {
     match value {
         Value::Number(number) => Some(number),
         Value::Label(label) => {
-            let definition = find_definition(labels, label)?;
+            let definition = labels.find(label)?;
             Some(Number {
                 negative: false,
                 magnitude: u64::from(definition.address),
@@ -84,7 +74,7 @@ fn number_of_value(labels: &[Definition], value: Value) -> Option<Number>
 }
 
 #[tactic(auto, unfolding(crate::specs::Encoding::bits_of_value))]
-pub fn bits_of_value(labels: &[Definition], size: u8, value: Value) -> Option<u32>
+pub fn bits_of_value(labels: &Labels, size: u8, value: Value) -> Option<u32>
     ensures value { result ≡ bits_of_value labels.now size value }
     ensures fits { IfSome result (λ bits. bits < whole_of size) }
 {
@@ -140,7 +130,7 @@ fn displaced_bytes(size: u8, reg: u8, by: Number, deferred: bool) -> Option<Code
 }
 
 #[tactic(auto, unfolding(crate::specs::Encoding::place_bytes))]
-fn place_bytes(labels: &[Definition], place: Place) -> Option<Code>
+fn place_bytes(labels: &Labels, place: Place) -> Option<Code>
     ensures value { result ≡ place_bytes labels.now place }
     ensures few { IfSome result (λ code. length code ≤ 5) }
 {
@@ -173,7 +163,7 @@ fn leaves_index(index: u8, base: Place) -> bool
 }
 
 #[tactic(auto, unfolding(crate::specs::Encoding::indexed_bytes))]
-fn indexed_bytes(labels: &[Definition], index: u8, base: Place) -> Option<Code>
+fn indexed_bytes(labels: &Labels, index: u8, base: Place) -> Option<Code>
     ensures value { result ≡ indexed_bytes labels.now index base }
     ensures few { IfSome result (λ code. length code ≤ 6) }
 {
@@ -200,7 +190,7 @@ fn literal_bytes(number: Number) -> Option<Code>
 }
 
 #[tactic(auto, unfolding(crate::specs::Encoding::immediate_bytes))]
-fn immediate_bytes(labels: &[Definition], slot: Slot, value: Value) -> Option<Code>
+fn immediate_bytes(labels: &Labels, slot: Slot, value: Value) -> Option<Code>
     ensures value { result ≡ immediate_bytes labels.now slot value }
     ensures few { IfSome result (λ code. length code ≤ 5) }
 {
@@ -231,7 +221,7 @@ fn branch_bits(size: u8, by: u32) -> Option<u32>
 }
 
 #[tactic(auto, unfolding(crate::specs::Encoding::target_bytes))]
-fn target_bytes(labels: &[Definition], from: u64, slot: Slot, target: Value) -> Option<Code>
+fn target_bytes(labels: &Labels, from: u64, slot: Slot, target: Value) -> Option<Code>
     requires { from < 2 ^ 40 }
     ensures value { result ≡ target_bytes labels.now from slot target }
     ensures few { IfSome result (λ code. length code ≤ 4) }
@@ -245,7 +235,7 @@ fn target_bytes(labels: &[Definition], from: u64, slot: Slot, target: Value) -> 
 }
 
 #[tactic(auto, unfolding(crate::specs::Encoding::branch_bytes))]
-fn branch_bytes(labels: &[Definition], from: u64, slot: Slot, written: Written) -> Option<Code>
+fn branch_bytes(labels: &Labels, from: u64, slot: Slot, written: Written) -> Option<Code>
     requires { from < 2 ^ 40 }
     ensures value { result ≡ branch_bytes labels.now from slot written }
     ensures few { IfSome result (λ code. length code ≤ 6) }
@@ -257,7 +247,7 @@ fn branch_bytes(labels: &[Definition], from: u64, slot: Slot, written: Written) 
 }
 
 #[tactic(auto, unfolding(crate::specs::Encoding::specifier_bytes))]
-fn specifier_bytes(labels: &[Definition], slot: Slot, written: Written) -> Option<Code>
+fn specifier_bytes(labels: &Labels, slot: Slot, written: Written) -> Option<Code>
     ensures value { result ≡ specifier_bytes labels.now slot written }
     ensures few { IfSome result (λ code. length code ≤ 6) }
 {
@@ -285,13 +275,7 @@ fn absent_bytes(written: Written) -> Option<Code>
 
 // The bytes of an operand whose first byte has this address.
 #[tactic(auto, unfolding(crate::specs::Encoding::operand_bytes))]
-fn operand_bytes(
-    labels: &[Definition],
-    from: u64,
-    row: &Row,
-    place: u8,
-    written: Written,
-) -> Option<Code>
+fn operand_bytes(labels: &Labels, from: u64, row: &Row, place: u8, written: Written) -> Option<Code>
     requires { from < 2 ^ 40 }
     ensures value { result ≡ operand_bytes labels.now from row.now place written }
     ensures few { IfSome result (λ code. length code ≤ 6) }
@@ -308,7 +292,7 @@ fn operand_bytes(
 
 // The bytes of an instruction at an address.
 #[tactic(auto, unfolding(crate::specs::Encoding::sentence_bytes))]
-pub fn sentence_bytes(labels: &[Definition], at: u32, sentence: &Sentence) -> Option<Code>
+pub fn sentence_bytes(labels: &Labels, at: u32, sentence: &Sentence) -> Option<Code>
     ensures value { result ≡ sentence_bytes labels.now at sentence.now }
     ensures few { IfSome result (λ code. length code ≤ 19) }
 {

@@ -11,6 +11,7 @@ mod assembly;
 mod bytes;
 mod code;
 mod encoding;
+mod labels;
 mod line;
 mod lines;
 mod mnemonics;

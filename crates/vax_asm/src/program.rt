@@ -4,7 +4,8 @@ ghost use Rattle.vax_asm.specs.Program.{Puts, number_size, place_size, operand_s
 
 use crate::answers::{Assembled, Program};
 use crate::code::Code;
-use crate::encoding::{bits_of_value, find_definition, sentence_bytes};
+use crate::encoding::{bits_of_value, sentence_bytes};
+use crate::labels::{LabelTable, Labels};
 use crate::lines::next_item;
 use crate::syntax::{
     Definition, Label, Number, Place, Sentence, SourceLine, Statement, Value, Written,
@@ -109,8 +110,8 @@ fn item_size(item: &Option<SourceLine>) -> u32
 }
 
 // Defines the label of a line.
-fn define(labels: &mut Vec<Definition>, at: u32, item: &Option<SourceLine>) -> Result<(), NoMemory>
-    ensures { IfOk result (λ _. labels.new.items ≡ labels.old.items ++ item_definition at item.now) }
+fn define(labels: LabelTable, at: u32, item: &Option<SourceLine>) -> Result<LabelTable, NoMemory>
+    ensures { IfOk result (λ more. more ≡ labels ++ item_definition at item.now) }
 {
     if let Some(
         SourceLine {
@@ -119,40 +120,39 @@ fn define(labels: &mut Vec<Definition>, at: u32, item: &Option<SourceLine>) -> R
         },
     ) = item
     {
-        let definition = Definition {
+        return labels.with(Definition {
             label: *label,
             address: at,
-        };
-        labels.push(definition)?;
+        });
     }
-    Ok(())
+    Ok(labels)
 }
 
 // The labels of a source.
-fn labels_of(alloc: Global, source: &[u8]) -> Result<Vec<Definition>, NoMemory>
-    ensures { IfOk result (λ labels. labels.items ≡ labels_of source.now) }
+fn labels_of(alloc: Global, source: &[u8]) -> Result<Labels, NoMemory>
+    ensures { IfOk result (λ labels. labels ≡ labels_of source.now) }
 {
-    let mut labels = Vec::new(alloc);
+    let mut labels = LabelTable::new(alloc);
     let mut rest = source;
     let mut at: u32 = 0;
     let mut left: u32 = 4096;
     while left > 0 && !rest.is_empty() {
         let (item, more) = next_item(rest);
-        define(&mut labels, at, &item)?;
+        labels = define(labels, at, &item)?;
         at += item_size(&item);
         rest = more;
         left -= 1;
     }
-    Ok(labels)
+    Ok(Labels::of(labels))
 }
 
 // Whether a line's label isn't defined yet.
-fn is_new(earlier: &[Definition], label: Option<Label>) -> bool
+fn is_new(earlier: &LabelTable, label: Option<Label>) -> bool
     ensures { result ≡ is_new earlier.now label }
 {
     match label {
         None => true,
-        Some(label) => find_definition(earlier, label).is_none(),
+        Some(label) => earlier.find(label).is_none(),
     }
 }
 
@@ -182,7 +182,7 @@ fn put_zeros(bytes: &mut Vec<u8>, count: u32) -> Result<bool, NoMemory>
 }
 
 #[tactic(auto, unfolding(crate::specs::Program::value_bytes))]
-fn value_bytes(labels: &[Definition], size: u8, value: Value) -> Option<Code>
+fn value_bytes(labels: &Labels, size: u8, value: Value) -> Option<Code>
     ensures { result ≡ value_bytes labels.now size value }
 {
     let bits = bits_of_value(labels, size, value)?;
@@ -223,7 +223,7 @@ fn put_bss(bytes: &mut Vec<u8>, with_bss: bool, number: Number) -> Result<bool, 
 // Puts the bytes of a statement.
 #[tactic(auto, unfolding(crate::specs::Program::statement_bytes))]
 fn put_statement(
-    labels: &[Definition],
+    labels: &Labels,
     with_bss: bool,
     bytes: &mut Vec<u8>,
     statement: &Statement,
@@ -247,8 +247,8 @@ fn put_statement(
 
 // Puts the bytes of a line behind others.
 fn put_line(
-    labels: &[Definition],
-    earlier: &[Definition],
+    labels: &Labels,
+    earlier: &LabelTable,
     with_bss: bool,
     bytes: &mut Vec<u8>,
     line: &SourceLine,
@@ -279,11 +279,11 @@ fn bss_after(bss: Option<u32>, statement: &Option<Statement>) -> Option<u32>
 }
 
 // The program of a source, by its labels.
-fn assemble_with(alloc: Global, labels: &[Definition], source: &[u8]) -> Result<Assembled, NoMemory>
+fn assemble_with(alloc: Global, labels: &Labels, source: &[u8]) -> Result<Assembled, NoMemory>
     requires { labels.now ≡ labels_of source.now }
     ensures { IfOk result (AssemblesAs source.now) }
 {
-    let mut earlier = Vec::new(alloc);
+    let mut earlier = LabelTable::new(alloc);
     let mut bytes = Vec::new(alloc);
     let mut bss = None;
     let mut rest = source;
@@ -300,7 +300,7 @@ fn assemble_with(alloc: Global, labels: &[Definition], source: &[u8]) -> Result<
         if !put_line(labels, &earlier, bss.is_some(), &mut bytes, &line)? {
             return Ok(Assembled::BadLine(number));
         }
-        define(&mut earlier, at, &item)?;
+        earlier = define(earlier, at, &item)?;
         bss = bss_after(bss, &line.statement);
         rest = more;
         number += 1;

@@ -6,7 +6,7 @@ use Rattle.vax_asm.proofs.program.labels_of.Given as goal
 
 abbrev pub invariant-loop-left : goal.invariant-loop-left
 invariant-loop-left l = record {
-  labels : l.labels.items ++ definitions l.at (take l.left (items_in l.rest)) ≡ labels_of l.source;
+  labels : l.labels ++ definitions l.at (take l.left (items_in l.rest)) ≡ labels_of l.source;
   room : l.at + l.left * 65536 ≤ 268435456;
 }
 
