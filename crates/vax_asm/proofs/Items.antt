@@ -4,8 +4,7 @@ use Rattle.std.specs.Prelude.{if◌then◌else◌, ◌==◌}
 use Rattle.std.proofs.lemmas.List.{take-append-drop, append-nil}
 use Rattle.std.proofs.lemmas.Bool.Decides.{nat_tests}
 use Rattle.vax_asm.specs.Text.{front_of, behind}
-use Rattle.vax_asm.specs.Lines.{put_before, lines_in, item_of, items_in, line_of}
-use Rattle.vax_asm.specs.declared.syntax.SourceLine.{SourceLine}
+use Rattle.vax_asm.specs.Lines.{put_before, lines_in, item_of, items_in}
 use Rattle.vax_asm.proofs.Fronts.{take_front, drop_front}
 
 -- no byte is a line feed
@@ -46,36 +45,40 @@ lines_open byte [] h = rw h.0 refl
 lines_open byte (next ∷ text) h = rw h.0 (ap (put_before byte) (lines_open next text h.1))
 
 -- a last line without its line feed
-pub open_items : (text : List ℕ) (n : ℕ) → n ≡ length (front_of (λ byte. not (byte == 10)) text) → drop n text ≡ [] → 0 < length text → items_in text ≡ None ∷ items_in (drop n text)
-unfolding items_in lines_in
-open_items [] n is e some = absurd (omega (arith, some))
-open_items (byte ∷ text) n is e some =
+open_lines : (text : List ℕ) (n : ℕ) → n ≡ length (front_of (λ byte. not (byte == 10)) text) → drop n text ≡ [] → 0 < length text → lines_in text ≡ None ∷ lines_in (drop n text)
+unfolding lines_in
+open_lines [] n is e some = absurd (omega (arith, some))
+open_lines (byte ∷ text) n is e some =
     let whole : byte ∷ text ≡ take n (byte ∷ text) = sym (take-append-drop n (byte ∷ text)) ∙ ap (λ (l : List ℕ). take n (byte ∷ text) ++ l) e ∙ append-nil (take n (byte ∷ text)) in
     let front : take n (byte ∷ text) ≡ front_of (λ byte. not (byte == 10)) (byte ∷ text) = ap (λ (k : ℕ). take k (byte ∷ text)) is ∙ take_front (λ byte. not (byte == 10)) (byte ∷ text) in
     let free : HasNoFeed (byte ∷ text) = subst (λ (l : List ℕ). HasNoFeed l) (sym (whole ∙ front)) (front_has_no_feed (byte ∷ text)) in
-    ap (λ (ls : List (Option (List ℕ))). map item_of ls) (lines_open byte text free) ∙ ap (λ (l : List ℕ). None ∷ map item_of (lines_in l)) (sym e)
+    lines_open byte text free ∙ ap (λ (l : List ℕ). None ∷ lines_in l) (sym e)
 
 -- a line and its line feed
-pub ended_items : (text : List ℕ) (n b : ℕ) (more : List ℕ) → n ≡ length (front_of (λ byte. not (byte == 10)) text) → drop n text ≡ b ∷ more → items_in text ≡ line_of (take n text) ∷ items_in more
-unfolding items_in
-ended_items text n b more is e =
+ended_lines : (text : List ℕ) (n b : ℕ) (more : List ℕ) → n ≡ length (front_of (λ byte. not (byte == 10)) text) → drop n text ≡ b ∷ more → lines_in text ≡ Some (take n text) ∷ lines_in more
+ended_lines text n b more is e =
     let front : take n text ≡ front_of (λ byte. not (byte == 10)) text = ap (λ (k : ℕ). take k text) is ∙ take_front (λ byte. not (byte == 10)) text in
     let left : drop n text ≡ behind (λ byte. not (byte == 10)) text = ap (λ (k : ℕ). drop k text) is ∙ drop_front (λ byte. not (byte == 10)) text in
     let feed : b ≡ 10 = behind_feed text b more (sym left ∙ e) in
     let free : HasNoFeed (take n text) = subst (λ (l : List ℕ). HasNoFeed l) (sym front) (front_has_no_feed text) in
     let split : text ≡ take n text ++ 10 ∷ more = sym (take-append-drop n text) ∙ ap (λ (l : List ℕ). take n text ++ l) (e ∙ ap (λ (k : ℕ). k ∷ more) feed) in
-    ap (λ (l : List ℕ). map item_of (lines_in l)) split ∙ ap (λ (ls : List (Option (List ℕ))). map item_of ls) (lines_ended (take n text) more free)
+    ap lines_in split ∙ lines_ended (take n text) more free
 
-pub open_item : (text back : List ℕ) (n : ℕ) → n ≡ length (front_of (λ byte. not (byte == 10)) text) → back ≡ drop n text → length back < 1 → 0 < length text → items_in text ≡ None ∷ items_in back
-open_item text [] n is cut none some = open_items text n is (sym cut) some ∙ ap (λ (l : List ℕ). None ∷ items_in l) (sym cut)
-open_item text (b ∷ back) n is cut none some = absurd (omega (arith, none))
+pub open_line : (text back : List ℕ) (n : ℕ) → n ≡ length (front_of (λ byte. not (byte == 10)) text) → back ≡ drop n text → length back < 1 → 0 < length text → lines_in text ≡ None ∷ lines_in back
+open_line text [] n is cut none some = open_lines text n is (sym cut) some ∙ ap (λ (l : List ℕ). None ∷ lines_in l) (sym cut)
+open_line text (b ∷ back) n is cut none some = absurd (omega (arith, none))
 
 whole : (xs : List ℕ) → take (length xs) xs ≡ xs
 whole [] = refl
 whole (x ∷ xs) = ap (λ (l : List ℕ). x ∷ l) (whole xs)
 
-pub ended_item : (text front back : List ℕ) (n : ℕ) (item : Option SourceLine) → n ≡ length (front_of (λ byte. not (byte == 10)) text) → front ≡ take n text → back ≡ drop n text → 1 ≤ length back → item ≡ line_of front → items_in text ≡ item ∷ items_in (take (length back - 1) (drop 1 back))
-ended_item text front [] n item is cut left some line = absurd (omega (arith, some))
-ended_item text front (b ∷ back) n item is cut left some line =
+pub ended_line : (text front back : List ℕ) (n : ℕ) → n ≡ length (front_of (λ byte. not (byte == 10)) text) → front ≡ take n text → back ≡ drop n text → 1 ≤ length back → lines_in text ≡ Some front ∷ lines_in (take (length back - 1) (drop 1 back))
+ended_line text front [] n is cut left some = absurd (omega (arith, some))
+ended_line text front (b ∷ back) n is cut left some =
     let all : take (length (b ∷ back) - 1) back ≡ back = ap (λ (k : ℕ). take k back) (omega arith) ∙ whole back in
-    ended_items text n b back is (sym left) ∙ ap (λ (i : Option SourceLine). i ∷ items_in back) (ap line_of (sym cut) ∙ sym line) ∙ ap (λ (l : List ℕ). item ∷ items_in l) (sym all)
+    ended_lines text n b back is (sym left) ∙ ap (λ (l : List ℕ). Some l ∷ lines_in back) (sym cut) ∙ ap (λ (l : List ℕ). Some front ∷ lines_in l) (sym all)
+
+-- what the lines of a source say, by its lines
+pub item_by_line : (text more : List ℕ) (line : Option (List ℕ)) → lines_in text ≡ line ∷ lines_in more → items_in text ≡ item_of line ∷ items_in more
+unfolding items_in
+item_by_line text more line e = ap (λ (l : List (Option (List ℕ))). map item_of l) e

@@ -14,3 +14,5 @@ pub mod Items
 pub mod Sizes
 pub mod Assembling
 pub mod Standing
+pub mod Agreeing
+pub mod Explaining

@@ -24,7 +24,8 @@ later_is definition definitions place = ap (slice_get (definition ∷ definition
     one_more : (n : ℕ) → n + 1 ≡ suc n
     one_more n = omega arith
 
-found_later : (definition : Definition) (definitions : List Definition) (first : Option Definition) (place : Option ℕ) (t : Bool) → first ≡ (place >>= slice_get definitions) → (if t then Some definition else first) ≡ ((if t then Some 0 else one_later place) >>= slice_get (definition ∷ definitions))
+found_later : (definition : Definition) (definitions : List Definition) (first : Option Definition) (place : Option ℕ) (t : Bool) → first ≡ (place >>= slice_get definitions)
+    → (if t then Some definition else first) ≡ ((if t then Some 0 else one_later place) >>= slice_get (definition ∷ definitions))
 found_later definition definitions first place true e = refl
 found_later definition definitions first None false e = e
 found_later definition definitions first (Some place) false e = e ∙ sym (later_is definition definitions place)
@@ -43,7 +44,8 @@ later_or None n true = ap (λ (k : ℕ). Some k) (one_more n)
     one_more n = omega arith
 later_or None n false = refl
 
-place_later : (more before : Option ℕ) (n : ℕ) (t u : Bool) → more ≡ option_or before (if u then Some n else None) → (if t then Some 0 else one_later more) ≡ option_or (if t then Some 0 else one_later before) (if u then Some (suc n) else None)
+place_later : (more before : Option ℕ) (n : ℕ) (t u : Bool) → more ≡ option_or before (if u then Some n else None)
+    → (if t then Some 0 else one_later more) ≡ option_or (if t then Some 0 else one_later before) (if u then Some (suc n) else None)
 place_later more before n true u e = refl
 place_later more before n false u e = ap one_later e ∙ later_or before n u
 
@@ -52,27 +54,34 @@ place_first true = refl
 place_first false = refl
 
 -- with one more definition
-place_append : (definitions : List Definition) (definition : Definition) (bytes : List ℕ) → place_in (definitions ++ definition ∷ []) bytes ≡ option_or (place_in definitions bytes) (if pointwise nat_eq definition.label.bytes bytes then Some (length definitions) else None)
+place_append : (definitions : List Definition) (definition : Definition) (bytes : List ℕ)
+    → place_in (definitions ++ definition ∷ []) bytes ≡ option_or (place_in definitions bytes) (if pointwise nat_eq definition.label.bytes bytes then Some (length definitions) else None)
 place_append [] definition bytes = place_first (pointwise nat_eq definition.label.bytes bytes)
 place_append (d ∷ definitions) definition bytes =
-    place_later (place_in (definitions ++ definition ∷ []) bytes) (place_in definitions bytes) (length definitions) (pointwise nat_eq d.label.bytes bytes) (pointwise nat_eq definition.label.bytes bytes) (place_append definitions definition bytes)
+    place_later (place_in (definitions ++ definition ∷ []) bytes) (place_in definitions bytes) (length definitions) (pointwise nat_eq d.label.bytes bytes)
+    (pointwise nat_eq definition.label.bytes bytes) (place_append definitions definition bytes)
 
 or_none : (place : Option ℕ) → option_or place None ≡ place
 or_none None = refl
 or_none (Some place) = refl
 
 -- a label that has no place yet is put at the next one
-pub places_put : (definitions : List Definition) (definition : Definition) (places places' : HashMap (List ℕ) ℕ (BuildHasherDefault FoldHasher)) (place : ℕ) → ArePlaces definitions places → get (pointwise nat_eq) places definition.label.bytes ≡ None → place ≡ length definitions → Updates (pointwise nat_eq) places places' definition.label.bytes (Some place) → ArePlaces (definitions ++ definition ∷ []) places'
-places_put definitions definition places places' place are none last updates = λ bytes. updates.0 bytes ∙ ap (λ (n : ℕ). cond (pointwise nat_eq definition.label.bytes bytes) (Some n) (get (pointwise nat_eq) places bytes)) last ∙ by_test bytes (pointwise nat_eq definition.label.bytes bytes) refl ∙ sym (place_append definitions definition bytes)
+pub places_put : (definitions : List Definition) (definition : Definition) (places places' : HashMap (List ℕ) ℕ (BuildHasherDefault FoldHasher)) (place : ℕ) → ArePlaces definitions places
+    → get (pointwise nat_eq) places definition.label.bytes ≡ None → place ≡ length definitions → Updates (pointwise nat_eq) places places' definition.label.bytes (Some place) → ArePlaces (definitions ++ definition ∷ []) places'
+places_put definitions definition places places' place are none last updates = λ bytes. updates.0 bytes ∙ ap
+    (λ (n : ℕ). cond (pointwise nat_eq definition.label.bytes bytes) (Some n) (get (pointwise nat_eq) places bytes)) last ∙ by_test bytes (pointwise nat_eq definition.label.bytes bytes) refl ∙ sym
+    (place_append definitions definition bytes)
   where
-    by_test : (bytes : List ℕ) (t : Bool) → t ≡ pointwise nat_eq definition.label.bytes bytes → cond t (Some (length definitions)) (get (pointwise nat_eq) places bytes) ≡ option_or (place_in definitions bytes) (if t then Some (length definitions) else None)
+    by_test : (bytes : List ℕ) (t : Bool) → t ≡ pointwise nat_eq definition.label.bytes bytes → cond t (Some (length definitions)) (get (pointwise nat_eq) places bytes) ≡ option_or
+        (place_in definitions bytes) (if t then Some (length definitions) else None)
     by_test bytes true e =
         let absent : place_in definitions bytes ≡ None = subst (λ (l : List ℕ). place_in definitions l ≡ None) (same_text definition.label.bytes bytes e) (sym (are definition.label.bytes) ∙ none) in
         ap (λ (o : Option ℕ). option_or o (Some (length definitions))) (sym absent)
     by_test bytes false e = are bytes ∙ sym (or_none (place_in definitions bytes))
 
 -- a label that has a place keeps it
-pub places_kept : (definitions : List Definition) (definition : Definition) (places : HashMap (List ℕ) ℕ (BuildHasherDefault FoldHasher)) → ArePlaces definitions places → is_some (get (pointwise nat_eq) places definition.label.bytes) ≡ true → ArePlaces (definitions ++ definition ∷ []) places
+pub places_kept : (definitions : List Definition) (definition : Definition) (places : HashMap (List ℕ) ℕ (BuildHasherDefault FoldHasher)) → ArePlaces definitions places
+    → is_some (get (pointwise nat_eq) places definition.label.bytes) ≡ true → ArePlaces (definitions ++ definition ∷ []) places
 places_kept definitions definition places are some = λ bytes. are bytes ∙ by_test bytes (pointwise nat_eq definition.label.bytes bytes) refl ∙ sym (place_append definitions definition bytes)
   where
     or_some : (place : Option ℕ) (n : ℕ) → is_some place ≡ true → place ≡ option_or place (Some n)
@@ -91,7 +100,8 @@ none_found definitions label none = found_at definitions label ∙ ap (λ (o : O
 pub some_found : (definitions : List Definition) (label : Label) (place : ℕ) → place_in definitions label.bytes ≡ Some place → found definitions label ≡ slice_get definitions place
 some_found definitions label place there = found_at definitions label ∙ ap (λ (o : Option ℕ). o >>= slice_get definitions) there
 
-pub same_places : (definitions definitions' : List Definition) (places places' : HashMap (List ℕ) ℕ (BuildHasherDefault FoldHasher)) → definitions ≡ definitions' → places ≡ places' → ArePlaces definitions places → ArePlaces definitions' places'
+pub same_places : (definitions definitions' : List Definition) (places places' : HashMap (List ℕ) ℕ (BuildHasherDefault FoldHasher)) → definitions ≡ definitions' → places ≡ places'
+    → ArePlaces definitions places → ArePlaces definitions' places'
 same_places definitions definitions' places places' e f h = subst (λ (m : HashMap (List ℕ) ℕ (BuildHasherDefault FoldHasher)). ArePlaces definitions' m) f (subst (λ (l : List Definition). ArePlaces l places) e h)
 
 pub is_none : {A : Type 0} (o : Option A) → false ≡ is_some o → o ≡ None

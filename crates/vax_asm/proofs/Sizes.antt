@@ -134,7 +134,7 @@ by_place : (labels : List Definition) (from : ℕ) (row : Row) (place : ℕ) (wr
 by_place labels from row place written bytes true e = by_branch labels from row place written bytes (is_branch (slot_in row place).access) e
 by_place labels from row place written bytes false e = absent_long row place written bytes e
 
-operand_long : (labels : List Definition) (from : ℕ) (row : Row) (place : ℕ) (written : Written) (bytes : List ℕ) → operand_bytes labels from row place written ≡ Some bytes → length bytes ≡ operand_size row place written
+pub operand_long : (labels : List Definition) (from : ℕ) (row : Row) (place : ℕ) (written : Written) (bytes : List ℕ) → operand_bytes labels from row place written ≡ Some bytes → length bytes ≡ operand_size row place written
 unfolding operand_bytes
 operand_long labels from row place written bytes e = by_place labels from row place written bytes (nat_lt place row.count) e
 
@@ -185,7 +185,7 @@ statement_long labels with_bss at (statements.Bss number) bytes e =
     ap length (sym (some_same _ _ p.1))
 statement_long labels with_bss at (statements.Instruction sentence) bytes e = sentence_long labels at sentence bytes e
 
-optional_long : (labels : List Definition) (with_bss : Bool) (at : ℕ) (statement : Option Statement) (bytes : List ℕ) → optional_bytes labels with_bss at statement ≡ Some bytes → length bytes ≡ optional_size statement
+pub optional_long : (labels : List Definition) (with_bss : Bool) (at : ℕ) (statement : Option Statement) (bytes : List ℕ) → optional_bytes labels with_bss at statement ≡ Some bytes → length bytes ≡ optional_size statement
 optional_long labels with_bss at None bytes e = ap length (sym (some_same _ _ e))
 optional_long labels with_bss at (Some statement) bytes e = statement_long labels with_bss at statement bytes e
 

@@ -9,3 +9,4 @@ pub mod Places
 pub mod Showing
 pub mod Lines
 pub mod Program
+pub mod Reasons

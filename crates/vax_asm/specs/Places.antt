@@ -7,6 +7,7 @@ use Rattle.std.specs.declared.hash.BuildHasherDefault.{BuildHasherDefault}
 use Rattle.vax_asm.specs.Mnemonics.{same_text}
 use Rattle.vax_asm.specs.declared.syntax.Definition.{Definition}
 
+-- the same place, where one more definition stands before it
 abbrev pub one_later : Option ℕ → Option ℕ
 one_later None = None
 one_later (Some place) = Some (place + 1)
@@ -20,6 +21,7 @@ place_in (definition ∷ definitions) bytes = if same_text definition.label.byte
 abbrev pub ArePlaces : List Definition → HashMap (List ℕ) ℕ (BuildHasherDefault FoldHasher) → Type 0
 ArePlaces definitions places = (bytes : List ℕ) → get (pointwise nat_eq) places bytes ≡ place_in definitions bytes
 
+-- the definitions of a table, where there is one
 abbrev pub defined_in : Option (List Definition) → List Definition
 defined_in None = []
 defined_in (Some definitions) = definitions

@@ -18,6 +18,10 @@ is_word_byte byte = is_label_start byte || is_in_range 48 57 byte
 abbrev pub padded : List ℕ → List ℕ
 padded word = word ++ drop (length word) (replicate 16 0)
 
+-- the bytes of a label without the zeros
+abbrev pub label_name : List ℕ → List ℕ
+label_name bytes = front_of is_word_byte bytes
+
 abbrev pub label_of_word : List ℕ → List ℕ → Text Label
 label_of_word [] rest = None
 label_of_word (first ∷ more) rest =

@@ -1,5 +1,7 @@
 // What the calls answer.
 
+use crate::syntax::Label;
+
 /// What a line is encoded as.
 #[derive(Clone, Copy, Debug, PartialEq, Eq)]
 pub enum Encoded {
@@ -38,4 +40,39 @@ pub enum Assembled {
     Is(Program),
     /// The number of its lowest bad line, counted from 1.
     BadLine(u32),
+}
+
+/// Why a line of a source is bad.
+#[derive(Clone, Copy, Debug, PartialEq, Eq)]
+pub enum Reason {
+    /// It is the last one, and no line feed ends it.
+    NoLineFeed,
+    /// It stands behind 4,096 lines.
+    TooManyLines,
+    /// It has more than 120 bytes.
+    LineTooLong,
+    /// It is outside the grammar.
+    NotStatement,
+    /// A line above it defines its label too.
+    LabelTwice(Label),
+    /// No line among the first 4,096 defines this label, which it uses.
+    UnknownLabel(Label),
+    /// A number, or the address of a label, is outside the range of the place where it stands.
+    ValueOutOfRange,
+    /// The target is out of the reach of the branch.
+    BranchOutOfRange,
+    /// The instruction doesn't take an operand of this mode there, or the mode doesn't take this register.
+    OperandRefused,
+    /// It is a `.bss`, and so is a line above it.
+    SecondBss,
+    /// It brings the program above 65,536 bytes.
+    ProgramTooLong,
+}
+
+/// The lowest bad line of a source.
+#[derive(Clone, Copy, Debug, PartialEq, Eq)]
+pub struct BadLine {
+    /// Its number, counted from 1.
+    pub number: u32,
+    pub reason: Reason,
 }

@@ -29,7 +29,7 @@ pub fn half_of(size: u8) -> u64
 }
 
 #[tactic(auto, unfolding(crate::specs::Encoding::value_bits))]
-fn value_bits(size: u8, number: Number) -> Option<u32>
+pub fn value_bits(size: u8, number: Number) -> Option<u32>
     ensures value { result ≡ value_bits size number }
     ensures fits { IfSome result (λ bits. bits < whole_of size) }
 {
@@ -47,7 +47,7 @@ fn value_bits(size: u8, number: Number) -> Option<u32>
 }
 
 #[tactic(auto, unfolding(crate::specs::Encoding::displacement_bits))]
-fn displacement_bits(size: u8, number: Number) -> Option<u32>
+pub fn displacement_bits(size: u8, number: Number) -> Option<u32>
     ensures value { result ≡ displacement_bits size number }
     ensures fits { IfSome result (λ bits. bits < whole_of size) }
 {
@@ -153,7 +153,7 @@ fn place_bytes(labels: &Labels, place: Place) -> Option<Code>
     }
 }
 
-fn leaves_index(index: u8, base: Place) -> bool
+pub fn leaves_index(index: u8, base: Place) -> bool
     ensures { result ≡ leaves_index index base }
 {
     match base {
@@ -177,7 +177,7 @@ fn indexed_bytes(labels: &Labels, index: u8, base: Place) -> Option<Code>
     Some(code)
 }
 
-fn literal_bytes(number: Number) -> Option<Code>
+pub fn literal_bytes(number: Number) -> Option<Code>
     ensures value { result ≡ literal_bytes number }
     ensures few { IfSome result (λ code. length code ≤ 1) }
 {
@@ -221,7 +221,7 @@ fn branch_bits(size: u8, by: u32) -> Option<u32>
 }
 
 #[tactic(auto, unfolding(crate::specs::Encoding::target_bytes))]
-fn target_bytes(labels: &Labels, from: u64, slot: Slot, target: Value) -> Option<Code>
+pub fn target_bytes(labels: &Labels, from: u64, slot: Slot, target: Value) -> Option<Code>
     requires { from < 2 ^ 40 }
     ensures value { result ≡ target_bytes labels.now from slot target }
     ensures few { IfSome result (λ code. length code ≤ 4) }

@@ -1,7 +1,8 @@
 // The lines of a source.
 ghost use Rattle.std.specs.Prelude.{◌≡◌, ◌<◌, ◌≤◌, ◌∷◌, length, not, ◌==◌};
+ghost use Rattle.std.specs.Option.{option_copied};
 ghost use Rattle.vax_asm.specs.Text.{Gives, front_of};
-ghost use Rattle.vax_asm.specs.Lines.{whole_value, whole_number, directive_by, directive_of, instruction_of, statement_of, label_before, behind_label, by_label, line_by, line_of, items_in};
+ghost use Rattle.vax_asm.specs.Lines.{whole_value, whole_number, directive_by, directive_of, instruction_of, statement_of, label_before, behind_label, by_label, line_by, line_of, lines_in, item_of, items_in};
 
 use crate::numbers::number_of;
 use crate::sentences::{is_short, sentence_of};
@@ -159,15 +160,33 @@ fn line_len(text: &[u8]) -> usize
     text.len()
 }
 
-// What the first line says, and the text behind it.
-pub fn next_item(text: &[u8]) -> (Option<SourceLine>, &[u8])
+// The text of the first line, which is none where no line feed ends it, and the text behind it.
+pub fn next_line(text: &[u8]) -> (Option<&[u8]>, &[u8])
     requires { 0 < length text.now }
-    ensures item { items_in text.now ≡ result.0 ∷ items_in result.1.now }
+    ensures line { lines_in text.now ≡ option_copied result.0 ∷ lines_in result.1.now }
     ensures shorter { length result.1.now < length text.now }
 {
     let (line, rest) = text.split_at(line_len(text));
     match rest {
         [] => (None, rest),
-        [_, more @ ..] => (line_of(line), more),
+        [_, more @ ..] => (Some(line), more),
     }
+}
+
+// What a line says.
+pub fn item_of(line: Option<&[u8]>) -> Option<SourceLine>
+    ensures { result ≡ item_of (option_copied line.entry) }
+{
+    line_of(line?)
+}
+
+// What the first line says, and the text behind it.
+#[tactic(auto, using(crate::proofs::Items::item_by_line))]
+pub fn next_item(text: &[u8]) -> (Option<SourceLine>, &[u8])
+    requires { 0 < length text.now }
+    ensures item { items_in text.now ≡ result.0 ∷ items_in result.1.now }
+    ensures shorter { length result.1.now < length text.now }
+{
+    let (line, rest) = next_line(text);
+    (item_of(line), rest)
 }

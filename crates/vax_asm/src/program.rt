@@ -36,7 +36,7 @@ fn place_size(place: Place) -> u32
     }
 }
 
-fn operand_size(row: &Row, place: u8, written: Written) -> u32
+pub fn operand_size(row: &Row, place: u8, written: Written) -> u32
     ensures value { result ≡ operand_size row.now place written }
     ensures few { result ≤ 6 }
 {
@@ -63,7 +63,7 @@ fn sentence_size(sentence: &Sentence) -> u32
 }
 
 // Whether a number is 0 to a limit.
-fn is_up_to(most: u64, number: Number) -> bool
+pub fn is_up_to(most: u64, number: Number) -> bool
     ensures { result ≡ is_up_to most number }
 {
     !number.negative && number.magnitude <= most
@@ -80,7 +80,7 @@ fn space_size(number: Number) -> u32
 }
 
 #[tactic(auto, unfolding(crate::specs::Program::statement_size))]
-fn statement_size(statement: &Statement) -> u32
+pub fn statement_size(statement: &Statement) -> u32
     ensures value { result ≡ statement_size statement.now }
     ensures few { result ≤ 65536 }
 {
@@ -94,7 +94,7 @@ fn statement_size(statement: &Statement) -> u32
     }
 }
 
-fn item_size(item: &Option<SourceLine>) -> u32
+pub fn item_size(item: &Option<SourceLine>) -> u32
     ensures value { result ≡ item_size item.now }
     ensures few { result ≤ 65536 }
 {
@@ -110,7 +110,11 @@ fn item_size(item: &Option<SourceLine>) -> u32
 }
 
 // Defines the label of a line.
-fn define(labels: LabelTable, at: u32, item: &Option<SourceLine>) -> Result<LabelTable, NoMemory>
+pub fn define(
+    labels: LabelTable,
+    at: u32,
+    item: &Option<SourceLine>,
+) -> Result<LabelTable, NoMemory>
     ensures { IfOk result (λ more. more ≡ labels ++ item_definition at item.now) }
 {
     if let Some(
@@ -129,7 +133,7 @@ fn define(labels: LabelTable, at: u32, item: &Option<SourceLine>) -> Result<Labe
 }
 
 // The labels of a source.
-fn labels_of(alloc: Global, source: &[u8]) -> Result<Labels, NoMemory>
+pub fn labels_of(alloc: Global, source: &[u8]) -> Result<Labels, NoMemory>
     ensures { IfOk result (λ labels. labels ≡ labels_of source.now) }
 {
     let mut labels = LabelTable::new(alloc);
@@ -267,7 +271,7 @@ fn put_line(
 }
 
 // The first `.bss`, with one more line.
-fn bss_after(bss: Option<u32>, statement: &Option<Statement>) -> Option<u32>
+pub fn bss_after(bss: Option<u32>, statement: &Option<Statement>) -> Option<u32>
     requires { HasSmallBss true statement.now }
     ensures { result ≡ first_of bss (bss_in statement.now) }
 {

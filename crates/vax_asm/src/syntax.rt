@@ -1,5 +1,8 @@
 // What a line says.
+ghost use Rattle.std.specs.Prelude.{◌≡◌};
+ghost use Rattle.vax_asm.specs.Values.{label_name};
 
+use crate::values::split_word;
 use vax_code::Row;
 
 /// A number, as far as a range can hold it: a magnitude of 2^32 stands for each that is larger. Zero isn't negative.
@@ -13,6 +16,15 @@ pub struct Number {
 #[derive(Clone, Copy, Debug, PartialEq, Eq)]
 pub struct Label {
     pub bytes: [u8; 16],
+}
+
+impl Label {
+    /// Its bytes, without the zeros.
+    pub fn name(&self) -> &[u8]
+        ensures { result.now ≡ label_name self.now.bytes }
+    {
+        split_word(&self.bytes).0
+    }
 }
 
 /// A number, or a label, which is its address.
