@@ -1,3 +1,4 @@
 pub mod ProgramFile
 pub mod Listing
 pub mod Command
+pub mod Explaining

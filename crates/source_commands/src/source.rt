@@ -12,7 +12,7 @@ use std::alloc::Global;
 use vax_asm::{Assembled, assemble};
 
 /// How many bytes of a source are read. A good one has at most 4,096 lines of 121 bytes, which is one byte less.
-const SOURCE_BYTES: u64 = 495_617;
+pub const SOURCE_BYTES: u64 = 495_617;
 
 // The file that a source makes.
 fn file_from<'a, F: Files>(

@@ -1,5 +1,5 @@
 // What no clause says: that a command that finds memory isn't refused it, and the texts of whole outputs.
-use crate::{assemble_file, list_file};
+use crate::{assemble_file, explain_source, list_file};
 use io_edge::{Files, MemFiles, MemSink, Sink};
 use std::alloc::{AllocError, Global};
 use std::process::Abort;
@@ -107,6 +107,19 @@ fn names_what_cannot_be_assembled(rt: HostRuntime) -> Result<(), Fail> {
     assembles(&rt, alloc, "none", &[], absent, 2)?;
     let fault = b"vmrun: file fault\n".as_slice();
     assembles(&rt, alloc, "source", &[2], fault, 5)
+}
+
+#[test]
+fn tells_why_a_source_is_bad(rt: HostRuntime) -> Result<(), Fail> {
+    let alloc = rt.alloc();
+    let mut kept = files(alloc, &[])?;
+    let told = explain_source(alloc, &mut kept, "bad")?;
+    let Some(line) = told else {
+        panic!(&rt; "nothing told");
+    };
+    assert_eq!(rt; line.as_slice(), b"vmrun: line 3: unknown label m\n".as_slice());
+    assert!(rt; explain_source(alloc, &mut kept, "source")?.is_none());
+    Ok(())
 }
 
 #[test]
