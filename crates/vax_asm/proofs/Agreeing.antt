@@ -116,6 +116,7 @@ branch_agrees labels from slot (writtens.Register reg) = refl
 branch_agrees labels from slot (writtens.Immediate value) = refl
 branch_agrees labels from slot (writtens.Plain base) = refl
 branch_agrees labels from slot (writtens.Indexed index base) = refl
+branch_agrees labels from slot (writtens.Misindexed immediate) = refl
 branch_agrees labels from slot (writtens.Target target) = target_agrees labels from slot target
 
 immediate_agrees : (labels : List Definition) (slot : Slot) (value : Value) → is_none (value_reason labels slot.size value) ≡ is_some (immediate_bytes labels slot value)
@@ -133,6 +134,7 @@ specifier_agrees labels slot (writtens.Immediate value) =
     choice (is_read slot.access) (value_reason labels slot.size value) (Some reasons.OperandRefused) (immediate_bytes labels slot value) None (immediate_agrees labels slot value) refl
 specifier_agrees labels slot (writtens.Plain base) = place_agrees labels base
 specifier_agrees labels slot (writtens.Indexed index base) = indexed_agrees labels index base
+specifier_agrees labels slot (writtens.Misindexed immediate) = refl
 specifier_agrees labels slot (writtens.Target target) = refl
 
 absent_agrees : (written : Written) → is_none (absent_reason written) ≡ is_some (absent_bytes written)
@@ -142,6 +144,7 @@ absent_agrees (writtens.Register reg) = refl
 absent_agrees (writtens.Immediate value) = refl
 absent_agrees (writtens.Plain base) = refl
 absent_agrees (writtens.Indexed index base) = refl
+absent_agrees (writtens.Misindexed immediate) = refl
 absent_agrees (writtens.Target target) = refl
 
 two_choices : (t u : Bool) (a b d : Option Reason) (o p q : Option (List ℕ)) → is_none a ≡ is_some o → is_none b ≡ is_some p → is_none d ≡ is_some q

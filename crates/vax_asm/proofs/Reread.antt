@@ -9,7 +9,7 @@ use Rattle.std.proofs.lemmas.Bool.Decides.{nat_tests}
 use Rattle.vax_asm.specs.Text.{◌>>=◌, after, front_of, behind}
 use Rattle.vax_asm.specs.Numbers.{is_digit, AreDigits, numeral_of, numeral_at, magnitude_at, signed, signed_at, number_at}
 use Rattle.vax_asm.specs.Values.{value_number_at, value_at}
-use Rattle.vax_asm.specs.Operands.{second_digit, register_number_at, register_at, in_parentheses_at, incremented, deferred_at, decremented_at, increment_deferred_at, absolute_at, displacement_at, displaced_at, pointer_at, place_at, index_at, indexed, addressed_at, literal_at, immediate_at, plain_register_at, specifier_at, target_at, operand_at}
+use Rattle.vax_asm.specs.Operands.{second_digit, register_number_at, register_at, in_parentheses_at, incremented, deferred_at, decremented_at, increment_deferred_at, absolute_at, displacement_at, displaced_at, pointer_at, place_at, index_at, indexed, addressed_at, literal_at, immediate_at, plain_register_at, specifier_at, target_at, operand_at, unaddressed}
 use Rattle.vax_asm.specs.Showing.{hexadecimal_digit, hexadecimal, sign_text, number_text, value_text, register_text, parenthesised_text, star_text, displacement_text, place_text, written_text}
 use Rattle.vax_asm.specs.declared.syntax.Number.{Number}
 use Rattle.vax_asm.specs.declared.syntax.Value.{Value}
@@ -296,26 +296,37 @@ indexed_read index place rest small good =
     ap (λ (o : Option (Place × List ℕ)). o >>= λ p. indexed p.0 p.1) (place_read place (91 ∷ ((register_text index ++ codes "]") ++ rest)) good (refl, refl)) ∙
     index_read index place rest small
 
-literal_read : (number : Number) (rest : List ℕ) → GoodNumber number → Stops rest → specifier_at (36 ∷ (number_text number ++ rest)) ≡ Some (writtens.Literal number, rest)
+not_misindexed : (immediate : Bool) (written : Written) (rest : List ℕ) → Ends rest → unaddressed immediate written rest ≡ Some (written, rest)
+not_misindexed immediate written [] h = refl
+not_misindexed immediate written (byte ∷ rest) h = subst (λ (b : ℕ). unaddressed immediate written (b ∷ rest) ≡ Some (written, b ∷ rest)) (sym h) refl
+
+literal_read : (number : Number) (rest : List ℕ) → GoodNumber number → Ends rest → specifier_at (36 ∷ (number_text number ++ rest)) ≡ Some (writtens.Literal number, rest)
 unfolding specifier_at literal_at
-literal_read number rest good stops = ap (λ (o : Option (Number × List ℕ)). o >>= λ n. Some (writtens.Literal n.0, n.1)) (number_read number rest good stops)
+literal_read number rest good ends =
+    ap (λ (o : Option (Number × List ℕ)). o >>= λ n. unaddressed false (writtens.Literal n.0) n.1) (number_read number rest good (ends_stops rest ends)) ∙
+    not_misindexed false (writtens.Literal number) rest ends
 
-plain_register_read : (reg : ℕ) (rest : List ℕ) → reg < 15 → Stops rest → specifier_at (register_text reg ++ rest) ≡ Some (writtens.Register reg, rest)
+plain_register_read : (reg : ℕ) (rest : List ℕ) → reg < 15 → Ends rest → specifier_at (register_text reg ++ rest) ≡ Some (writtens.Register reg, rest)
 unfolding specifier_at plain_register_at register_text
-plain_register_read reg rest small stops = ap (λ (o : Option (ℕ × List ℕ)). o >>= λ r. Some (writtens.Register r.0, r.1)) (register_read reg rest (omega arith) stops)
+plain_register_read reg rest small ends =
+    ap (λ (o : Option (ℕ × List ℕ)). o >>= λ r. unaddressed false (writtens.Register r.0) r.1) (register_read reg rest (omega arith) (ends_stops rest ends)) ∙
+    not_misindexed false (writtens.Register reg) rest ends
 
-immediate_read : (value : Value) (rest : List ℕ) → GoodValue value → Stops rest → specifier_at (105 ∷ 94 ∷ 36 ∷ (value_text value ++ rest)) ≡ Some (writtens.Immediate value, rest)
+immediate_read : (value : Value) (rest : List ℕ) → GoodValue value → Ends rest → specifier_at (105 ∷ 94 ∷ 36 ∷ (value_text value ++ rest)) ≡ Some (writtens.Immediate value, rest)
 unfolding specifier_at immediate_at after
-immediate_read value rest good stops = ap (λ (o : Option (Value × List ℕ)). o >>= λ v. Some (writtens.Immediate v.0, v.1)) (value_read value rest good stops)
+immediate_read value rest good ends =
+    ap (λ (o : Option (Value × List ℕ)). o >>= λ v. unaddressed true (writtens.Immediate v.0) v.1) (value_read value rest good (ends_stops rest ends)) ∙
+    not_misindexed true (writtens.Immediate value) rest ends
 
 specifier_read : (written : Written) (rest : List ℕ) → GoodSpecifier written → Ends rest → specifier_at (written_text written ++ rest) ≡ Some (written, rest)
 unfolding written_text
 specifier_read writtens.Absent rest good ends = absurd good
-specifier_read (writtens.Literal number) rest good ends = literal_read number rest good (ends_stops rest ends)
-specifier_read (writtens.Register reg) rest good ends = plain_register_read reg rest good (ends_stops rest ends)
-specifier_read (writtens.Immediate value) rest good ends = immediate_read value rest good (ends_stops rest ends)
+specifier_read (writtens.Literal number) rest good ends = literal_read number rest good ends
+specifier_read (writtens.Register reg) rest good ends = plain_register_read reg rest good ends
+specifier_read (writtens.Immediate value) rest good ends = immediate_read value rest good ends
 specifier_read (writtens.Plain place) rest good ends = plain_read place rest good ends
 specifier_read (writtens.Indexed index base) rest good ends = indexed_read index base rest good.0 good.1
+specifier_read (writtens.Misindexed immediate) rest good ends = absurd good
 specifier_read (writtens.Target target) rest good ends = absurd good
 
 branch_read : (written : Written) (rest : List ℕ) → GoodTarget written → Ends rest → target_at (written_text written ++ rest) ≡ Some (written, rest)
@@ -326,6 +337,7 @@ branch_read (writtens.Register reg) rest good ends = absurd good
 branch_read (writtens.Immediate value) rest good ends = absurd good
 branch_read (writtens.Plain place) rest good ends = absurd good
 branch_read (writtens.Indexed index base) rest good ends = absurd good
+branch_read (writtens.Misindexed immediate) rest good ends = absurd good
 branch_read (writtens.Target target) rest good ends = ap (λ (o : Option (Value × List ℕ)). o >>= λ v. Some (writtens.Target v.0, v.1)) (value_read target rest good (ends_stops rest ends))
 
 pub operand_read : (branch : Bool) (written : Written) (rest : List ℕ) → GoodOperand branch written → Ends rest → operand_at branch (written_text written ++ rest) ≡ Some (written, rest)

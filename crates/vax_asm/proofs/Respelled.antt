@@ -52,6 +52,7 @@ GoodSpecifier (writtens.Register reg) = reg < 15
 GoodSpecifier (writtens.Immediate value) = GoodValue value
 GoodSpecifier (writtens.Plain place) = GoodPlace place
 GoodSpecifier (writtens.Indexed index base) = (index < 15) × GoodPlace base
+GoodSpecifier (writtens.Misindexed immediate) = ⊥
 GoodSpecifier (writtens.Target target) = ⊥
 
 abbrev pub GoodTarget : Written → Type 0

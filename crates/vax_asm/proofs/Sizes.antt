@@ -105,6 +105,7 @@ specifier_long labels row place (writtens.Register reg) bytes e = plain_long 5 r
 specifier_long labels row place (writtens.Immediate value) bytes e = immediate_long labels (slot_in row place) value bytes (slot_sized row place) e
 specifier_long labels row place (writtens.Plain base) bytes e = place_long labels base bytes e
 specifier_long labels row place (writtens.Indexed index base) bytes e = indexed_long labels index base bytes e
+specifier_long labels row place (writtens.Misindexed immediate) bytes e = absurd (cc)
 specifier_long labels row place (writtens.Target target) bytes e = absurd (cc)
 
 branch_long : (labels : List Definition) (from : ℕ) (row : Row) (place : ℕ) (written : Written) (bytes : List ℕ) → branch_bytes labels from (slot_in row place) written ≡ Some bytes → length bytes ≡ operand_size row place written
@@ -115,6 +116,7 @@ branch_long labels from row place (writtens.Register reg) bytes e = absurd (cc)
 branch_long labels from row place (writtens.Immediate value) bytes e = absurd (cc)
 branch_long labels from row place (writtens.Plain base) bytes e = absurd (cc)
 branch_long labels from row place (writtens.Indexed index base) bytes e = absurd (cc)
+branch_long labels from row place (writtens.Misindexed immediate) bytes e = absurd (cc)
 branch_long labels from row place (writtens.Target target) bytes e = target_long labels from (slot_in row place) target bytes (slot_sized row place) e
 
 absent_long : (row : Row) (place : ℕ) (written : Written) (bytes : List ℕ) → absent_bytes written ≡ Some bytes → length bytes ≡ operand_size row place written
@@ -124,6 +126,7 @@ absent_long row place (writtens.Register reg) bytes e = absurd (cc)
 absent_long row place (writtens.Immediate value) bytes e = absurd (cc)
 absent_long row place (writtens.Plain base) bytes e = absurd (cc)
 absent_long row place (writtens.Indexed index base) bytes e = absurd (cc)
+absent_long row place (writtens.Misindexed immediate) bytes e = absurd (cc)
 absent_long row place (writtens.Target target) bytes e = absurd (cc)
 
 by_branch : (labels : List Definition) (from : ℕ) (row : Row) (place : ℕ) (written : Written) (bytes : List ℕ) (branch : Bool) → (if branch then branch_bytes labels from (slot_in row place) written else specifier_bytes labels (slot_in row place) written) ≡ Some bytes → length bytes ≡ operand_size row place written

@@ -305,6 +305,7 @@ spells_specifier labels from slot (writtens.Register reg) bytes sized e = spells
 spells_specifier labels from slot (writtens.Immediate value) bytes sized e = spells_immediate labels slot value bytes sized e
 spells_specifier labels from slot (writtens.Plain place) bytes sized e = spells_of_base slot (named_base labels place) bytes (spells_place labels place bytes e)
 spells_specifier labels from slot (writtens.Indexed index base) bytes sized e = spells_indexed labels index base bytes e
+spells_specifier labels from slot (writtens.Misindexed immediate) bytes sized e = absurd (cc)
 spells_specifier labels from slot (writtens.Target target) bytes sized e = absurd (cc)
 
 -- ---- branches
@@ -350,6 +351,7 @@ spells_branch labels from slot (writtens.Register reg) bytes sized e = absurd (c
 spells_branch labels from slot (writtens.Immediate value) bytes sized e = absurd (cc)
 spells_branch labels from slot (writtens.Plain place) bytes sized e = absurd (cc)
 spells_branch labels from slot (writtens.Indexed index base) bytes sized e = absurd (cc)
+spells_branch labels from slot (writtens.Misindexed immediate) bytes sized e = absurd (cc)
 spells_branch labels from slot (writtens.Target target) bytes sized e = spells_target labels from slot target bytes sized e
 
 -- ---- places of the row
@@ -361,6 +363,7 @@ spells_absent labels from slot (writtens.Register reg) bytes e = absurd (cc)
 spells_absent labels from slot (writtens.Immediate value) bytes e = absurd (cc)
 spells_absent labels from slot (writtens.Plain place) bytes e = absurd (cc)
 spells_absent labels from slot (writtens.Indexed index base) bytes e = absurd (cc)
+spells_absent labels from slot (writtens.Misindexed immediate) bytes e = absurd (cc)
 spells_absent labels from slot (writtens.Target target) bytes e = absurd (cc)
 
 spells_operand : (labels : List Definition) (from : ℕ) (slot : Slot) (branch : Bool) (written : Written) (bytes : List ℕ) → (slot.size ≡ 1) ⊎ (slot.size ≡ 2) ⊎ (slot.size ≡ 4) → (if branch then branch_bytes labels from slot written else specifier_bytes labels slot written) ≡ Some bytes → SpellsOperand branch slot (named_operand labels from slot written) bytes

@@ -139,6 +139,7 @@ specifier_bytes labels slot (writtens.Immediate value) = if is_read slot.access 
 specifier_bytes labels slot (writtens.Plain place) = place_bytes labels place
 specifier_bytes labels slot (writtens.Indexed index base) = indexed_bytes labels index base
 specifier_bytes labels slot writtens.Absent = None
+specifier_bytes labels slot (writtens.Misindexed immediate) = None
 specifier_bytes labels slot (writtens.Target target) = None
 
 abbrev pub absent_bytes : Written → Option (List ℕ)
@@ -183,6 +184,7 @@ named_operand labels from slot (writtens.Register reg) = operands.Register reg
 named_operand labels from slot (writtens.Immediate value) = operands.Immediate (or_zero (bits_of_value labels slot.size value))
 named_operand labels from slot (writtens.Plain place) = operand_of (named_base labels place)
 named_operand labels from slot (writtens.Indexed index base) = operands.Indexed index (named_base labels base)
+named_operand labels from slot (writtens.Misindexed immediate) = operands.Literal 0
 named_operand labels from slot (writtens.Target target) =
     operands.Branch (cast_signed w32 (distance (or_zero (bits_of_value labels 4 target)) (from + slot.size)))
 

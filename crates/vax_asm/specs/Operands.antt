@@ -104,9 +104,21 @@ indexed place (first ∷ rest) = if first == 91 then index_at place rest else So
 unfoldable pub addressed_at : List ℕ → Text Written
 addressed_at text = place_at text >>= λ place. indexed place.0 place.1
 
+-- `rK]`, behind the `[` of an index on an operand without an address
+unfoldable pub misindexed_at : Bool → List ℕ → Text Written
+misindexed_at immediate text = do
+  reg ← register_at text
+  rest ← after 93 reg.1
+  Some (writtens.Misindexed immediate, rest)
+
+-- an operand without an address: with an index behind it, it is still one of the grammar, but refused
+abbrev pub unaddressed : Bool → Written → List ℕ → Text Written
+unaddressed immediate written [] = Some (written, [])
+unaddressed immediate written (first ∷ rest) = if first == 91 then misindexed_at immediate rest else Some (written, first ∷ rest)
+
 -- `$N`, behind the `$`
 unfoldable pub literal_at : List ℕ → Text Written
-literal_at text = number_at text >>= λ number. Some (writtens.Literal number.0, number.1)
+literal_at text = number_at text >>= λ number. unaddressed false (writtens.Literal number.0) number.1
 
 -- `i^$X`, behind the `i`
 unfoldable pub immediate_at : List ℕ → Text Written
@@ -114,10 +126,10 @@ immediate_at text = do
   dollar ← after 94 text
   number ← after 36 dollar
   value ← value_at number
-  Some (writtens.Immediate value.0, value.1)
+  unaddressed true (writtens.Immediate value.0) value.1
 
 unfoldable pub plain_register_at : List ℕ → Text Written
-plain_register_at text = register_at text >>= λ reg. Some (writtens.Register reg.0, reg.1)
+plain_register_at text = register_at text >>= λ reg. unaddressed false (writtens.Register reg.0) reg.1
 
 -- an operand that has a specifier
 unfoldable pub specifier_at : List ℕ → Text Written

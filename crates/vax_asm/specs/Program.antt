@@ -42,6 +42,7 @@ operand_size row place (writtens.Register reg) = 1
 operand_size row place (writtens.Immediate value) = 1 + (slot_in row place).size
 operand_size row place (writtens.Plain base) = place_size base
 operand_size row place (writtens.Indexed index base) = 1 + place_size base
+operand_size row place (writtens.Misindexed immediate) = 2 + (if immediate then (slot_in row place).size else 0)
 operand_size row place (writtens.Target target) = (slot_in row place).size
 
 unfoldable pub sentence_size : Sentence → ℕ

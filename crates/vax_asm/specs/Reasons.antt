@@ -78,6 +78,7 @@ specifier_reason labels slot (writtens.Immediate value) =
 specifier_reason labels slot (writtens.Plain place) = place_reason labels place
 specifier_reason labels slot (writtens.Indexed index base) = indexed_reason labels index base
 specifier_reason labels slot writtens.Absent = Some reasons.OperandRefused
+specifier_reason labels slot (writtens.Misindexed immediate) = Some reasons.OperandRefused
 specifier_reason labels slot (writtens.Target target) = Some reasons.OperandRefused
 
 abbrev pub absent_reason : Written → Option Reason

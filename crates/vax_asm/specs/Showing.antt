@@ -173,6 +173,7 @@ written_text (writtens.Register reg) = register_text reg
 written_text (writtens.Immediate value) = codes "i^$" ++ value_text value
 written_text (writtens.Plain place) = place_text place
 written_text (writtens.Indexed index base) = place_text base ++ (codes "[" ++ (register_text index ++ codes "]"))
+written_text (writtens.Misindexed immediate) = []
 written_text (writtens.Target target) = value_text target
 
 unfoldable pub row_place_text : Row → ℕ → Written → List ℕ

@@ -1,7 +1,7 @@
 // The texts of operands.
 ghost use Rattle.std.specs.Prelude.{◌≡◌, ◌⊎◌, ◌<◌, IfSome};
 ghost use Rattle.vax_asm.specs.Text.{Gives};
-ghost use Rattle.vax_asm.specs.Operands.{second_digit, register_number_at, register_at, in_parentheses_at, incremented, deferred_at, decremented_at, increment_deferred_at, absolute_at, marked_size, displacement_at, displaced_at, pointer_at, place_at, index_at, indexed, addressed_at, literal_at, immediate_at, plain_register_at, specifier_at, target_at, operand_at};
+ghost use Rattle.vax_asm.specs.Operands.{second_digit, register_number_at, register_at, in_parentheses_at, incremented, deferred_at, decremented_at, increment_deferred_at, absolute_at, marked_size, displacement_at, displaced_at, pointer_at, place_at, index_at, indexed, addressed_at, misindexed_at, unaddressed, literal_at, immediate_at, plain_register_at, specifier_at, target_at, operand_at};
 
 use crate::numbers::number_of;
 use crate::syntax::{Place, Written};
@@ -183,12 +183,31 @@ fn addressed_of(text: &[u8]) -> Option<(Written, &[u8])>
     indexed_of(place, rest)
 }
 
+#[tactic(auto, unfolding(crate::specs::Operands::misindexed_at))]
+fn misindexed_of(immediate: bool, text: &[u8]) -> Option<(Written, &[u8])>
+    ensures { Gives (λ x. (x.0, x.1.now)) result (misindexed_at immediate text.now) }
+{
+    let (_, rest) = register_of(text)?;
+    let rest = after(b']', rest)?;
+    Some((Written::Misindexed { immediate }, rest))
+}
+
+// An operand without an address; no instruction takes it with an index behind it.
+fn unaddressed_of(immediate: bool, written: Written, text: &[u8]) -> Option<(Written, &[u8])>
+    ensures { Gives (λ x. (x.0, x.1.now)) result (unaddressed immediate written text.now) }
+{
+    match text {
+        [b'[', rest @ ..] => misindexed_of(immediate, rest),
+        _ => Some((written, text)),
+    }
+}
+
 #[tactic(auto, unfolding(crate::specs::Operands::literal_at))]
 fn literal_of(text: &[u8]) -> Option<(Written, &[u8])>
     ensures { Gives (λ x. (x.0, x.1.now)) result (literal_at text.now) }
 {
     let (number, rest) = number_of(text)?;
-    Some((Written::Literal(number), rest))
+    unaddressed_of(false, Written::Literal(number), rest)
 }
 
 #[tactic(auto, unfolding(crate::specs::Operands::immediate_at))]
@@ -198,7 +217,7 @@ fn immediate_of(text: &[u8]) -> Option<(Written, &[u8])>
     let dollar = after(b'^', text)?;
     let number = after(b'$', dollar)?;
     let (value, rest) = value_of(number)?;
-    Some((Written::Immediate(value), rest))
+    unaddressed_of(true, Written::Immediate(value), rest)
 }
 
 #[tactic(auto, unfolding(crate::specs::Operands::plain_register_at))]
@@ -206,7 +225,7 @@ fn plain_register_of(text: &[u8]) -> Option<(Written, &[u8])>
     ensures { Gives (λ x. (x.0, x.1.now)) result (plain_register_at text.now) }
 {
     let (reg, rest) = register_of(text)?;
-    Some((Written::Register(reg), rest))
+    unaddressed_of(false, Written::Register(reg), rest)
 }
 
 #[tactic(auto, unfolding(crate::specs::Operands::specifier_at))]

@@ -46,6 +46,8 @@ pub fn operand_size(row: &Row, place: u8, written: Written) -> u32
         Written::Immediate(_) => 1 + u32::from(row.slot(place).size),
         Written::Plain(base) => place_size(base),
         Written::Indexed { base, .. } => 1 + place_size(base),
+        Written::Misindexed { immediate: true } => 2 + u32::from(row.slot(place).size),
+        Written::Misindexed { immediate: false } => 2,
         Written::Target(_) => u32::from(row.slot(place).size),
     }
 }

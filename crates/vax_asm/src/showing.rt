@@ -127,7 +127,7 @@ fn push_written(line: &mut Line, written: Written)
     ensures few { length line.new ≤ length line.old + 24 }
 {
     match written {
-        Written::Absent => {}
+        Written::Absent | Written::Misindexed { .. } => {}
         Written::Literal(number) => {
             line.push(b'$');
             push_number(line, number);

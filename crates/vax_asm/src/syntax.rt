@@ -70,6 +70,8 @@ pub enum Written {
     Plain(Place),
     /// A place, and `[rK]` behind it.
     Indexed { index: u8, base: Place },
+    /// `[rK]` behind a literal, a register or an immediate, which has no address to add to: no instruction takes it.
+    Misindexed { immediate: bool },
     /// `X`, the target of a branch
     Target(Value),
 }

@@ -19,11 +19,15 @@ fn shown(rt: &impl Abort, bytes: &[u8], at: u32, wanted: &[u8]) {
     encoded(rt, wanted, at, &bytes[..size as usize]);
 }
 
-fn bad(rt: &impl Abort, alloc: Global, source: &[u8], wanted: u32) {
+fn bad(rt: &impl Abort, alloc: Global, source: &[u8], number: u32, reason: Reason) {
     let Ok(Assembled::BadLine(line)) = assemble(alloc, source) else {
         panic!(rt; "good");
     };
-    assert_eq!(rt; line, wanted);
+    assert_eq!(rt; line, number);
+    let Ok(Some(told)) = explain(alloc, source) else {
+        panic!(rt; "nothing told");
+    };
+    assert_eq!(rt; told, BadLine { number, reason });
 }
 
 fn is_example(rt: &impl Abort, alloc: Global, example: &Example) {
@@ -67,13 +71,40 @@ fn finds_the_lowest_bad_line(rt: HostRuntime) {
         program.bytes.as_slice(),
         b"\x00\x00\xd4\x50\x11\xfe".as_slice()
     );
-    bad(&rt, alloc, b".word 0\nclrl r0\nl: brb m\n", 3);
-    bad(&rt, alloc, b".word 0\nclrl r0\nl: brb l", 3);
-    bad(&rt, alloc, b"l:\nl:\nclrl $5\n", 2);
-    bad(&rt, alloc, b".bss 1\n.bss 2\n", 2);
-    bad(&rt, alloc, b".space 65536\n.byte 0\n", 2);
-    bad(&rt, alloc, b"nop\nmovl $64,r0\n", 2);
-    bad(&rt, alloc, b"l: .space 127\nbrb l\n", 2);
+    assert!(rt; matches!(explain(alloc, b"l: brb l\n"), Ok(None)));
+    let m = Label {
+        bytes: *b"m\0\0\0\0\0\0\0\0\0\0\0\0\0\0\0",
+    };
+    for (source, number, reason) in [
+        (
+            b"clrl r0\nl: brb m\n".as_slice(),
+            2,
+            Reason::UnknownLabel(m),
+        ),
+        (b"m:\nm:\nclrl $5\n".as_slice(), 2, Reason::LabelTwice(m)),
+        (b"nop\nl: brb l".as_slice(), 2, Reason::NoLineFeed),
+        (b"nop\nmovl 5,r1\n".as_slice(), 2, Reason::NotStatement),
+        (b"nop\nmovl $64,r0\n".as_slice(), 2, Reason::ValueOutOfRange),
+        (
+            b"l: .space 127\nbrb l\n".as_slice(),
+            2,
+            Reason::BranchOutOfRange,
+        ),
+        (b"nop\nclrl $5\n".as_slice(), 2, Reason::OperandRefused),
+        (
+            b"brb m\nm: clrl r1[r2]\n".as_slice(),
+            2,
+            Reason::OperandRefused,
+        ),
+        (b".bss 1\n.bss 2\n".as_slice(), 2, Reason::SecondBss),
+        (
+            b".space 65536\n.byte 0\n".as_slice(),
+            2,
+            Reason::ProgramTooLong,
+        ),
+    ] {
+        bad(&rt, alloc, source, number, reason);
+    }
 }
 
 #[test]
