@@ -1,2 +1,3 @@
 pub mod Obeying
 pub mod Complete
+pub mod Explaining

@@ -1,7 +1,7 @@
 // The commands that judge a transcript, assemble a source and list an image.
 use super::images::paged;
 use super::{WRITTEN_BY_HI, check, check_endings, files_of};
-use crate::vmrun;
+use crate::{explain, vmrun};
 use io_edge::{MemSink, SureSwap};
 use std::test::Fail;
 
@@ -67,6 +67,23 @@ fn names_the_bad_line_of_a_source(rt: HostRuntime) -> Result<(), Fail> {
     let source = ".word 0\nclrl r0\nl: brb m\n";
     let image = Vec::new(rt.alloc());
     check(&rt, "as s", source, image, "vmrun: bad source line 3\n", 17)
+}
+
+#[test]
+fn tells_why_a_source_is_bad(rt: HostRuntime) -> Result<(), Fail> {
+    let alloc = rt.alloc();
+    let source = ".word 0\nclrl r0\nl: brb m\n";
+    let mut files = files_of(alloc, "as s", source, Vec::new(alloc), &[])?;
+    let words = ["as", "s"];
+    let Some(line) = explain(alloc, words.as_slice(), &mut files, 17)? else {
+        panic!(&rt; "nothing told");
+    };
+    assert_eq!(rt;
+        line.as_slice(),
+        b"vmrun: line 3: unknown label m\n".as_slice()
+    );
+    assert!(rt; explain(alloc, words.as_slice(), &mut files, 0)?.is_none());
+    Ok(())
 }
 
 #[test]
