@@ -1,12 +1,12 @@
 //! The program: it hands the words, the current folder, its two swap files and standard output to the
-//! call `vmrun`, and ends with its status.
+//! call `vmrun`, writes what `explain` tells beside to standard error, and ends with the status.
 #![tactic(auto)]
 
 use io_edge::{DirFiles, FileSwap, OutSink, Sink};
 use std::env;
-use std::io::ErrorKind;
+use std::io::{ErrorKind, Write};
 use std::process::ExitCode;
-use vm_run::vmrun;
+use vm_run::{explain, vmrun};
 
 // The blocks of each swap device.
 const SWAP_BLOCKS: u32 = 65_536;
@@ -51,5 +51,8 @@ fn main(rt: HostRuntime) -> ExitCode {
         &mut one,
         &mut sink,
     );
+    if let Ok(Some(text)) = explain(alloc, list.as_slice(), &mut files, status) {
+        let _ = rt.stderr().write_all(text.as_slice());
+    }
     ExitCode::from(status)
 }
