@@ -117,7 +117,10 @@ fn tells_why_a_source_is_bad(rt: HostRuntime) -> Result<(), Fail> {
     let Some(line) = told else {
         panic!(&rt; "nothing told");
     };
-    assert_eq!(rt; line.as_slice(), b"vmrun: line 3: unknown label m\n".as_slice());
+    assert_eq!(rt;
+        line.as_slice(),
+        b"vmrun: line 3: unknown label m\n".as_slice()
+    );
     assert!(rt; explain_source(alloc, &mut kept, "source")?.is_none());
     Ok(())
 }
