@@ -1,13 +1,13 @@
 -- The marked references of a history, in order, are the stack of pages.
-use Rattle.std.proofs.Common.{◌≡◌, ℕ, zero, suc, ◌+◌, ◌-◌, ◌<◌, ◌≤◌, Bool, true, false, cond, eqb, ltb, List, [], ◌∷◌, length, get_or, set, take, replicate, Option, Some, None, refl, sym, ap, ◌∙◌, subst, arith, inl, inr}
+use Rattle.std.proofs.Common.{◌≡◌, ℕ, zero, suc, ◌+◌, ◌-◌, ◌<◌, ◌≤◌, Bool, true, false, cond, eqb, ltb, List, [], ◌∷◌, ◌++◌, length, get_or, set, take, replicate, Option, Some, None, refl, sym, ap, ◌∙◌, subst, arith, inl, inr}
 use Rattle.std.specs.Prelude.{if◌then◌else◌}
 use Rattle.std.specs.Option.{option_map}
-use Rattle.std.proofs.lemmas.Bool.{cases_Bool, cond-true, cond-false, eqb-false, lt-ltb, le-ltb}
-use Rattle.std.proofs.lemmas.List.{get_or-set_other, get_or_default, length-set, take_all}
+use Rattle.std.proofs.lemmas.Bool.{cases_Bool, cases_lt, cond-true, cond-false, eqb-false, lt-ltb, le-ltb}
+use Rattle.std.proofs.lemmas.List.{get_or-set_other, get_or_default, get_or_append_left, get_or-append_right, length-set, take_all}
 use Rattle.vm_facts.specs.Lists.{without_first}
 use Rattle.stack_dist.specs.Tree.{total}
-use Rattle.stack_dist.specs.Recency.{stack, place_in, marks, unmarked, marks_before, gaps, gapped, filled_before, padded, hits_within, counted}
-use Rattle.stack_dist.proofs.LruLaws.{place_here, place_later, place_below, page_at, suc_of, choose, ltb_suc, hit_counted, depths_counted, total-take-set, total-take-more, get-le-total, hits_within-le, after, after_more}
+use Rattle.stack_dist.specs.Recency.{after, moved_by, AreLastPlaces, stack, place_in, marks, unmarked, marks_before, gaps, gapped, filled_before, padded, hits_within, counted}
+use Rattle.stack_dist.proofs.LruLaws.{place_here, place_later, place_below, page_at, suc_of, choose, ltb_suc, hit_counted, depths_counted, total-take-set, total-take-more, get-le-total, hits_within-le, after_more}
 
 -- ---- a page as often as its mark says
 
@@ -270,9 +270,6 @@ get_or-padded zero xs k m e = let same : m ≡ k = omega arith in ap (λ (i : �
 get_or-padded (suc n) xs k zero e = absurd (omega arith)
 get_or-padded (suc n) xs k (suc m) e = get_or-padded n xs k m (omega arith)
 
-abbrev pub moved_by : ℕ → Option ℕ → Option ℕ
-moved_by n o = option_map (λ k. n + k) o
-
 -- ---- one more reference
 
 -- what the pass over the references keeps: the places below `place` are free
@@ -374,6 +371,10 @@ gapped-padded n None xs = refl
 gapped-padded n (Some k) xs =
     ap (λ (v : ℕ). set (padded n xs) (n + k) (v + 1)) (get_or-padded n xs k (n + k) refl) ∙ set-padded n xs k (n + k) (get_or xs k 0 + 1) refl
 
+found : (n : ℕ) (b : Bool) (o : Option ℕ) → cond b (Some n) (moved_by (suc n) o) ≡ moved_by n (cond b (Some 0) (option_map suc o))
+found n true o = let e : n ≡ n + 0 = omega arith in ap (λ (t : ℕ). Some t) e
+found n false o = moved_on n o
+
 follows_more : (history : List ℕ) (last last' : ℕ → Option ℕ) (place n page : ℕ) (tree hits : List ℕ) → Follows history last place tree hits → place ≡ suc n
     → ((q : ℕ) → last' q ≡ cond (eqb page q) (Some n) (last q))
     → Follows (page ∷ history) last' n (gapped (last page) tree) (counted hits (filled_before place (last page) tree))
@@ -382,7 +383,7 @@ follows_more history last last' place n page tree hits f is put = record {
   places = λ q.
       put q ∙
       ap (λ (o : Option ℕ). cond (eqb page q) (Some n) o) (f.places q ∙ ap (λ (m : ℕ). moved_by m (place_in q history)) is) ∙
-      found (eqb page q) (place_in q history);
+      found n (eqb page q) (place_in q history);
   gaps_are =
       ap (λ (o : Option ℕ). gapped o tree) (f.places page) ∙
       ap (λ (t : List ℕ). gapped (moved_by place (place_in page history)) t) f.gaps_are ∙
@@ -396,10 +397,42 @@ follows_more history last last' place n page tree hits f is put = record {
       ap (λ (o : Option ℕ). total (take m (counted hits o))) (depth_found history last place page tree hits f) ∙
       hit_counted m page history hits f.depths (f.counts m);
 }
-  where
-    found : (b : Bool) (o : Option ℕ) → cond b (Some n) (moved_by (suc n) o) ≡ moved_by n (cond b (Some 0) (option_map suc o))
-    found true o = let e : n ≡ n + 0 = omega arith in ap (λ (t : ℕ). Some t) e
-    found false o = moved_on n o
+
+-- where the last reference to a page is, by the history
+abbrev pub last_of : ℕ → List ℕ → ℕ → Option ℕ
+last_of place history q = moved_by place (place_in q history)
+
+pub last_is : (refs : List ℕ) (end i place : ℕ) (last items : List (Option ℕ)) → items ≡ last → AreLastPlaces refs end (length refs) last → i < length refs
+    → place + i ≡ end → get_or items i None ≡ last_of place (after (take i refs) []) (get_or refs i 0)
+last_is refs end i place last items same are lt at =
+    let here : end - i ≡ place = omega arith in
+    ap (λ (xs : List (Option ℕ)). get_or xs i None) same ∙ are i lt ∙
+    ap (λ (m : ℕ). moved_by m (place_in (get_or refs i 0) (after (take i refs) []))) here
+
+-- the places of last references, one reference later
+pub places_next : (refs : List ℕ) (i place q : ℕ) → i < length refs → 0 < place
+    → moved_by (place - 1) (place_in q (after (take (i + 1) refs) []))
+    ≡ cond (eqb (get_or refs i 0) q) (Some (place - 1)) (moved_by place (place_in q (after (take i refs) [])))
+unfolding place_in
+places_next refs i place q lt some =
+    let is : suc (place - 1) ≡ place = omega arith in
+    ap (λ (h : List ℕ). moved_by (place - 1) (place_in q h)) (after_more refs i 0 lt) ∙
+    sym (found (place - 1) (eqb (get_or refs i 0) q) (place_in q (after (take i refs) []))) ∙
+    ap (λ (m : ℕ). cond (eqb (get_or refs i 0) q) (Some (place - 1)) (moved_by m (place_in q (after (take i refs) [])))) is
+
+pub last_place_more : (refs : List ℕ) (end i : ℕ) (last : List (Option ℕ)) (o : Option ℕ) (place : ℕ) → length last ≡ i → place + i ≡ end
+    → AreLastPlaces refs end i last → o ≡ moved_by place (place_in (get_or refs i 0) (after (take i refs) [])) → AreLastPlaces refs end (i + 1) (last ++ o ∷ [])
+last_place_more refs end i last o place len at so_far is k lt = elim (cases_lt k i) [
+  | inl before ↦ get_or_append_left last (o ∷ []) None k (omega arith) ∙ so_far k before
+  | inr now ↦
+      let same : k ≡ i = omega arith in
+      let here : i - i ≡ 0 = omega arith in
+      let place_is : place ≡ end - i = omega arith in
+      ap (λ (j : ℕ). get_or (last ++ o ∷ []) j None) same ∙ get_or-append_right last (o ∷ []) i i None len (omega arith) ∙
+      ap (λ (j : ℕ). get_or (o ∷ []) j None) here ∙ is ∙
+      ap (λ (m : ℕ). moved_by m (place_in (get_or refs i 0) (after (take i refs) []))) place_is ∙
+      ap (λ (j : ℕ). moved_by (end - j) (place_in (get_or refs j 0) (after (take j refs) []))) (sym same)
+]
 
 -- a step of the pass, by what each call says
 pub follows_step : (refs : List ℕ) (i : ℕ) (last last' : ℕ → Option ℕ) (place : ℕ) (tree tree' hits hits' : List ℕ) (before depth : Option ℕ)

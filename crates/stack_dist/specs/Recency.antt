@@ -1,5 +1,5 @@
 -- Pages by how recently they were referenced. A history is a list of references, the latest first.
-use Rattle.std.specs.Prelude.{ℕ, zero, suc, ◌+◌, ◌-◌, ◌==◌, if◌then◌else◌, List, [], ◌∷◌, ◌++◌, take, slice_set, slice_index_or, Option, Some, None}
+use Rattle.std.specs.Prelude.{◌≡◌, ℕ, zero, suc, ◌+◌, ◌-◌, ◌<◌, ◌==◌, if◌then◌else◌, List, [], ◌∷◌, ◌++◌, take, slice_set, slice_index_or, Option, Some, None}
 use Rattle.std.specs.Option.{option_map}
 use Rattle.stack_dist.specs.Lru.{holds}
 use Rattle.vm_facts.specs.Lists.{without_first}
@@ -9,6 +9,11 @@ use Rattle.stack_dist.specs.Tree.{total}
 unfoldable pub stack : List ℕ → List ℕ
 stack [] = []
 stack (page ∷ history) = page ∷ without_first page (stack history)
+
+-- the history after more references
+unfoldable pub after : List ℕ → List ℕ → List ℕ
+after [] history = history
+after (page ∷ refs) history = after refs (page ∷ history)
 
 -- the first place of a page in a list, where it is there
 unfoldable pub place_in : ℕ → List ℕ → Option ℕ
@@ -59,3 +64,11 @@ counted hits (Some depth) = slice_set hits depth (slice_index_or hits depth 0 + 
 abbrev pub marks_before : Option ℕ → List ℕ → Option ℕ
 marks_before None marks = None
 marks_before (Some at) marks = Some (total (take at marks))
+
+-- a place in a list, behind so many others
+abbrev pub moved_by : ℕ → Option ℕ → Option ℕ
+moved_by n o = option_map (λ k. n + k) o
+
+-- for each of so many references the place of the last one before it to its page, where places fall from an end
+abbrev pub AreLastPlaces : List ℕ → ℕ → ℕ → List (Option ℕ) → Type 0
+AreLastPlaces refs end n last = (i : ℕ) → i < n → slice_index_or last i None ≡ moved_by (end - i) (place_in (slice_index_or refs i 0) (after (take i refs) []))

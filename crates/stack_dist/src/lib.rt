@@ -2,7 +2,7 @@
 //!
 //! Pages in the order of their last references, the latest first, are a stack. LRU with room for n pages
 //! holds the top n of it, so a reference is a fault at exactly those sizes that do not reach as deep as its
-//! page lies. One pass over the references counts the depths, in O(log n) for each; sums of these counts
+//! page lies. Two passes over the references count the depths, in O(log n) for each; sums of these counts
 //! are the faults at each size.
 #![tactic(auto)]
 
