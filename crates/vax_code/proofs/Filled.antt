@@ -2,7 +2,7 @@
 use Rattle.std.proofs.Common.{◌≡◌, ℕ, ◌==◌, ◌||◌, Bool, true, false, not, cond, List, Option, Some, None, Ok, Err, nat_lt, refl, sym, ap, ◌∙◌}
 use Rattle.std.proofs.lemmas.Bool.{eqb-true}
 use Rattle.vax_code.specs.declared.reader.Fault.TheVariants.{Short, Bad}
-use Rattle.vax_code.specs.declared.reader.Spelled.{Spelled}
+use Rattle.vax_code.specs.Operands.{Spelled}
 use Rattle.vax_code.specs.declared.instr.Instr.{Instr}
 use Rattle.vax_code.specs.declared.instr.Operand.TheVariants as operands
 use Rattle.vax_code.specs.declared.instr.Decoded.TheVariants as decodings

@@ -3,7 +3,7 @@ use Rattle.std.proofs.Common.{◌≡◌, ◌∙◌, ℕ, ◌+◌, ◌-◌, ◌*�
 use Rattle.std.specs.Prelude.{◌==◌}
 use Rattle.std.proofs.lemmas.Bool.{ne_eqb, lt-ltb, le-ltb, and_left, not-true}
 use Rattle.std.proofs.lemmas.Bool.Decides.{nat_tests}
-use Rattle.vax_code.specs.declared.reader.Spelled.{Spelled}
+use Rattle.vax_code.specs.Operands.{Spelled}
 use Rattle.vax_code.specs.declared.instr.Instr.{Instr}
 use Rattle.vax_code.specs.declared.instr.Operand.{Operand}
 use Rattle.vax_code.specs.declared.instr.Operand.TheVariants as operands

@@ -8,7 +8,7 @@ use Rattle.vax_code.specs.declared.reader.Fault.{Fault}
 use Rattle.vax_code.specs.declared.reader.Fault.TheVariants.{Short, Bad}
 use Rattle.vax_code.specs.Reading.{Read, ◌>>=◌, byte_at, number_at, counted}
 use Rattle.vax_code.specs.Operands.{width_of}
-use Rattle.vax_code.specs.declared.reader.Spelled.{Spelled}
+use Rattle.vax_code.specs.Operands.{Spelled}
 use Rattle.vax_code.specs.declared.instr.Operand.{Operand}
 use Rattle.vax_code.specs.Grammar.{AreOctets}
 

@@ -2,7 +2,7 @@
 use Rattle.std.proofs.Common.{◌≡◌, ℕ, ◌+◌, ◌*◌, ◌/◌, ◌%◌, Bool, true, false, cond, List, [], Ok, refl, arith, nat_lt, ◌&&◌, ◌||◌, Option, Some, None}
 use Rattle.std.specs.Prelude.{◌==◌}
 use Rattle.std.specs.Int.{cast_signed}
-use Rattle.vax_code.specs.declared.reader.Spelled.{Spelled}
+use Rattle.vax_code.specs.Operands.{Spelled}
 use Rattle.vax_code.specs.declared.instr.Operand.TheVariants as operands
 use Rattle.vax_code.specs.declared.instr.Base.TheVariants as bases
 use Rattle.vax_code.specs.declared.table.Slot.{Slot}

@@ -6,10 +6,14 @@ use Rattle.vax_code.specs.declared.instr.Operand.TheVariants as operands
 use Rattle.vax_code.specs.declared.instr.Base.{Base}
 use Rattle.vax_code.specs.declared.instr.Base.TheVariants as bases
 use Rattle.vax_code.specs.declared.instr.Instr.{Instr}
-use Rattle.vax_code.specs.declared.reader.Spelled.{Spelled}
 use Rattle.vax_code.specs.declared.table.Row.{Row}
 use Rattle.vax_code.specs.declared.table.Access.{Access}
 use Rattle.vax_code.specs.declared.table.Access.TheVariants as accesses
+
+-- an operand as its bytes spell it, and how many bytes these are
+pub record Spelled : Type 0 where
+  pub operand : Operand
+  pub size : ℕ
 
 -- the width of a number of 1, 2 or 4 bytes
 abbrev pub width_of : ℕ → Width

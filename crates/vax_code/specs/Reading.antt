@@ -10,7 +10,7 @@ use Rattle.vax_code.specs.declared.instr.Instr.{Instr}
 use Rattle.vax_code.specs.declared.instr.Decoded.{Decoded}
 use Rattle.vax_code.specs.declared.instr.Decoded.TheVariants as decodings
 use Rattle.vax_code.specs.declared.reader.Fault.{Fault}
-use Rattle.vax_code.specs.declared.reader.Spelled.{Spelled}
+use Rattle.vax_code.specs.Operands.{Spelled}
 use Rattle.vax_code.specs.declared.reader.Fault.TheVariants.{Short, Bad}
 use Rattle.vax_code.specs.declared.table.Row.{Row}
 use Rattle.vax_code.specs.declared.table.Slot.{Slot}
@@ -125,6 +125,12 @@ decoding_of (Err Bad) = decodings.Reserved
 -- what the bytes begin with
 unfoldable pub decoded : List ℕ → Decoded
 decoded bytes = decoding_of (instruction_at bytes)
+
+-- what was read of an instruction is what bytes decode to
+abbrev pub Decodes : Result (Unit {0}) Fault → Instr → Decoded → Type 0
+Decodes (Ok done) instr found = found ≡ decodings.Is instr
+Decodes (Err Short) instr found = found ≡ decodings.NeedMore
+Decodes (Err Bad) instr found = found ≡ decodings.Reserved
 
 -- reading took at most so many bytes
 pub record Took (bytes rest : List ℕ) (most : ℕ) : Type 0 where
