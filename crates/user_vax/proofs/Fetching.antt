@@ -1,7 +1,5 @@
--- Fetching an instruction whose bytes are read ahead.
-use Rattle.std.proofs.Common.{◌≡◌, ◌∙◌, ℕ, suc, ◌+◌, ◌-◌, ◌<◌, ◌≤◌, List, [], ◌∷◌, ◌++◌, length, take, set, Result, Ok, Err, refl, ap, sym, subst, arith, append-nil, append_assoc}
-use Rattle.std.proofs.lemmas.Grind.{common_steps}
-use Rattle.std.proofs.lemmas.List.{take_more_set}
+-- Fetching an instruction by the bytes that are there.
+use Rattle.std.proofs.Common.{◌≡◌, ◌∙◌, ℕ, zero, suc, ◌+◌, ◌-◌, ◌<◌, ◌^◌, List, [], ◌∷◌, ◌++◌, length, Result, Ok, Err, refl, ap, sym, arith, append-nil, append_assoc, length-append}
 use Rattle.vm_facts.specs.Answers.{Answers}
 use Rattle.vm_facts.specs.declared.memory.ByteRead.{ByteRead}
 use Rattle.vm_facts.specs.declared.memory.ByteRead.TheVariants as bytes
@@ -16,37 +14,42 @@ use Rattle.user_vax.specs.Signals.{sigill}
 use Rattle.user_vax.specs.Program.{Program, Gives, Reads, run, after_read}
 use Rattle.user_vax.specs.Operands.{past}
 use Rattle.user_vax.specs.Instruction.{fetch, on_decoded}
-use Rattle.user_vax.specs.Fetching.{settled, HoldsFrom}
+use Rattle.user_vax.specs.Fetching.{settled}
+use Rattle.user_vax.specs.Code.{held_from, reads_from, with_byte}
+use Rattle.user_vax.proofs.Runs.{then}
+use Rattle.user_vax.proofs.Numbers.{past-past}
 
--- ---- one byte
+past-none : (address : ℕ) → address < 2 ^ 32 → past address 0 ≡ address
+past-none address small = grind arith
 
-read_by : (answer : ByteRead) (address byte : ℕ) → after_read answer address (λ b. let read : Result ℕ Refused = Ok b in read) ≡ Ok byte → answer ≡ bytes.Is byte
-read_by (bytes.Is b) address byte h = cc
-read_by bytes.Miss address byte h = absurd cc
-read_by bytes.Below address byte h = absurd cc
-read_by bytes.Outside address byte h = absurd cc
+-- ---- reading bytes
 
-refused_by : {A : Type 0} (answer : ByteRead) (address : ℕ) (refused : Refused) (next : ℕ → Result A Refused) → after_read answer address (λ b. let read : Result ℕ Refused = Ok b in read) ≡ Err refused → after_read answer address next ≡ Err refused
-refused_by (bytes.Is b) address refused next h = absurd cc
-refused_by bytes.Miss address refused next h = cc
-refused_by bytes.Below address refused next h = cc
-refused_by bytes.Outside address refused next h = cc
+abbrev one : ℕ → Result ℕ Refused
+one byte = Ok byte
 
-holds_none : (memory : Answers) (pc : ℕ) → HoldsFrom memory pc []
-holds_none memory pc i below = absurd (omega arith)
+reads_by : (answer : ByteRead) (address : ℕ) (next : Result (Unit {0}) Refused) → after_read answer address (λ byte. next) ≡ then (after_read answer address one) (λ _. next)
+reads_by (bytes.Is byte) address next = refl
+reads_by bytes.Miss address next = refl
+reads_by bytes.Below address next = refl
+reads_by bytes.Outside address next = refl
 
-holds_one : (memory : Answers) (pc byte : ℕ) (list : List ℕ) → HoldsFrom memory pc list → memory.read (past pc (length list)) ≡ bytes.Is byte → HoldsFrom memory pc (list ++ byte ∷ [])
-holds_one memory pc byte list h here i below = grind (arith, common_steps, h i, here)
+-- what is left to read after so many bytes of 20
+abbrev left_from : Answers → ℕ → ℕ → Result (Unit {0}) Refused
+left_from memory pc count = run memory (reads_from (past pc count) (20 - count))
 
--- one byte more of those that are held
-pub holds_more : (memory : Answers) (pc count byte address : ℕ) (list : List ℕ) → count < length list → HoldsFrom memory pc (take count list) → address ≡ past pc count → run memory (Reads address (λ b. Gives b)) ≡ Ok byte → HoldsFrom memory pc (take (count + 1) (set list count byte))
-holds_more memory pc count byte address list within h at read =
-    let long : length (take count list) ≡ count = grind (arith, common_steps) in
-    let here : memory.read (past pc count) ≡ bytes.Is byte = subst (λ (n : ℕ). memory.read n ≡ bytes.Is byte) at (read_by (memory.read address) address byte read) in
-    subst (λ (l : List ℕ). HoldsFrom memory pc l) (sym (take_more_set list count byte within))
-    (holds_one memory pc byte (take count list) h (subst (λ (n : ℕ). memory.read (past pc n) ≡ bytes.Is byte) (sym long) here))
+-- reading so many bytes is reading one, and then the others
+pub reads_more : (memory : Answers) (pc count : ℕ) → count < 20 → left_from memory pc count ≡ then (run memory (Reads (past pc count) (λ b. Gives b))) (λ _. left_from memory pc (count + 1))
+unfolding reads_from
+reads_more memory pc count below =
+    let left : 20 - count ≡ suc (19 - count) = omega arith in
+    let next : 20 - (count + 1) ≡ 19 - count = omega arith in
+    let rest : Result (Unit {0}) Refused = run memory (reads_from (past (past pc count) 1) (19 - count)) in
+    rw (left, next, ← past-past pc count) (reads_by (memory.read (past pc count)) (past pc count) rest)
 
--- ---- some bytes more
+pub reads_all : (memory : Answers) (pc : ℕ) → pc < 2 ^ 32 → run memory (reads_from (past pc 0) 20) ≡ run memory (reads_from pc 20)
+reads_all memory pc small = ap (λ (address : ℕ). run memory (reads_from address 20)) (past-none pc small)
+
+-- ---- what bytes settle
 
 settles : (memory : Answers) (found : Decoded) (more : Program Instr) (next : Result Instr Refused) → run memory more ≡ next → run memory (on_decoded found more) ≡ settled found next
 settles memory (decodings.Is instr) more next h = refl
@@ -59,46 +62,84 @@ settled_on bytes more (decodings.Is instr) next e = ap (λ (d : Decoded). settle
 settled_on bytes more decodings.Reserved next e = ap (λ (d : Decoded). settled d next) (sym (decoded_stuck bytes more e))
 settled_on bytes more decodings.NeedMore next e = refl
 
-fetched_by : (memory : Answers) (pc k : ℕ) (front back : List ℕ) (next : Result Instr Refused) → HoldsFrom memory pc (front ++ back) → run memory (Reads (past pc (length (front ++ back))) (λ byte. fetch k pc ((front ++ back) ++ byte ∷ []))) ≡ next → run memory (fetch (suc (k + length back)) pc front) ≡ settled (decoded (front ++ back)) next
-unfolding fetch
-fetched_by memory pc k front [] next h e =
-    let none : front ++ [] ≡ front = append-nil front in
-    let same : k + 0 ≡ k = omega arith in
-    rw (none, same) (settles memory (decoded front) (Reads (past pc (length front)) (λ byte. fetch k pc (front ++ byte ∷ []))) next (rw none at e))
-fetched_by memory pc k front (b ∷ back) next h e =
-    let joined : (front ++ b ∷ []) ++ back ≡ front ++ b ∷ back = append_assoc front (b ∷ []) back in
-    let here : memory.read (past pc (length front)) ≡ bytes.Is b = grind (arith, common_steps, h (length front)) in
-    let rest : run memory (fetch (suc (k + length back)) pc (front ++ b ∷ [])) ≡ settled (decoded (front ++ b ∷ back)) next =
-    subst (λ (l : List ℕ). run memory (fetch (suc (k + length back)) pc (front ++ b ∷ [])) ≡ settled (decoded l) next) joined
-    (fetched_by memory pc k (front ++ b ∷ []) back next (subst (λ (l : List ℕ). HoldsFrom memory pc l) (sym joined) h)
-    (subst (λ (l : List ℕ). run memory (Reads (past pc (length l)) (λ byte. fetch k pc (l ++ byte ∷ []))) ≡ next) (sym joined) e)) in
-    let count : k + length (b ∷ back) ≡ suc (k + length back) = grind (arith, common_steps) in
-    let reads : run memory (Reads (past pc (length front)) (λ byte. fetch (k + length (b ∷ back)) pc (front ++ byte ∷ []))) ≡ settled (decoded (front ++ b ∷ back)) next =
-    rw (count, here) rest in
-    settles memory (decoded front) (Reads (past pc (length front)) (λ byte. fetch (k + length (b ∷ back)) pc (front ++ byte ∷ []))) _ reads
-    ∙ settled_on front (b ∷ back) (decoded front) next refl
+-- no byte more settles the same
+settled_none : (front : List ℕ) (next : Result Instr Refused) → settled (decoded front) next ≡ settled (decoded (front ++ [])) next
+settled_none front next = ap (λ (list : List ℕ). settled (decoded list) next) (sym (append-nil front))
 
--- what comes of reading one byte more and fetching on
-abbrev read_on : Answers → ℕ → List ℕ → Result Instr Refused
-read_on memory pc list = run memory (Reads (past pc (length list)) (λ byte. fetch (19 - length list) pc (list ++ byte ∷ [])))
+-- ---- fetching
 
-fetched : (memory : Answers) (pc : ℕ) (list : List ℕ) (next : Result Instr Refused) → length list ≤ 19 → HoldsFrom memory pc list → run memory (Reads (past pc (length list)) (λ byte. fetch (19 - length list) pc (list ++ byte ∷ []))) ≡ next → run memory (fetch 20 pc []) ≡ settled (decoded list) next
-fetched memory pc list next few h e =
-    let count : suc ((19 - length list) + length list) ≡ 20 = omega arith in
-    subst (λ (n : ℕ). run memory (fetch n pc []) ≡ settled (decoded list) next) count (fetched_by memory pc (19 - length list) [] list next h e)
+-- bytes that were read, and are no instruction
+abbrev refusing : Result (Unit {0}) Refused → Result Instr Refused
+refusing (Ok done) = Err (Signal sigill)
+refusing (Err refused) = Err refused
 
-pub fetched_is : (memory : Answers) (pc : ℕ) (list : List ℕ) (instr : Instr) → length list ≤ 19 → HoldsFrom memory pc list → decoded list ≡ decodings.Is instr → run memory (fetch 20 pc []) ≡ Ok instr
-fetched_is memory pc list instr few h e = fetched memory pc list (read_on memory pc list) few h refl ∙ ap (λ (d : Decoded). settled d (read_on memory pc list)) e
+abbrev unfetched : Answers → ℕ → ℕ → Result Instr Refused
+unfetched memory address count = refusing (run memory (reads_from address count))
 
-pub fetched_reserved : (memory : Answers) (pc : ℕ) (list : List ℕ) → length list ≤ 19 → HoldsFrom memory pc list → decoded list ≡ decodings.Reserved → run memory (fetch 20 pc []) ≡ Err (Signal sigill)
-fetched_reserved memory pc list few h e = fetched memory pc list (read_on memory pc list) few h refl ∙ ap (λ (d : Decoded). settled d (read_on memory pc list)) e
+-- where the next byte stands
+abbrev behind : ℕ → List ℕ → ℕ
+behind pc front = past pc (length front)
 
-pub fetched_refused : (memory : Answers) (pc address : ℕ) (list : List ℕ) (refused : Refused) → length list ≤ 19 → HoldsFrom memory pc list → address ≡ past pc (length list) → run memory (Reads address (λ byte. Gives byte)) ≡ Err refused → run memory (fetch 20 pc []) ≡ settled (decoded list) (Err refused)
-fetched_refused memory pc address list refused few h at e =
-    let next : ℕ → Result Instr Refused = λ byte. run memory (fetch (19 - length list) pc (list ++ byte ∷ [])) in
-    fetched memory pc list (Err refused) few h
-    (subst (λ (n : ℕ). after_read (memory.read n) n next ≡ Err refused) at (refused_by (memory.read address) address refused next e))
+abbrev longer : List ℕ → ℕ → List ℕ
+longer front byte = front ++ byte ∷ []
 
--- of all the bytes that an instruction may have
-pub fetched_whole : (memory : Answers) (pc : ℕ) (list : List ℕ) (found : Result Instr Refused) → length list ≤ 19 → HoldsFrom memory pc list → ((next : Result Instr Refused) → found ≡ settled (decoded list) next) → run memory (fetch 20 pc []) ≡ found
-fetched_whole memory pc list found few h e = fetched memory pc list (read_on memory pc list) few h refl ∙ sym (e (read_on memory pc list))
+abbrev fetching : Answers → ℕ → ℕ → List ℕ → Result Instr Refused
+fetching memory pc more front = run memory (fetch (suc more) pc front)
+
+-- what comes of it, by the bytes that are there
+abbrev comes : Answers → ℕ → ℕ → List ℕ → Result Instr Refused
+comes memory address more front = settled (decoded (front ++ held_from memory address more)) (unfetched memory address (suc more))
+
+abbrev IsFetched : Answers → ℕ → ℕ → List ℕ → Type 0
+IsFetched memory pc more front = fetching memory pc more front ≡ comes memory (behind pc front) more front
+
+-- the same, by what is answered for the next byte
+abbrev comes_by : Answers → ByteRead → ℕ → ℕ → List ℕ → Result Instr Refused
+comes_by memory answer address more front =
+    settled (decoded (front ++ with_byte answer (held_from memory (past address 1) more)))
+    (refusing (after_read answer address (λ byte. run memory (reads_from (past address 1) (suc more)))))
+
+abbrev fetching_by : Answers → ByteRead → ℕ → ℕ → List ℕ → Result Instr Refused
+fetching_by memory answer pc more front = after_read answer (behind pc front) (λ byte. fetching memory pc more (longer front byte))
+
+abbrev ill : Result Instr Refused
+ill = Err (Signal sigill)
+
+abbrev done : Result (Unit {0}) Refused
+done = Ok tt
+
+last_by : (answer : ByteRead) (address : ℕ) → after_read answer address (λ byte. ill) ≡ refusing (after_read answer address (λ byte. done))
+last_by (bytes.Is byte) address = refl
+last_by bytes.Miss address = refl
+last_by bytes.Below address = refl
+last_by bytes.Outside address = refl
+
+-- one byte more is there
+further : (memory : Answers) (pc more b : ℕ) (front : List ℕ) → IsFetched memory pc more (longer front b) → settled (decoded front) (fetching memory pc more (longer front b)) ≡ comes_by memory (bytes.Is b) (behind pc front) more front
+further memory pc more b front h =
+    let next : ℕ = past (behind pc front) 1 in
+    let long : length (longer front b) ≡ length front + 1 = length-append front (b ∷ []) in
+    let at : behind pc (longer front b) ≡ past (behind pc front) 1 = ap (past pc) long ∙ sym (past-past pc (length front)) in
+    ap (settled (decoded front))
+    (h
+    ∙ ap (λ (address : ℕ). comes memory address more (longer front b)) at
+    ∙ ap (λ (list : List ℕ). settled (decoded list) (unfetched memory next (suc more))) (append_assoc front (b ∷ []) (held_from memory next more)))
+    ∙ settled_on front (b ∷ held_from memory next more) (decoded front) (unfetched memory next (suc more)) refl
+
+fetched_by : (memory : Answers) (pc more : ℕ) (front : List ℕ) → IsFetched memory pc more front
+unfolding fetch held_from reads_from
+fetched_by memory pc zero front =
+    settles memory (decoded front) (Reads (behind pc front) (λ byte. fetch zero pc (longer front byte))) _ (last_by (memory.read (behind pc front)) (behind pc front))
+    ∙ settled_none front (unfetched memory (behind pc front) 1)
+fetched_by memory pc (suc more) front =
+    settles memory (decoded front) (Reads (behind pc front) (λ byte. fetch (suc more) pc (longer front byte))) _ refl
+    ∙ elim (memory.read (behind pc front)) as (λ answer. settled (decoded front) (fetching_by memory answer pc more front) ≡ comes_by memory answer (behind pc front) more front) [
+      | bytes.Is byte ↦ further memory pc more byte front (fetched_by memory pc more (longer front byte))
+      | bytes.Miss ↦ settled_none front _
+      | bytes.Below ↦ settled_none front _
+      | bytes.Outside ↦ settled_none front _
+    ]
+
+-- what is fetched, by the bytes that are there
+pub fetched : (memory : Answers) (pc : ℕ) → pc < 2 ^ 32 → run memory (fetch 20 pc []) ≡ comes memory pc 19 []
+fetched memory pc small = fetched_by memory pc 19 [] ∙ ap (λ (address : ℕ). comes memory address 19 []) (past-none pc small)

@@ -8,7 +8,7 @@ pub bytes_at-two : (size address value : ℕ) (bytes : List ℕ) → size ≡ 2 
 unfolding bytes_at
 bytes_at-two size address value bytes two is = rw (two, is) refl
 
-past-past : (address more : ℕ) → past (past address more) 1 ≡ past address (more + 1)
+pub past-past : (address more : ℕ) → past (past address more) 1 ≡ past address (more + 1)
 past-past address more = grind arith
 
 pub bytes_at-four : (size address value : ℕ) (bytes : List ℕ) → size ≡ 4 → bytes ≡ little_bytes 4 value ++ [] → (record { address = address; byte = get_or bytes 0 0 } ∷ record { address = past address 1; byte = get_or bytes 1 0 } ∷ record { address = past address 2; byte = get_or bytes 2 0 } ∷ record { address = past address 3; byte = get_or bytes 3 0 } ∷ []) ≡ bytes_at size address value

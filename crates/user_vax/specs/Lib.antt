@@ -8,5 +8,6 @@ pub mod Frames
 pub mod Computation
 pub mod Instruction
 pub mod Fetching
+pub mod Code
 pub mod Outcomes
 pub mod ArrayMemory

@@ -1,14 +1,25 @@
 -- What the code comes to before it writes, and the effect that it stands for.
-use Rattle.std.specs.Prelude.{◌≡◌, ℕ, ◌≤◌, ◌⊎◌, List, take, None, Result, Ok, Err}
+use Rattle.std.specs.Prelude.{◌≡◌, ℕ, ◌≤◌, ◌⊎◌, Bool, true, false, List, [], take, Option, Some, None, Result, Ok, Err}
 use Rattle.std.specs.List.{All, flat_map}
 use Rattle.vm_facts.specs.Answers.{Answers, ByteWrite}
 use Rattle.vm_facts.specs.declared.regs.Regs.{Regs}
+use Rattle.vax_code.specs.declared.instr.Instr.{Instr}
+use Rattle.vax_code.specs.declared.table.Name.{Name}
+use Rattle.vax_code.specs.declared.table.Name.TheVariants as names
 use Rattle.user_vax.specs.declared.operand.Evaluated.{Evaluated}
 use Rattle.user_vax.specs.declared.refused.Refused.{Refused}
+use Rattle.user_vax.specs.declared.ready.Ready.{Ready}
+use Rattle.user_vax.specs.declared.stepping.Stepped.{Stepped}
 use Rattle.user_vax.specs.declared.outcome.Write.{Write}
 use Rattle.user_vax.specs.declared.outcome.Outcome.{Outcome}
+use Rattle.user_vax.specs.declared.pushes.Pushes.{Pushes}
+use Rattle.user_vax.specs.Operands.{IsPlace}
 use Rattle.user_vax.specs.Effects.{Effect, bytes_at}
-use Rattle.user_vax.specs.Instruction.{MayAll}
+use Rattle.user_vax.specs.Computation.{computation}
+use Rattle.user_vax.specs.Program.{Program, ◌>>=◌, run}
+use Rattle.user_vax.specs.Instruction.{MayAll, tested_effect, answer_of}
+
+-- ---- Numbers that go to memory.
 
 -- 1, 2 or 4 bytes
 abbrev pub IsSize : ℕ → Type 0
@@ -27,23 +38,67 @@ pub record IsReady (memory : Answers) (write : Write) : Type 0 where
   pub size : IsSize write.size
   pub may : MayAll memory (bytes_of write)
 
--- at most 18 numbers, of 1, 2 or 4 bytes
-pub record IsOutcome (outcome : Outcome) : Type 0 where
-  pub few : outcome.count ≤ 18
-  pub sizes : All (λ write. IsSize write.size) (take outcome.count outcome.writes)
+-- ---- The outcome of an instruction that calls no procedure.
 
--- the numbers that an outcome writes
-abbrev pub writes_in : Outcome → List Write
-writes_in outcome = take outcome.count outcome.writes
+-- the bytes that it writes
+abbrev pub bytes_in : Option Write → List ByteWrite
+bytes_in None = []
+bytes_in (Some write) = bytes_of write
 
 -- the effect that an outcome stands for
 abbrev pub effect_of : Outcome → Effect
-effect_of outcome = record { regs = outcome.regs; writes = all_bytes (writes_in outcome); call = outcome.call }
+effect_of outcome = record { regs = outcome.regs; writes = bytes_in outcome.write; call = outcome.call }
+
+abbrev pub HasSize : Option Write → Type 0
+HasSize None = Unit {0}
+HasSize (Some write) = IsSize write.size
+
+-- the number, if there is one, may be written
+abbrev pub IsOneReady : Answers → Option Write → Type 0
+IsOneReady memory None = Unit {0}
+IsOneReady memory (Some write) = IsReady memory write
+
+-- what it writes is a number of 1, 2 or 4 bytes
+abbrev pub IsOutcome : Outcome → Type 0
+IsOutcome outcome = HasSize outcome.write
 
 -- nothing is written yet, and nothing called
 pub record IsFresh (outcome : Outcome) : Type 0 where
-  pub unwritten : outcome.count ≡ 0
+  pub unwritten : outcome.write ≡ None
   pub uncalled : outcome.call ≡ None
+
+-- ---- What a procedure call pushes.
+
+-- the numbers that it writes
+abbrev pub writes_in : Pushes → List Write
+writes_in pushes = take pushes.count pushes.writes
+
+-- at most 18 numbers, of 1, 2 or 4 bytes
+pub record ArePushes (pushes : Pushes) : Type 0 where
+  pub few : pushes.count ≤ 18
+  pub sizes : All (λ write. IsSize write.size) (writes_in pushes)
+
+-- the effect so far: the registers, and all that was pushed
+abbrev pub pushing : Regs → Pushes → Effect
+pushing regs pushes = record { regs = regs; writes = all_bytes (writes_in pushes); call = None }
+
+-- ---- An instruction whose operands are evaluated.
+
+-- what is left of it
+unfoldable pub completion : Ready → Regs → Program Effect
+completion ready regs = computation ready.name regs ready.a ready.b ready.c >>= tested_effect
+
+-- its operands have places
+pub record HasPlaces (ready : Ready) : Type 0 where
+  pub first : IsPlace ready.a.place
+  pub second : IsPlace ready.b.place
+  pub third : IsPlace ready.c.place
+
+-- the two that call a procedure, and push its frame
+abbrev pub calls_procedure : Name → Bool
+calls_procedure names.Callg = true
+calls_procedure names.Calls = true
+calls_procedure _ = false
 
 -- ---- What the code came to. What it changes in place is worth something only where it isn't refused.
 
@@ -51,6 +106,11 @@ pub record IsFresh (outcome : Outcome) : Type 0 where
 abbrev pub ComesTo : Result (Unit {0}) Refused → Outcome → Result Effect Refused → Type 0
 ComesTo (Ok done) outcome wanted = wanted ≡ Ok (effect_of outcome)
 ComesTo (Err refused) outcome wanted = wanted ≡ Err refused
+
+-- an effect, by the registers and what was pushed
+abbrev pub CallsTo : Result (Unit {0}) Refused → Regs → Pushes → Result Effect Refused → Type 0
+CallsTo (Ok done) regs pushes wanted = wanted ≡ Ok (pushing regs pushes)
+CallsTo (Err refused) regs pushes wanted = wanted ≡ Err refused
 
 -- registers
 abbrev pub Leaves : Result (Unit {0}) Refused → Regs → Result Regs Refused → Type 0
@@ -62,7 +122,22 @@ abbrev pub LeavesWith : {A : Type 0} → Result A Refused → Regs → Result (R
 LeavesWith (Ok value) regs wanted = wanted ≡ Ok (regs, value)
 LeavesWith (Err refused) regs wanted = wanted ≡ Err refused
 
+-- an instruction
+abbrev pub LeavesInstr : Result (Unit {0}) Refused → Instr → Result Instr Refused → Type 0
+LeavesInstr (Ok done) instr wanted = wanted ≡ Ok instr
+LeavesInstr (Err refused) instr wanted = wanted ≡ Err refused
+
 -- registers and the three operands
-abbrev pub LeavesOperands : Result (Evaluated × Evaluated × Evaluated) Refused → Regs → Result (Regs × Evaluated × Evaluated × Evaluated) Refused → Type 0
-LeavesOperands (Ok all) regs wanted = wanted ≡ Ok (regs, all.0, all.1, all.2)
+abbrev pub LeavesOperands : Result Ready Refused → Regs → Result (Regs × Evaluated × Evaluated × Evaluated) Refused → Type 0
+LeavesOperands (Ok ready) regs wanted = wanted ≡ Ok (regs, ready.a, ready.b, ready.c)
 LeavesOperands (Err refused) regs wanted = wanted ≡ Err refused
+
+-- an instruction of which this is left, from these registers
+abbrev pub Prepares : Answers → Result Ready Refused → Regs → Result Effect Refused → Type 0
+Prepares memory (Ok ready) regs wanted = wanted ≡ run memory (completion ready regs)
+Prepares memory (Err refused) regs wanted = wanted ≡ Err refused
+
+-- what `step` answers of what the code came to
+abbrev pub stepped_by : Result Stepped Refused → Stepped
+stepped_by (Ok stepped) = stepped
+stepped_by (Err refused) = answer_of (Err refused)

@@ -1,39 +1,42 @@
-ghost use Rattle.std.specs.Prelude.{◌≡◌, ◌<◌, ◌≤◌, ◌+◌, ◌++◌, ◌∷◌, ◌*◌, ◌^◌, ℕ, List, OnOk, if◌then◌else◌};
+ghost use Rattle.std.specs.Prelude.{◌≡◌, ◌<◌, ◌≤◌, ◌+◌, ◌++◌, ◌∷◌, ◌*◌, ◌^◌, ℕ, List, true, OnOk, if◌then◌else◌};
 ghost use Rattle.user_vax.specs.Program.{run};
+ghost use Rattle.user_vax.specs.Computation.{computation};
 ghost use Rattle.user_vax.specs.Frames.{push_all, saved, state_longword, with_frame, procedure_entry, procedure_call};
-ghost use Rattle.user_vax.specs.Outcomes.{IsOutcome, ComesTo, effect_of};
+ghost use Rattle.user_vax.specs.Outcomes.{ArePushes, CallsTo, calls_procedure, pushing};
 
-use crate::outcome::Outcome;
+use crate::pushes::Pushes;
 use crate::reading::read_word;
+use crate::ready::Ready;
 use crate::refused::{Refused, SIGILL};
-use vm_facts::Memory;
+use vax_code::Name;
+use vm_facts::{Memory, Regs};
 
 /// Pushes a longword where the test holds.
 #[tactic(auto, unfolding(crate::specs::Frames::push_all))]
-fn push_if(outcome: &mut Outcome, test: bool, value: u32)
-    requires room { outcome.old.count < 18 }
-    requires sound { IsOutcome outcome.old }
-    ensures pushed { (values : List ℕ) → push_all (effect_of outcome.new) values ≡ push_all (effect_of outcome.old) (if test then value ∷ values else values) }
-    ensures sound { IsOutcome outcome.new }
-    ensures count { outcome.new.count ≤ outcome.old.count + 1 }
+fn push_if(pushes: &mut Pushes, regs: &mut Regs, test: bool, value: u32)
+    requires room { pushes.old.count < 18 }
+    requires sound { ArePushes pushes.old }
+    ensures pushed { (values : List ℕ) → push_all (pushing regs.new pushes.new) values ≡ push_all (pushing regs.old pushes.old) (if test then value ∷ values else values) }
+    ensures sound { ArePushes pushes.new }
+    ensures count { pushes.new.count ≤ pushes.old.count + 1 }
 {
     if test {
-        outcome.push(value);
+        pushes.push(regs, value);
     }
 }
 
 /// Pushes the registers that a mask names, R11 first.
 #[tactic(auto, using(crate::proofs::Saving::saved_more), unfolding(crate::specs::Frames::saved))]
-fn save(outcome: &mut Outcome, registers: &[u32; 16], mask: u32)
-    requires room { outcome.old.count ≤ 1 }
-    requires sound { IsOutcome outcome.old }
-    ensures pushed { (values : List ℕ) → push_all (effect_of outcome.new) values ≡ push_all (effect_of outcome.old) (saved 12 registers.now mask ++ values) }
-    ensures sound { IsOutcome outcome.new }
-    ensures count { outcome.new.count ≤ outcome.old.count + 12 }
+fn save(pushes: &mut Pushes, regs: &mut Regs, registers: &[u32; 16], mask: u32)
+    requires room { pushes.old.count ≤ 1 }
+    requires sound { ArePushes pushes.old }
+    ensures pushed { (values : List ℕ) → push_all (pushing regs.new pushes.new) values ≡ push_all (pushing regs.old pushes.old) (saved 12 registers.now mask ++ values) }
+    ensures sound { ArePushes pushes.new }
+    ensures count { pushes.new.count ≤ pushes.old.count + 12 }
 {
     for done in 0..12u32 {
         let k = 11 - done;
-        push_if(outcome, (mask >> k) % 2 == 1, registers[k as usize]);
+        push_if(pushes, regs, (mask >> k) % 2 == 1, registers[k as usize]);
     }
 }
 
@@ -49,30 +52,27 @@ fn state_longword(low: u32, counted: bool, mask: u32) -> u32
 
 /// Pushes the frame of a procedure.
 #[tactic(auto, unfolding(crate::specs::Frames::with_frame, crate::specs::Frames::push_all))]
-fn push_frame(outcome: &mut Outcome, counted: bool, mask: u32)
-    requires room { outcome.old.count ≤ 1 }
-    requires sound { IsOutcome outcome.old }
+fn push_frame(pushes: &mut Pushes, regs: &mut Regs, counted: bool, mask: u32)
+    requires room { pushes.old.count ≤ 1 }
+    requires sound { ArePushes pushes.old }
     requires mask { mask < 2 ^ 12 }
-    ensures effect { effect_of outcome.new ≡ with_frame (effect_of outcome.old) counted mask }
-    ensures sound { IsOutcome outcome.new }
+    ensures effect { pushing regs.new pushes.new ≡ with_frame (pushing regs.old pushes.old) counted mask }
+    ensures sound { ArePushes pushes.new }
 {
-    let regs = outcome.regs;
-    outcome.regs.r[14] = regs.r[14] / 4 * 4;
-    save(outcome, &regs.r, mask);
-    outcome.push(regs.r[15]);
-    outcome.push(regs.r[13]);
-    outcome.push(regs.r[12]);
-    outcome.push(state_longword(regs.r[14] % 4, counted, mask));
-    outcome.push(0);
+    let r = regs.r;
+    regs.r[14] = r[14] / 4 * 4;
+    save(pushes, regs, &r, mask);
+    pushes.push(regs, r[15]);
+    pushes.push(regs, r[13]);
+    pushes.push(regs, r[12]);
+    pushes.push(regs, state_longword(r[14] % 4, counted, mask));
+    pushes.push(regs, 0);
 }
 
 /// The procedure entered, once its frame is pushed.
-fn enter_procedure(pushed: &mut Outcome, ap: u32, target: u32)
-    requires { IsOutcome pushed.old }
-    ensures effect { effect_of pushed.new ≡ procedure_entry (effect_of pushed.old) ap target }
-    ensures sound { IsOutcome pushed.new }
+fn enter_procedure(regs: &mut Regs, ap: u32, target: u32)
+    ensures { (pushes : Pushes) → pushing regs.new pushes ≡ procedure_entry (pushing regs.old pushes) ap target }
 {
-    let regs = &mut pushed.regs;
     regs.r[12] = ap;
     regs.r[13] = regs.r[14];
     regs.r[15] = target.wrapping_add(2);
@@ -84,23 +84,49 @@ fn enter_procedure(pushed: &mut Outcome, ap: u32, target: u32)
 
 /// The call of the procedure at a target, after what the instruction pushes before the frame.
 #[tactic(auto, using(crate::proofs::Runs::run_bind), unfolding(crate::specs::Frames::procedure_call))]
-pub fn call_procedure<M: Memory>(
+fn call_procedure<M: Memory>(
     memory: &M,
-    outcome: &mut Outcome,
+    pushes: &mut Pushes,
+    regs: &mut Regs,
     counted: bool,
     ap: u32,
     target: u32,
 ) -> Result<(), Refused>
-    requires room { outcome.old.count ≤ 1 }
-    requires sound { IsOutcome outcome.old }
-    ensures value { ComesTo result outcome.new (run (M.answers memory.now) (procedure_call (effect_of outcome.old) counted ap target)) }
-    ensures sound { OnOk result (IsOutcome outcome.new) }
+    requires room { pushes.old.count ≤ 1 }
+    requires sound { ArePushes pushes.old }
+    ensures value { CallsTo result regs.new pushes.new (run (M.answers memory.now) (procedure_call (pushing regs.old pushes.old) counted ap target)) }
+    ensures sound { OnOk result (ArePushes pushes.new) }
 {
     let mask = read_word(memory, target)?;
     if mask >= 0x1000 {
         return Err(Refused::Signal(SIGILL));
     }
-    push_frame(outcome, counted, mask);
-    enter_procedure(outcome, ap, target);
+    push_frame(pushes, regs, counted, mask);
+    enter_procedure(regs, ap, target);
     Ok(())
+}
+
+/// What an instruction that calls a procedure pushes, and the registers after it.
+#[tactic(auto, unfolding(crate::specs::Computation::computation))]
+pub fn call<M: Memory>(
+    memory: &M,
+    pushes: &mut Pushes,
+    regs: &mut Regs,
+    ready: &Ready,
+) -> Result<(), Refused>
+    requires calls { calls_procedure ready.now.name ≡ true }
+    requires none { pushes.old.count ≡ 0 }
+    requires sound { ArePushes pushes.old }
+    ensures value { CallsTo result regs.new pushes.new (run (M.answers memory.now) (computation ready.now.name regs.old ready.now.a ready.now.b ready.now.c)) }
+    ensures sound { OnOk result (ArePushes pushes.new) }
+{
+    match ready.name {
+        Name::Callg => call_procedure(memory, pushes, regs, false, ready.a.value, ready.b.value),
+        Name::Calls => {
+            pushes.push(regs, ready.a.value);
+            let ap = regs.r[14];
+            call_procedure(memory, pushes, regs, true, ap, ready.b.value)
+        }
+        _ => unreachable!(),
+    }
 }

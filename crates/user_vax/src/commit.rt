@@ -3,7 +3,7 @@ ghost use Rattle.std.specs.List.{All};
 ghost use Rattle.vm_facts.specs.Answers.{Answers, ByteWrite};
 ghost use Rattle.user_vax.specs.Program.{run, Gives, Tests};
 ghost use Rattle.user_vax.specs.Instruction.{write_tests};
-ghost use Rattle.user_vax.specs.Outcomes.{IsSize, IsReady, bytes_of, all_bytes};
+ghost use Rattle.user_vax.specs.Outcomes.{IsSize, HasSize, IsReady, IsOneReady, bytes_of, bytes_in, all_bytes};
 
 use crate::outcome::Write;
 use crate::refused::{Refused, SIGBUS, SIGSEGV};
@@ -27,10 +27,11 @@ fn test_byte<M: Memory>(memory: &M, address: u32) -> Result<(), Refused>
 }
 
 /// The bytes of a number may be written.
-#[tactic(auto, using(crate::proofs::Runs::run_bind), unfolding(crate::specs::Instruction::write_tests, crate::specs::Effects::bytes_at))]
+#[tactic(auto, using(crate::proofs::Runs::run_bind, crate::proofs::Writing::tested_may), unfolding(crate::specs::Instruction::write_tests, crate::specs::Effects::bytes_at))]
 fn test_write<M: Memory>(memory: &M, write: &Write) -> Result<(), Refused>
     requires { IsSize write.now.size }
-    ensures { result ≡ run (M.answers memory.now) (write_tests (bytes_of write.now)) }
+    ensures value { result ≡ run (M.answers memory.now) (write_tests (bytes_of write.now)) }
+    ensures ready { OnOk result (IsReady (M.answers memory.now) write.now) }
 {
     let address = write.address;
     match write.size {
@@ -45,6 +46,19 @@ fn test_write<M: Memory>(memory: &M, write: &Write) -> Result<(), Refused>
             test_byte(memory, address.wrapping_add(2))?;
             test_byte(memory, address.wrapping_add(3))
         }
+    }
+}
+
+/// The number, if there is one, may be written.
+#[tactic(auto, unfolding(crate::specs::Instruction::write_tests))]
+pub fn test_one<M: Memory>(memory: &M, write: &Option<Write>) -> Result<(), Refused>
+    requires { HasSize write.now }
+    ensures value { result ≡ run (M.answers memory.now) (write_tests (bytes_in write.now)) }
+    ensures ready { OnOk result (IsOneReady (M.answers memory.now) write.now) }
+{
+    match write {
+        None => Ok(()),
+        Some(write) => test_write(memory, write),
     }
 }
 
@@ -93,6 +107,16 @@ fn put_write<M: Memory>(memory: &mut M, write: &Write)
             put_byte(memory, address.wrapping_add(2), c);
             put_byte(memory, address.wrapping_add(3), d);
         }
+    }
+}
+
+/// Writes the number, if there is one.
+pub fn put_one<M: Memory>(memory: &mut M, write: &Option<Write>)
+    requires { IsOneReady (M.answers memory.old) write.now }
+    ensures { M.wrote memory.old (bytes_in write.now) memory.new }
+{
+    if let Some(write) = write {
+        put_write(memory, write);
     }
 }
 

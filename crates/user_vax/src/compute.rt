@@ -1,17 +1,17 @@
-ghost use Rattle.std.specs.Prelude.{◌≡◌, ◌^◌, ◌%◌, ◌-◌, ℕ, [], Some, OnOk};
+ghost use Rattle.std.specs.Prelude.{◌≡◌, false, ◌^◌, ◌%◌, ◌-◌, ℕ, [], Some, OnOk};
 ghost use Rattle.std.specs.Int.{w16, cast_signed};
 ghost use Rattle.vm_facts.specs.Answers.{Answers};
 ghost use Rattle.user_vax.specs.Program.{run};
 ghost use Rattle.user_vax.specs.Computation.{computation};
 ghost use Rattle.user_vax.specs.Effects.{division, complement};
 ghost use Rattle.user_vax.specs.Operands.{IsPlace};
-ghost use Rattle.user_vax.specs.Outcomes.{IsFresh, IsOutcome, effect_of, ComesTo};
+ghost use Rattle.user_vax.specs.Outcomes.{IsFresh, IsOutcome, HasPlaces, effect_of, calls_procedure, ComesTo};
 
 use crate::byte::{decrement_byte, increment_byte, low_byte, narrow, widen};
-use crate::calling::call_procedure;
-use crate::effect::{count, enter, jump_if, move_to, push, push_moved, store_result, test_to};
-use crate::operand::{Evaluated, Place};
+use crate::effect::{count, enter, jump_if, move_to, push_moved, store_result, test_to};
+use crate::operand::Place;
 use crate::outcome::Outcome;
+use crate::ready::Ready;
 use crate::refused::{Refused, SIGFPE};
 use crate::registers::{set_codes, set_move_codes, set_test_codes};
 use crate::returning::return_from_procedure;
@@ -22,22 +22,15 @@ use vm_facts::Memory;
 
 /// What an instruction computes from its operands, whose registers the outcome has.
 #[tactic(auto, unfolding(crate::specs::Computation::computation))]
-pub fn compute<M: Memory>(
-    memory: &M,
-    name: Name,
-    outcome: &mut Outcome,
-    a: Evaluated,
-    b: Evaluated,
-    c: Evaluated,
-) -> Result<(), Refused>
+pub fn compute<M: Memory>(memory: &M, outcome: &mut Outcome, ready: &Ready) -> Result<(), Refused>
     requires fresh { IsFresh outcome.old }
-    requires a { IsPlace a.place }
-    requires b { IsPlace b.place }
-    requires c { IsPlace c.place }
-    ensures value { ComesTo result outcome.new (run (M.answers memory.now) (computation name outcome.old.regs a b c)) }
+    requires places { HasPlaces ready.now }
+    requires no_frame { calls_procedure ready.now.name ≡ false }
+    ensures value { ComesTo result outcome.new (run (M.answers memory.now) (computation ready.now.name outcome.old.regs ready.now.a ready.now.b ready.now.c)) }
     ensures sound { OnOk result (IsOutcome outcome.new) }
 {
-    match name {
+    let (a, b, c) = (&ready.a, &ready.b, &ready.c);
+    match ready.name {
         Name::Nop => {},
         Name::Ret => return return_from_procedure(memory, outcome),
         Name::Rsb => return return_from_subroutine(memory, outcome),
@@ -55,74 +48,69 @@ pub fn compute<M: Memory>(
         Name::Bvs => jump_if(outcome, outcome.regs.v, a.value),
         Name::Bcc => jump_if(outcome, !outcome.regs.c, a.value),
         Name::Bcs => jump_if(outcome, outcome.regs.c, a.value),
-        Name::Movb => move_to(outcome, 1, b.place, a.value),
-        Name::Movw => move_to(outcome, 2, b.place, a.value),
+        Name::Movb => move_to(outcome, 1, &b.place, a.value),
+        Name::Movw => move_to(outcome, 2, &b.place, a.value),
         Name::Movl | Name::Movzbl | Name::Movab | Name::Moval => move_to(
-            outcome, 4, b.place, a.value,
+            outcome, 4, &b.place, a.value,
         ),
         Name::Cmpb => set_codes(&mut outcome.regs, compare(a.value, b.value, 1)),
         Name::Cmpw => set_codes(&mut outcome.regs, compare(a.value, b.value, 2)),
         Name::Cmpl => set_codes(&mut outcome.regs, compare(a.value, b.value, 4)),
-        Name::Clrb => move_to(outcome, 1, a.place, 0),
-        Name::Clrl => move_to(outcome, 4, a.place, 0),
+        Name::Clrb => move_to(outcome, 1, &a.place, 0),
+        Name::Clrl => move_to(outcome, 4, &a.place, 0),
         Name::Tstb => set_test_codes(&mut outcome.regs, 1, a.value),
         Name::Tstl => set_test_codes(&mut outcome.regs, 4, a.value),
         Name::Pushab | Name::Pushal | Name::Pushl => push_moved(outcome, a.value),
         Name::Chmk => call(outcome, a.value),
-        Name::Addl2 => store_result(outcome, 4, b.place, add(b.value, a.value)),
-        Name::Addl3 => store_result(outcome, 4, c.place, add(b.value, a.value)),
-        Name::Subl2 => store_result(outcome, 4, b.place, sub(b.value, a.value)),
-        Name::Subl3 => store_result(outcome, 4, c.place, sub(b.value, a.value)),
-        Name::Mull2 => store_result(outcome, 4, b.place, mul(b.value, a.value)),
-        Name::Mull3 => store_result(outcome, 4, c.place, mul(b.value, a.value)),
-        Name::Divl2 => return divide(outcome, b.place, b.value, a.value),
-        Name::Divl3 => return divide(outcome, c.place, b.value, a.value),
+        Name::Addl2 => store_result(outcome, 4, &b.place, add(b.value, a.value)),
+        Name::Addl3 => store_result(outcome, 4, &c.place, add(b.value, a.value)),
+        Name::Subl2 => store_result(outcome, 4, &b.place, sub(b.value, a.value)),
+        Name::Subl3 => store_result(outcome, 4, &c.place, sub(b.value, a.value)),
+        Name::Mull2 => store_result(outcome, 4, &b.place, mul(b.value, a.value)),
+        Name::Mull3 => store_result(outcome, 4, &c.place, mul(b.value, a.value)),
+        Name::Divl2 => return divide(outcome, &b.place, b.value, a.value),
+        Name::Divl3 => return divide(outcome, &c.place, b.value, a.value),
         Name::Ashl => store_result(
             outcome,
             4,
-            c.place,
+            &c.place,
             shift(b.value, low_byte(a.value).cast_signed()),
         ),
-        Name::Mnegl => store_result(outcome, 4, b.place, neg(a.value)),
-        Name::Cvtbl => test_to(outcome, b.place, widen(a.value)),
-        Name::Cvtlb => store_result(outcome, 1, b.place, narrow(a.value)),
-        Name::Bisl2 => move_to(outcome, 4, b.place, b.value | a.value),
-        Name::Bisl3 => move_to(outcome, 4, c.place, b.value | a.value),
-        Name::Bicl2 => move_to(outcome, 4, b.place, b.value & complement(a.value)),
-        Name::Bicl3 => move_to(outcome, 4, c.place, b.value & complement(a.value)),
-        Name::Xorl2 => move_to(outcome, 4, b.place, b.value ^ a.value),
-        Name::Xorl3 => move_to(outcome, 4, c.place, b.value ^ a.value),
-        Name::Mcoml => move_to(outcome, 4, b.place, complement(a.value)),
+        Name::Mnegl => store_result(outcome, 4, &b.place, neg(a.value)),
+        Name::Cvtbl => test_to(outcome, &b.place, widen(a.value)),
+        Name::Cvtlb => store_result(outcome, 1, &b.place, narrow(a.value)),
+        Name::Bisl2 => move_to(outcome, 4, &b.place, b.value | a.value),
+        Name::Bisl3 => move_to(outcome, 4, &c.place, b.value | a.value),
+        Name::Bicl2 => move_to(outcome, 4, &b.place, b.value & complement(a.value)),
+        Name::Bicl3 => move_to(outcome, 4, &c.place, b.value & complement(a.value)),
+        Name::Xorl2 => move_to(outcome, 4, &b.place, b.value ^ a.value),
+        Name::Xorl3 => move_to(outcome, 4, &c.place, b.value ^ a.value),
+        Name::Mcoml => move_to(outcome, 4, &b.place, complement(a.value)),
         Name::Bitl => set_move_codes(&mut outcome.regs, 4, a.value & b.value),
-        Name::Incb => store_result(outcome, 1, a.place, increment_byte(a.value)),
-        Name::Incl => store_result(outcome, 4, a.place, add(a.value, 1)),
-        Name::Decb => store_result(outcome, 1, a.place, decrement_byte(a.value)),
-        Name::Decl => store_result(outcome, 4, a.place, sub(a.value, 1)),
-        Name::Callg => return call_procedure(memory, outcome, false, a.value, b.value),
-        Name::Calls => {
-            push(outcome, a.value);
-            let ap = outcome.regs.r[14];
-            return call_procedure(memory, outcome, true, ap, b.value);
-        }
+        Name::Incb => store_result(outcome, 1, &a.place, increment_byte(a.value)),
+        Name::Incl => store_result(outcome, 4, &a.place, add(a.value, 1)),
+        Name::Decb => store_result(outcome, 1, &a.place, decrement_byte(a.value)),
+        Name::Decl => store_result(outcome, 4, &a.place, sub(a.value, 1)),
+        Name::Callg | Name::Calls => unreachable!(),
         Name::Blbs => jump_if(outcome, a.value % 2 == 1, b.value),
         Name::Blbc => jump_if(outcome, a.value % 2 == 0, b.value),
         Name::Aoblss => {
             let sum = add(b.value, 1);
             let test = sum.value.cast_signed() < a.value.cast_signed();
-            count(outcome, b.place, sum, test, c.value)
+            count(outcome, &b.place, sum, test, c.value)
         }
         Name::Aobleq => {
             let sum = add(b.value, 1);
             let test = sum.value.cast_signed() <= a.value.cast_signed();
-            count(outcome, b.place, sum, test, c.value)
+            count(outcome, &b.place, sum, test, c.value)
         }
         Name::Sobgeq => {
             let sum = sub(a.value, 1);
-            count(outcome, a.place, sum, !sum.n, b.value)
+            count(outcome, &a.place, sum, !sum.n, b.value)
         }
         Name::Sobgtr => {
             let sum = sub(a.value, 1);
-            count(outcome, a.place, sum, !(sum.n || sum.z), b.value)
+            count(outcome, &a.place, sum, !(sum.n || sum.z), b.value)
         }
     }
     Ok(())
@@ -137,10 +125,10 @@ fn complement(word: u32) -> u32
 
 /// A quotient to a place.
 #[tactic(auto, unfolding(crate::specs::Effects::division))]
-fn divide(outcome: &mut Outcome, place: Place, dividend: u32, divisor: u32) -> Result<(), Refused>
+fn divide(outcome: &mut Outcome, place: &Place, dividend: u32, divisor: u32) -> Result<(), Refused>
     requires fresh { IsFresh outcome.old }
-    requires place { IsPlace place }
-    ensures value { (memory : Answers) → ComesTo result outcome.new (run memory (division outcome.old.regs place dividend divisor)) }
+    requires place { IsPlace place.now }
+    ensures value { (memory : Answers) → ComesTo result outcome.new (run memory (division outcome.old.regs place.now dividend divisor)) }
     ensures sound { OnOk result (IsOutcome outcome.new) }
 {
     match div(dividend, divisor) {

@@ -10,26 +10,26 @@ use vax_alu::Sum;
 
 /// The low bytes of a word to a place.
 #[tactic(auto, unfolding(crate::specs::Effects::store_effect))]
-pub fn store(outcome: &mut Outcome, size: u8, place: Place, value: u32)
+pub fn store(outcome: &mut Outcome, size: u8, place: &Place, value: u32)
     requires fresh { IsFresh outcome.old }
-    requires place { IsPlace place }
+    requires place { IsPlace place.now }
     requires size { IsSize size }
-    ensures effect { effect_of outcome.new ≡ store_effect outcome.old.regs size place value }
+    ensures effect { effect_of outcome.new ≡ store_effect outcome.old.regs size place.now value }
     ensures sound { IsOutcome outcome.new }
 {
     match place {
         Place::Nowhere => {}
         Place::Register(reg) => {
-            let old = outcome.regs.r[reg as usize];
+            let old = outcome.regs.r[*reg as usize];
             let new = match size {
                 1 => old / 0x100 * 0x100 + value % 0x100,
                 2 => old / 0x1_0000 * 0x1_0000 + value % 0x1_0000,
                 _ => value,
             };
-            set_register(&mut outcome.regs, reg, new);
+            set_register(&mut outcome.regs, *reg, new);
         }
         Place::Memory(address) => outcome.write(Write {
-            address,
+            address: *address,
             value,
             size,
         }),
@@ -37,11 +37,11 @@ pub fn store(outcome: &mut Outcome, size: u8, place: Place, value: u32)
 }
 
 /// A moved number to a place.
-pub fn move_to(outcome: &mut Outcome, size: u8, place: Place, value: u32)
+pub fn move_to(outcome: &mut Outcome, size: u8, place: &Place, value: u32)
     requires fresh { IsFresh outcome.old }
-    requires place { IsPlace place }
+    requires place { IsPlace place.now }
     requires size { IsSize size }
-    ensures effect { effect_of outcome.new ≡ move_effect outcome.old.regs size place value }
+    ensures effect { effect_of outcome.new ≡ move_effect outcome.old.regs size place.now value }
     ensures sound { IsOutcome outcome.new }
 {
     set_move_codes(&mut outcome.regs, size, value);
@@ -49,10 +49,10 @@ pub fn move_to(outcome: &mut Outcome, size: u8, place: Place, value: u32)
 }
 
 /// A number with the codes of a test to a place.
-pub fn test_to(outcome: &mut Outcome, place: Place, value: u32)
+pub fn test_to(outcome: &mut Outcome, place: &Place, value: u32)
     requires fresh { IsFresh outcome.old }
-    requires place { IsPlace place }
-    ensures effect { effect_of outcome.new ≡ store_effect (with_test_codes outcome.old.regs 4 value) 4 place value }
+    requires place { IsPlace place.now }
+    ensures effect { effect_of outcome.new ≡ store_effect (with_test_codes outcome.old.regs 4 value) 4 place.now value }
     ensures sound { IsOutcome outcome.new }
 {
     set_test_codes(&mut outcome.regs, 4, value);
@@ -60,11 +60,11 @@ pub fn test_to(outcome: &mut Outcome, place: Place, value: u32)
 }
 
 /// A result with its codes to a place.
-pub fn store_result(outcome: &mut Outcome, size: u8, place: Place, sum: Sum)
+pub fn store_result(outcome: &mut Outcome, size: u8, place: &Place, sum: Sum)
     requires fresh { IsFresh outcome.old }
-    requires place { IsPlace place }
+    requires place { IsPlace place.now }
     requires size { IsSize size }
-    ensures effect { effect_of outcome.new ≡ result_effect outcome.old.regs size place sum }
+    ensures effect { effect_of outcome.new ≡ result_effect outcome.old.regs size place.now sum }
     ensures sound { IsOutcome outcome.new }
 {
     set_codes(&mut outcome.regs, sum);
@@ -83,10 +83,10 @@ pub fn jump_if(outcome: &mut Outcome, test: bool, target: u32)
 }
 
 /// The next index with its codes, but for C, to its place, and a jump where the test holds.
-pub fn count(outcome: &mut Outcome, place: Place, sum: Sum, test: bool, target: u32)
+pub fn count(outcome: &mut Outcome, place: &Place, sum: Sum, test: bool, target: u32)
     requires fresh { IsFresh outcome.old }
-    requires place { IsPlace place }
-    ensures effect { effect_of outcome.new ≡ count_effect outcome.old.regs place sum test target }
+    requires place { IsPlace place.now }
+    ensures effect { effect_of outcome.new ≡ count_effect outcome.old.regs place.now sum test target }
     ensures sound { IsOutcome outcome.new }
 {
     outcome.regs.n = sum.n;
@@ -114,7 +114,6 @@ pub fn push(outcome: &mut Outcome, value: u32)
     requires { IsFresh outcome.old }
     ensures effect { effect_of outcome.new ≡ push_effect outcome.old.regs value }
     ensures sound { IsOutcome outcome.new }
-    ensures one { outcome.new.count ≡ 1 }
 {
     outcome.push(value);
 }

@@ -6,13 +6,16 @@
 
 mod byte;
 mod calling;
+mod code;
 mod commit;
 mod compute;
 mod effect;
 mod laws;
 mod operand;
 mod outcome;
+mod pushes;
 mod reading;
+mod ready;
 mod refused;
 mod registers;
 mod returning;

@@ -28,32 +28,32 @@ pub struct Evaluated {
 
 /// The address that a base names; the registers become those after it.
 #[tactic(auto, using(crate::proofs::Runs::run_bind), unfolding(crate::specs::Operands::address_of))]
-fn address_of<M: Memory>(memory: &M, regs: &mut Regs, size: u8, base: Base) -> Result<u32, Refused>
-    requires { IsBase base }
-    ensures { LeavesWith result regs.new (run (M.answers memory.now) (address_of regs.old size base)) }
+fn address_of<M: Memory>(memory: &M, regs: &mut Regs, size: u8, base: &Base) -> Result<u32, Refused>
+    requires { IsBase base.now }
+    ensures { LeavesWith result regs.new (run (M.answers memory.now) (address_of regs.old size base.now)) }
 {
     match base {
-        Base::Deferred(reg) => Ok(regs.r[reg as usize]),
+        Base::Deferred(reg) => Ok(regs.r[*reg as usize]),
         Base::AutoDec(reg) => {
-            let address = regs.r[reg as usize].wrapping_sub(u32::from(size));
-            set_register(regs, reg, address);
+            let address = regs.r[*reg as usize].wrapping_sub(u32::from(size));
+            set_register(regs, *reg, address);
             Ok(address)
         }
         Base::AutoInc(reg) => {
-            let address = regs.r[reg as usize];
-            set_register(regs, reg, address.wrapping_add(u32::from(size)));
+            let address = regs.r[*reg as usize];
+            set_register(regs, *reg, address.wrapping_add(u32::from(size)));
             Ok(address)
         }
         Base::AutoIncDef(reg) => {
-            let pointer = regs.r[reg as usize];
+            let pointer = regs.r[*reg as usize];
             let address = read_long(memory, pointer)?;
-            set_register(regs, reg, pointer.wrapping_add(4));
+            set_register(regs, *reg, pointer.wrapping_add(4));
             Ok(address)
         }
-        Base::Absolute(address) => Ok(address),
+        Base::Absolute(address) => Ok(*address),
         Base::Disp { reg, by, deferred } => {
-            let address = regs.r[reg as usize].wrapping_add_signed(by);
-            if deferred {
+            let address = regs.r[*reg as usize].wrapping_add_signed(*by);
+            if *deferred {
                 read_long(memory, address)
             } else {
                 Ok(address)
@@ -88,11 +88,11 @@ fn evaluate_through<M: Memory>(
     memory: &M,
     slot: Slot,
     regs: &mut Regs,
-    base: Base,
+    base: &Base,
 ) -> Result<Evaluated, Refused>
-    requires base { IsBase base }
+    requires base { IsBase base.now }
     requires size { (slot.size ≡ 1) ⊎ (slot.size ≡ 2) ⊎ (slot.size ≡ 4) }
-    ensures value { LeavesWith result regs.new (run (M.answers memory.now) (evaluation_through slot regs.old base)) }
+    ensures value { LeavesWith result regs.new (run (M.answers memory.now) (evaluation_through slot regs.old base.now)) }
     ensures place { IfOk result (λ x. IsPlace x.place) }
 {
     let address = address_of(memory, regs, slot.size, base)?;
@@ -105,49 +105,53 @@ pub fn evaluate<M: Memory>(
     memory: &M,
     slot: Slot,
     regs: &mut Regs,
-    operand: Operand,
+    operand: &Operand,
 ) -> Result<Evaluated, Refused>
-    requires operand { IsOperand operand }
+    requires operand { IsOperand operand.now }
     requires size { (slot.size ≡ 1) ⊎ (slot.size ≡ 2) ⊎ (slot.size ≡ 4) }
-    ensures value { LeavesWith result regs.new (run (M.answers memory.now) (evaluation slot regs.old operand)) }
+    ensures value { LeavesWith result regs.new (run (M.answers memory.now) (evaluation slot regs.old operand.now)) }
     ensures place { IfOk result (λ x. IsPlace x.place) }
 {
     let base = match operand {
         Operand::Literal(value) => {
             return Ok(Evaluated {
-                value: u32::from(value),
+                value: u32::from(*value),
                 place: Place::Nowhere,
             });
         }
         Operand::Immediate(value) => return Ok(Evaluated {
-            value,
+            value: *value,
             place: Place::Nowhere,
         }),
         Operand::Register(reg) => {
             return Ok(Evaluated {
-                value: low_bytes(regs.r[reg as usize], slot.size),
-                place: Place::Register(reg),
+                value: low_bytes(regs.r[*reg as usize], slot.size),
+                place: Place::Register(*reg),
             });
         }
         Operand::Branch(by) => {
             return Ok(Evaluated {
-                value: regs.r[15].wrapping_add_signed(by),
+                value: regs.r[15].wrapping_add_signed(*by),
                 place: Place::Nowhere,
             });
         }
         Operand::Indexed { index, base } => {
             let address = address_of(memory, regs, slot.size, base)?;
-            let offset = regs.r[index as usize].wrapping_mul(u32::from(slot.size));
+            let offset = regs.r[*index as usize].wrapping_mul(u32::from(slot.size));
             return evaluate_at(memory, slot, address.wrapping_add(offset));
         }
-        Operand::Deferred(reg) => Base::Deferred(reg),
-        Operand::AutoDec(reg) => Base::AutoDec(reg),
-        Operand::AutoInc(reg) => Base::AutoInc(reg),
-        Operand::AutoIncDef(reg) => Base::AutoIncDef(reg),
-        Operand::Absolute(address) => Base::Absolute(address),
-        Operand::Disp { reg, by, deferred } => Base::Disp { reg, by, deferred },
+        Operand::Deferred(reg) => Base::Deferred(*reg),
+        Operand::AutoDec(reg) => Base::AutoDec(*reg),
+        Operand::AutoInc(reg) => Base::AutoInc(*reg),
+        Operand::AutoIncDef(reg) => Base::AutoIncDef(*reg),
+        Operand::Absolute(address) => Base::Absolute(*address),
+        Operand::Disp { reg, by, deferred } => Base::Disp {
+            reg: *reg,
+            by: *by,
+            deferred: *deferred,
+        },
     };
-    evaluate_through(memory, slot, regs, base)
+    evaluate_through(memory, slot, regs, &base)
 }
 
 /// The low bytes of a word.

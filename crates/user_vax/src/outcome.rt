@@ -1,7 +1,7 @@
-ghost use Rattle.std.specs.Prelude.{◌∷◌, [], None, ◌≡◌, ◌<◌, ◌+◌, ◌≤◌, take};
+ghost use Rattle.std.specs.Prelude.{◌∷◌, [], None, ◌≡◌};
 ghost use Rattle.user_vax.specs.Effects.{bytes_at, push_onto};
 ghost use Rattle.user_vax.specs.Operands.{with_register};
-ghost use Rattle.user_vax.specs.Outcomes.{IsFresh, IsSize, IsOutcome, effect_of, writes_in};
+ghost use Rattle.user_vax.specs.Outcomes.{IsFresh, IsSize, IsOutcome, effect_of};
 
 use vm_facts::Regs;
 
@@ -13,50 +13,29 @@ pub struct Write {
     pub size: u8,
 }
 
-impl Write {
-    /// What stands in the places that aren't used.
-    pub const NONE: Write = Write {
-        address: 0,
-        value: 0,
-        size: 1,
-    };
-}
-
-/// What an instruction will leave: the registers, the first `count` of the writes, and the number of
-/// a system call if it is one. A procedure call pushes up to 18 longwords.
+/// What an instruction that calls no procedure will leave: the registers, the number that it writes, and the number of a
+/// system call if it is one.
 #[derive(Clone, Copy, Debug, PartialEq, Eq)]
 pub struct Outcome {
     pub regs: Regs,
-    pub writes: [Write; 18],
-    pub count: u8,
+    pub write: Option<Write>,
     pub call: Option<i32>,
 }
 
 impl Outcome {
-    /// What is written, in order.
-    pub fn written(&self) -> &[Write]
-        requires { IsOutcome self.now }
-        ensures { result.now ≡ writes_in self.now }
-    {
-        &self.writes[..self.count as usize]
-    }
-
-    /// Pushes one more longword.
-    #[tactic(auto, using(crate::proofs::Pushing::all_bytes_more, crate::proofs::Pushing::sizes_more), unfolding(crate::specs::Effects::push_onto))]
+    /// Pushes a longword, the one number that is written.
+    #[tactic(auto, unfolding(crate::specs::Effects::push_onto))]
     pub fn push(&mut self, value: u32)
-        requires room { self.old.count < 18 }
-        requires sound { IsOutcome self.old }
+        requires { IsFresh self.old }
         ensures effect { effect_of self.new ≡ push_onto (effect_of self.old) value }
         ensures sound { IsOutcome self.new }
-        ensures count { self.new.count ≡ self.old.count + 1 }
     {
         let address = self.regs.r[14].wrapping_sub(4);
-        self.writes[self.count as usize] = Write {
+        self.write = Some(Write {
             address,
             value,
             size: 4,
-        };
-        self.count += 1;
+        });
         self.regs.r[14] = address;
     }
 
@@ -69,16 +48,14 @@ impl Outcome {
         self.regs.r[15] = target;
     }
 
-    /// Writes one number, the first.
-    #[tactic(auto, using(crate::proofs::Pushing::first_bytes, crate::proofs::Pushing::first_sizes))]
+    /// Writes the one number.
     pub fn write(&mut self, write: Write)
         requires fresh { IsFresh self.old }
         requires size { IsSize write.size }
         ensures effect { effect_of self.new ≡ record { regs = self.old.regs; writes = bytes_at write.size write.address write.value; call = None } }
         ensures sound { IsOutcome self.new }
     {
-        self.writes[0] = write;
-        self.count = 1;
+        self.write = Some(write);
     }
 
     /// What leaves some registers alone.
@@ -88,8 +65,7 @@ impl Outcome {
     {
         Outcome {
             regs,
-            writes: [Write::NONE; 18],
-            count: 0,
+            write: None,
             call: None,
         }
     }

@@ -1,22 +1,21 @@
-ghost use Rattle.std.specs.Prelude.{◌≡◌, ◌<◌, ◌≤◌, [], length, Result, Err, IfOk, OnOk};
-ghost use Rattle.std.specs.List.{All};
+ghost use Rattle.std.specs.Prelude.{◌≡◌, [], true, false, IfOk, OnOk};
 ghost use Rattle.vax_code.specs.Valid.{HasOperands};
 ghost use Rattle.user_vax.specs.Program.{run};
-ghost use Rattle.user_vax.specs.Operands.{IsPlace};
-ghost use Rattle.user_vax.specs.Instruction.{fetch, evaluations, tested_effect, execution, instruction, answer_of, registers_after, writes_of};
-ghost use Rattle.vax_code.specs.Reading.{decoded};
-ghost use Rattle.vax_code.specs.declared.instr.Instr.{Instr};
-ghost use Rattle.user_vax.specs.declared.refused.Refused.{Refused};
-ghost use Rattle.user_vax.specs.Fetching.{settled};
-ghost use Rattle.user_vax.specs.Outcomes.{IsFresh, IsOutcome, IsReady, ComesTo, LeavesOperands, effect_of, writes_in};
+ghost use Rattle.user_vax.specs.Code.{reads_from};
+ghost use Rattle.user_vax.specs.Instruction.{fetch, evaluations, instruction, answer_of, registers_after, writes_of};
+ghost use Rattle.user_vax.specs.Outcomes.{IsFresh, HasPlaces, LeavesInstr, LeavesOperands, Prepares, calls_procedure, completion, stepped_by};
 
-use crate::commit::{put_all, test_all};
+use crate::calling::call;
+use crate::code::Code;
+use crate::commit::{put_all, put_one, test_all, test_one};
 use crate::compute::compute;
-use crate::operand::{Evaluated, evaluate};
+use crate::operand::evaluate;
 use crate::outcome::Outcome;
+use crate::pushes::Pushes;
 use crate::reading::read_byte;
+use crate::ready::Ready;
 use crate::refused::{Refused, SIGILL};
-use vax_code::{Decoded, Instr, Row, decode, row_of};
+use vax_code::{Fault, Instr, Row, decode_into, row_of};
 use vm_facts::{Memory, Regs};
 
 /// What one instruction came to.
@@ -35,105 +34,134 @@ pub enum Stepped {
     Signal(u8),
 }
 
-/// What is fetched of an instruction of which these bytes were read, where the next byte is refused.
-fn stop(bytes: &[u8], refused: Refused) -> Result<Instr, Refused>
-    ensures value { result ≡ settled (decoded bytes.now) (Err refused) }
-    ensures whole { 19 ≤ length bytes.now → (next : Result Instr Refused) → result ≡ settled (decoded bytes.now) next }
-    ensures valid { IfOk result HasOperands }
+/// Reads bytes from an address on, one more than an instruction has.
+#[tactic(auto, using(crate::proofs::Fetching::reads_more, crate::proofs::Fetching::reads_all), unfolding(crate::specs::Code::reads_from))]
+fn read_on<M: Memory>(memory: &M, pc: u32) -> Result<(), Refused>
+    ensures { result ≡ run (M.answers memory.now) (reads_from pc 20) }
 {
-    match decode(bytes) {
-        Decoded::Is(instr) => Ok(instr),
-        Decoded::Reserved => Err(Refused::Signal(SIGILL)),
-        Decoded::NeedMore => Err(refused),
+    for count in 0..20u32 {
+        read_byte(memory, pc.wrapping_add(count))?;
     }
+    Ok(())
 }
 
-/// The instruction at an address. Its bytes are read four at a time, since most have no more; what lies behind it has
-/// no part in what comes of it.
-fn fetch<M: Memory>(memory: &M, pc: u32) -> Result<Instr, Refused>
-    ensures value { result ≡ run (M.answers memory.now) (fetch 20 pc []) }
-    ensures valid { IfOk result HasOperands }
+/// Reads the instruction at an address, each of its bytes once. Where they end within it, the first byte that isn't there
+/// decides.
+#[tactic(auto, using(crate::proofs::Fetching::fetched))]
+fn fetch<M: Memory>(memory: &M, pc: u32, into: &mut Instr) -> Result<(), Refused>
+    ensures value { LeavesInstr result into.new (run (M.answers memory.now) (fetch 20 pc [])) }
+    ensures valid { OnOk result (HasOperands into.new) }
 {
-    let mut bytes = [0u8; 19];
-    for count in 0..19usize {
-        match read_byte(memory, pc.wrapping_add(count as u32)) {
-            Ok(byte) => bytes[count] = byte,
-            Err(refused) => return stop(&bytes[..count], refused),
-        }
-        if count % 4 == 3 {
-            match decode(&bytes[..=count]) {
-                Decoded::Is(instr) => return Ok(instr),
-                Decoded::Reserved => return Err(Refused::Signal(SIGILL)),
-                Decoded::NeedMore => {}
-            }
+    match decode_into(&mut Code::from(memory, pc), into) {
+        Ok(()) => Ok(()),
+        Err(Fault::Bad) => Err(Refused::Signal(SIGILL)),
+        Err(Fault::Short) => {
+            read_on(memory, pc)?;
+            Err(Refused::Signal(SIGILL))
         }
     }
-    stop(&bytes, Refused::Signal(SIGILL))
 }
 
 /// The three operands, evaluated from left to right; the registers become those after them.
 #[tactic(auto, using(crate::proofs::Runs::run_bind), unfolding(crate::specs::Instruction::evaluations))]
 fn evaluate_all<M: Memory>(
     memory: &M,
-    row: Row,
+    row: &Row,
     regs: &mut Regs,
     instr: &Instr,
-) -> Result<(Evaluated, Evaluated, Evaluated), Refused>
+) -> Result<Ready, Refused>
     requires { HasOperands instr.now }
-    ensures value { LeavesOperands result regs.new (run (M.answers memory.now) (evaluations row regs.old instr.now)) }
-    ensures places { IfOk result (λ x. IsPlace x.0.place × IsPlace x.1.place × IsPlace x.2.place) }
+    ensures value { LeavesOperands result regs.new (run (M.answers memory.now) (evaluations row.now regs.old instr.now)) }
+    ensures name { IfOk result (λ ready. ready.name ≡ row.now.name) }
+    ensures places { IfOk result HasPlaces }
 {
-    let a = evaluate(memory, row.slot(0), regs, instr.a)?;
-    let b = evaluate(memory, row.slot(1), regs, instr.b)?;
-    let c = evaluate(memory, row.slot(2), regs, instr.c)?;
-    Ok((a, b, c))
+    let a = evaluate(memory, row.slot(0), regs, &instr.a)?;
+    let b = evaluate(memory, row.slot(1), regs, &instr.b)?;
+    let c = evaluate(memory, row.slot(2), regs, &instr.c)?;
+    Ok(Ready {
+        name: row.name,
+        a,
+        b,
+        c,
+    })
 }
 
-/// What an instruction of a row comes to, once its operands are evaluated: the outcome, where all that it writes may be
-/// written.
-#[tactic(auto, using(crate::proofs::Runs::run_bind), unfolding(crate::specs::Instruction::tested_effect))]
-fn allow<M: Memory>(memory: &M, outcome: &Outcome) -> Result<(), Refused>
-    requires { IsOutcome outcome.now }
-    ensures value { ComesTo result outcome.now (run (M.answers memory.now) (tested_effect (effect_of outcome.now))) }
-    ensures ready { OnOk result (All (IsReady (M.answers memory.now)) (writes_in outcome.now)) }
+/// The instruction that PC names, as far as its operands; the registers become those after them.
+#[tactic(auto, using(crate::proofs::Runs::run_bind), unfolding(crate::specs::Instruction::instruction, crate::specs::Instruction::execution_by, crate::specs::Instruction::execution, crate::specs::Outcomes::completion))]
+fn prepare<M: Memory>(memory: &M, regs: &mut Regs) -> Result<Ready, Refused>
+    ensures value { Prepares (M.answers memory.now) result regs.new (run (M.answers memory.now) (instruction regs.old)) }
+    ensures places { IfOk result HasPlaces }
 {
-    test_all(memory, outcome.written())
-}
-
-/// What an instruction of a row comes to, from registers whose PC stands behind it.
-#[tactic(auto, using(crate::proofs::Runs::run_bind), unfolding(crate::specs::Instruction::execution))]
-fn execute<M: Memory>(
-    memory: &M,
-    row: Row,
-    outcome: &mut Outcome,
-    instr: &Instr,
-) -> Result<(), Refused>
-    requires fresh { IsFresh outcome.old }
-    requires valid { HasOperands instr.now }
-    ensures value { ComesTo result outcome.new (run (M.answers memory.now) (execution row outcome.old.regs instr.now)) }
-    ensures sound { OnOk result (IsOutcome outcome.new) }
-    ensures ready { OnOk result (All (IsReady (M.answers memory.now)) (writes_in outcome.new)) }
-{
-    let (a, b, c) = evaluate_all(memory, row, &mut outcome.regs, instr)?;
-    compute(memory, row.name, outcome, a, b, c)?;
-    allow(memory, outcome)
-}
-
-/// What the instruction that PC names comes to.
-#[tactic(auto, using(crate::proofs::Runs::run_bind), unfolding(crate::specs::Instruction::instruction, crate::specs::Instruction::execution_by))]
-fn next<M: Memory>(memory: &M, outcome: &mut Outcome) -> Result<(), Refused>
-    requires { IsFresh outcome.old }
-    ensures value { ComesTo result outcome.new (run (M.answers memory.now) (instruction outcome.old.regs)) }
-    ensures sound { OnOk result (IsOutcome outcome.new) }
-    ensures ready { OnOk result (All (IsReady (M.answers memory.now)) (writes_in outcome.new)) }
-{
-    let pc = outcome.regs.r[15];
-    let instr = fetch(memory, pc)?;
+    let pc = regs.r[15];
+    let mut instr = Instr::blank();
+    fetch(memory, pc, &mut instr)?;
     let Some(row) = row_of(instr.op) else {
         return Err(Refused::Signal(SIGILL));
     };
-    outcome.regs.r[15] = pc.wrapping_add(u32::from(instr.length));
-    execute(memory, row, outcome, &instr)
+    regs.r[15] = pc.wrapping_add(u32::from(instr.length));
+    evaluate_all(memory, &row, regs, &instr)
+}
+
+/// Carries an instruction out from its operands on, where it may write all that it does. The outcome has the registers
+/// after the operands.
+#[tactic(auto, using(crate::proofs::Runs::run_bind), unfolding(crate::specs::Outcomes::completion, crate::specs::Instruction::tested_effect))]
+fn complete<M: Memory>(
+    memory: &mut M,
+    regs: &mut Regs,
+    outcome: &mut Outcome,
+    ready: &Ready,
+) -> Result<Stepped, Refused>
+    requires fresh { IsFresh outcome.old }
+    requires places { HasPlaces ready.now }
+    requires no_frame { calls_procedure ready.now.name ≡ false }
+    ensures answer { stepped_by result ≡ answer_of (run (M.answers memory.old) (completion ready.now outcome.old.regs)) }
+    ensures registers { regs.new ≡ registers_after regs.old (run (M.answers memory.old) (completion ready.now outcome.old.regs)) }
+    ensures wrote { M.wrote memory.old (writes_of (run (M.answers memory.old) (completion ready.now outcome.old.regs))) memory.new }
+{
+    compute(memory, outcome, ready)?;
+    test_one(memory, &outcome.write)?;
+    put_one(memory, &outcome.write);
+    *regs = outcome.regs;
+    Ok(match outcome.call {
+        None => Stepped::Done,
+        Some(number) => Stepped::Call(number),
+    })
+}
+
+/// The same of an instruction that calls a procedure.
+#[tactic(auto, using(crate::proofs::Runs::run_bind), unfolding(crate::specs::Outcomes::completion, crate::specs::Instruction::tested_effect))]
+fn complete_call<M: Memory>(
+    memory: &mut M,
+    regs: &mut Regs,
+    outcome: &mut Outcome,
+    ready: &Ready,
+) -> Result<Stepped, Refused>
+    requires calls { calls_procedure ready.now.name ≡ true }
+    ensures answer { stepped_by result ≡ answer_of (run (M.answers memory.old) (completion ready.now outcome.old.regs)) }
+    ensures registers { regs.new ≡ registers_after regs.old (run (M.answers memory.old) (completion ready.now outcome.old.regs)) }
+    ensures wrote { M.wrote memory.old (writes_of (run (M.answers memory.old) (completion ready.now outcome.old.regs))) memory.new }
+{
+    let mut pushes = Pushes::none();
+    call(memory, &mut pushes, &mut outcome.regs, ready)?;
+    test_all(memory, pushes.written())?;
+    put_all(memory, pushes.written());
+    *regs = outcome.regs;
+    Ok(Stepped::Done)
+}
+
+/// Carries the instruction that PC names out, or changes nothing and says why.
+fn try_step<M: Memory>(regs: &mut Regs, memory: &mut M) -> Result<Stepped, Refused>
+    ensures answer { stepped_by result ≡ answer_of (run (M.answers memory.old) (instruction regs.old)) }
+    ensures registers { regs.new ≡ registers_after regs.old (run (M.answers memory.old) (instruction regs.old)) }
+    ensures wrote { M.wrote memory.old (writes_of (run (M.answers memory.old) (instruction regs.old))) memory.new }
+{
+    let mut outcome = Outcome::of_registers(*regs);
+    let ready = prepare(memory, &mut outcome.regs)?;
+    if ready.calls_procedure() {
+        complete_call(memory, regs, &mut outcome, &ready)
+    } else {
+        complete(memory, regs, &mut outcome, &ready)
+    }
 }
 
 /// Runs one instruction: the one that PC names, by this project's profile of the VAX. `Done` and `Call`
@@ -145,18 +173,10 @@ pub fn step<M: Memory>(regs: &mut Regs, memory: &mut M) -> Stepped
     ensures registers { regs.new ≡ registers_after regs.old (run (M.answers memory.old) (instruction regs.old)) }
     ensures wrote { M.wrote memory.old (writes_of (run (M.answers memory.old) (instruction regs.old))) memory.new }
 {
-    let mut outcome = Outcome::of_registers(*regs);
-    match next(memory, &mut outcome) {
+    match try_step(regs, memory) {
+        Ok(stepped) => stepped,
         Err(Refused::Miss { address, write }) => Stepped::Miss { address, write },
         Err(Refused::Below { address }) => Stepped::Below { address },
         Err(Refused::Signal(number)) => Stepped::Signal(number),
-        Ok(()) => {
-            put_all(memory, outcome.written());
-            *regs = outcome.regs;
-            match outcome.call {
-                None => Stepped::Done,
-                Some(number) => Stepped::Call(number),
-            }
-        }
     }
 }

@@ -1,6 +1,6 @@
 use Rattle.std.proofs.Common.{◌∙◌, ℕ, ◌-◌, ◌+◌, ◌<◌, ◌++◌, List, get_or, arith, sym, ap}
 use Rattle.user_vax.specs.Frames.{push_all, saved, bit}
-use Rattle.user_vax.specs.Outcomes.{effect_of}
+use Rattle.user_vax.specs.Outcomes.{pushing}
 use Rattle.user_vax.proofs.Saving.{saved_more, cond_append}
 use Rattle.user_vax.proofs.calling.save.Goals as goal
 
@@ -11,7 +11,7 @@ loop-done-preserved c =
     record {
       pushed = λ values.
           c.push_if.ensures.pushed (rest ++ values)
-          ∙ ap (λ (l : List ℕ). push_all (effect_of c.loop-done.outcome) l)
+          ∙ ap (λ (l : List ℕ). push_all (pushing c.loop-done.regs c.loop-done.pushes) l)
           (sym (cond_append (bit c.args.mask (11 - c.loop-done.done)) (get_or c.args.registers.now (11 - c.loop-done.done) 0) rest values)
           ∙ ap (λ (l : List ℕ). l ++ values) (sym (saved_more c.loop-done.done c.args.registers.now c.args.mask below)))
           ∙ c.loop-done.invariant.pushed values;
