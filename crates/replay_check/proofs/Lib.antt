@@ -12,3 +12,4 @@ pub mod Running
 pub mod Verdicts
 pub mod Paging
 pub mod Following
+pub mod Misfits

@@ -143,9 +143,12 @@ find_none [] test none = refl
 find_none (x ∷ xs) test none =
     ap (λ (b : Bool). cond b (Some x) (find test xs)) (none zero (omega arith)) ∙ find_none xs test (λ k below. none (suc k) (omega arith))
 
+pub none_found : (F : FlatState) (pid : ℕ) → position (λ (q : Process). q.pid == pid) F.processes ≡ None → process_of F pid ≡ None
+none_found F pid h = find_none F.processes (λ (q : Process). q.pid == pid) (none_passes (λ (q : Process). q.pid == pid) F.processes h)
+
 -- a process that isn't there can't step
 pub none_can : (F : FlatState) (pid : ℕ) → position (λ (q : Process). q.pid == pid) F.processes ≡ None → can_step F pid ≡ false
-none_can F pid h = ap ready_if (find_none F.processes (λ (q : Process). q.pid == pid) (none_passes (λ (q : Process). q.pid == pid) F.processes h))
+none_can F pid h = ap ready_if (none_found F pid h)
 
 -- a process that is there can step where it is ready
 pub can_at : (F : FlatState) (pid place : ℕ) (b : Bool) → position (λ (q : Process). q.pid == pid) F.processes ≡ Some place → is_ready (process_at F place) ≡ b → can_step F pid ≡ b

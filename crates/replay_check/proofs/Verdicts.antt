@@ -2,7 +2,7 @@
 use Rattle.std.proofs.Common.{◌≡◌, ℕ, cond, zero, suc, ◌+◌, ◌<◌, ◌≤◌, leb, Bool, true, false, not, ◌&&◌, List, [], ◌∷◌, ◌++◌, length, take, get_or, Option, Some, None, is_some, refl, sym, ap, ◌∙◌, subst, inl, inr, arith}
 use Rattle.std.specs.Prelude.{find}
 use Rattle.std.specs.List.{range_with_len}
-use Rattle.std.proofs.lemmas.List.{take_more}
+use Rattle.std.proofs.lemmas.List.{take_more, length-take}
 use Rattle.std.proofs.lemmas.Bool.{cases_lt, le-leb, lt-leb}
 use Rattle.flat_state.specs.Flat.{FlatState, Inputs, start_state}
 use Rattle.vm_facts.specs.declared.entry.Entry.{Entry}
@@ -104,3 +104,99 @@ runs_more A entries n runs more k few = elim (cases_lt n k) [
   | inl last ↦ subst (λ (j : ℕ). is_run A (take j entries) ≡ true) (let e : n + 1 ≡ k = omega arith in e) more
   | inr before ↦ runs k (omega arith)
 ]
+
+-- What the first number that passes a test says.
+
+pub record IsFirstFrom (test : ℕ → Bool) (from n i : ℕ) : Type 0 where
+  pub low : from ≤ i
+  pub high : i < from + n
+  pub this : test i ≡ true
+  pub earlier : (k : ℕ) → from ≤ k → k < i → test k ≡ false
+
+pub found_first : (test : ℕ → Bool) (from n i : ℕ) → find test (range_with_len from n) ≡ Some i → IsFirstFrom test from n i
+found_first test from zero i h = absurd cc
+found_first test from (suc n) i h = go (test from) refl h (found_first test (from + 1) n i)
+  where
+    go : (b : Bool) → test from ≡ b → cond b (Some from) (find test (range_with_len (from + 1) n)) ≡ Some i
+        → (find test (range_with_len (from + 1) n) ≡ Some i → IsFirstFrom test (from + 1) n i) → IsFirstFrom test from (suc n) i
+    go true t k next =
+        let is : from ≡ i = cc in
+        record { low = omega arith; high = omega arith; this = subst (λ (j : ℕ). test j ≡ true) is t; earlier = λ j low high. absurd (omega arith) }
+    go false t k next =
+        let more = next k in
+        record {
+          low = let l = more.low in omega arith;
+          high = let l = more.high in omega arith;
+          this = more.this;
+          earlier = λ j low high. elim (cases_lt from j) [
+            | inl later ↦ more.earlier j (omega arith) high
+            | inr same ↦ subst (λ (x : ℕ). test x ≡ false) (let e : from ≡ j = omega arith in e) t
+          ];
+        }
+
+-- fewer entries than the first bad number are a run, and the number is one of an entry
+pub record IsBadAt (A : Inputs) (entries : List Entry) (n : ℕ) : Type 0 where
+  pub some : 0 < n
+  pub within : n ≤ length entries
+  pub bad : is_run A (take n entries) ≡ false
+  pub earlier : (k : ℕ) → k < n → is_run A (take k entries) ≡ true
+
+not_false : (b : Bool) → not b ≡ true → b ≡ false
+not_false true h = absurd cc
+not_false false h = refl
+
+not_true : (b : Bool) → not b ≡ false → b ≡ true
+not_true true h = refl
+not_true false h = absurd cc
+
+pub bad_at : (A : Inputs) (entries : List Entry) (n : ℕ) → is_run A [] ≡ true → first_bad A entries ≡ Some n → IsBadAt A entries n
+bad_at A entries n none h =
+    let first = found_first (λ (k : ℕ). not (is_run A (take k entries))) 0 (length entries + 1) n h in
+    let bad : is_run A (take n entries) ≡ false = not_false (is_run A (take n entries)) first.this in
+    let below = first.high in
+    record {
+      some = go n bad;
+      within = omega arith;
+      bad = bad;
+      earlier = λ k few. not_true (is_run A (take k entries)) (first.earlier k (omega arith) few);
+    }
+  where
+    go : (m : ℕ) → is_run A (take m entries) ≡ false → 0 < m
+    go zero bad = let e : true ≡ false = sym none ∙ bad in absurd cc
+    go (suc m) bad = omega arith
+
+none_from : (test : ℕ → Bool) (from n : ℕ) → find test (range_with_len from n) ≡ None → (k : ℕ) → from ≤ k → k < from + n → test k ≡ false
+none_from test from zero h k low high = absurd (omega arith)
+none_from test from (suc n) h k low high = go (test from) refl h (none_from test (from + 1) n)
+  where
+    go : (b : Bool) → test from ≡ b → cond b (Some from) (find test (range_with_len (from + 1) n)) ≡ None
+        → (find test (range_with_len (from + 1) n) ≡ None → (j : ℕ) → from + 1 ≤ j → j < from + 1 + n → test j ≡ false) → test k ≡ false
+    go true t e next = absurd cc
+    go false t e next = elim (cases_lt from k) [
+      | inl later ↦ next e k (omega arith) (omega arith)
+      | inr same ↦ subst (λ (x : ℕ). test x ≡ false) (let e : from ≡ k = omega arith in e) t
+    ]
+
+-- where no number is bad, so many first entries are a run
+pub good_runs : (A : Inputs) (entries : List Entry) (k : ℕ) → first_bad A entries ≡ None → k ≤ length entries → is_run A (take k entries) ≡ true
+good_runs A entries k h few =
+    not_true (is_run A (take k entries)) (none_from (λ (j : ℕ). not (is_run A (take j entries))) 0 (length entries + 1) h k (omega arith) (omega arith))
+
+take_less : (xs : List Entry) (k n : ℕ) → k ≤ n → take k (take n xs) ≡ take k xs
+take_less [] zero n few = refl
+take_less [] (suc k) zero few = refl
+take_less [] (suc k) (suc n) few = refl
+take_less (x ∷ xs) zero n few = refl
+take_less (x ∷ xs) (suc k) zero few = absurd (omega arith)
+take_less (x ∷ xs) (suc k) (suc n) few = ap (λ (ys : List Entry). x ∷ ys) (take_less xs k n (omega arith))
+
+-- the entries before the first bad one are good
+pub good_before : (A : Inputs) (entries : List Entry) (n i : ℕ) → IsBadAt A entries n → i < n → first_bad A (take i entries) ≡ None
+good_before A entries n i bad below =
+    none_bad A (take i entries) i (let l = length-take i entries in omega arith)
+    (λ k few. subst (λ (es : List Entry). is_run A es ≡ true) (sym (take_less entries k i few)) (bad.earlier k (omega arith)))
+
+-- entries that are a run and were judged are taken
+pub taken_as_run : (A : Inputs) (F : FlatState) (last : Last) (count : ℕ) (journal : List Entry) (b : Bool) → is_run A journal ≡ true → HasJudged A b F last count journal → HasTaken A F last count journal
+taken_as_run A F last count journal true run h = h
+taken_as_run A F last count journal false run h = let e : true ≡ false = sym run ∙ h in absurd cc

@@ -5,3 +5,4 @@ pub mod Verdicts
 pub mod Judging
 pub mod Present
 pub mod Following
+pub mod Expecting

@@ -6,6 +6,7 @@
 
 mod calling;
 mod deed;
+mod expecting;
 mod machine;
 mod present;
 mod process;
@@ -14,6 +15,7 @@ mod replaying;
 mod space;
 mod touching;
 
+pub use expecting::{Expected, Misfit, explain};
 pub use program::{Flat, are_images, are_numbers};
 pub use replaying::{Verdict, replay};
 pub use touching::references;

@@ -31,7 +31,7 @@ pub enum Verdict {
 
 // The last flat entry, as far as it matters.
 #[derive(Clone, Copy, Debug, Drop)]
-enum Last {
+pub enum Last {
     Other,
     // The pieces of this process found no place.
     Refused(u32),
@@ -41,11 +41,11 @@ enum Last {
 
 #[derive(Drop)]
 pub struct Judge<'a> {
-    alloc: Global,
-    programs: &'a [Program],
-    machine: Machine,
-    last: Last,
-    count: u32,
+    pub alloc: Global,
+    pub programs: &'a [Program],
+    pub machine: Machine,
+    pub last: Last,
+    pub count: u32,
     ghost few: { length programs.now < 2 ^ 31 },
 }
 
@@ -154,7 +154,7 @@ fn last_behind(pid: u32, did: Did) -> Last
 
 impl<'a> Judge<'a> {
     // One step of a process; nothing where it can't step.
-    fn step(&mut self, pid: u32, refused: bool) -> Result<Did, NoMemory>
+    pub fn step(&mut self, pid: u32, refused: bool) -> Result<Did, NoMemory>
         ensures after { (A : Inputs) → A.images ≡ self.old.programs.now → OnOk result (self.new.machine ≡ state_if (can_step self.old.machine pid) self.old.machine (flat_step A self.old.machine pid refused)) }
         ensures entries { (A : Inputs) → A.images ≡ self.old.programs.now → IfOk result (λ did. entries_of pid did ≡ entries_if (can_step self.old.machine pid) (flat_step A self.old.machine pid refused)) }
         ensures programs { self.new.programs ≡ self.old.programs }
@@ -165,7 +165,7 @@ impl<'a> Judge<'a> {
 
     // Whether one instruction of a process is the next of a run.
     #[tactic(auto, using(crate::proofs::Running::ran_busy))]
-    fn ran_once(&mut self, pid: u32) -> Result<bool, NoMemory>
+    pub fn ran_once(&mut self, pid: u32) -> Result<bool, NoMemory>
         ensures verdict { (A : Inputs) (point : Point) → A.images ≡ self.old.programs.now → IsAt A self.old.machine self.old.last point → IfOk result (λ ok. IsVerdict A ok self.new.machine self.new.last (flat_entry A point (Ran pid 1))) }
         ensures programs { self.new.programs ≡ self.old.programs }
     {
@@ -324,7 +324,7 @@ impl<'a> Judge<'a> {
     }
 
     // The instructions counted with those of an entry; None where they are too many.
-    fn counted(&self, entry: &Entry) -> Option<u32>
+    pub fn counted(&self, entry: &Entry) -> Option<u32>
         ensures { MatchOption result (instruction_limit < self.now.count + counted entry.now) (λ count. (count ≡ self.now.count + counted entry.now) × (count ≤ instruction_limit)) }
     {
         let count = u64::from(self.count) + u64::from(counted(entry));
@@ -335,7 +335,7 @@ impl<'a> Judge<'a> {
     }
 
     // Whether an entry is the next of a run that may have its instructions.
-    fn accepts(&mut self, entry: &Entry) -> Result<bool, NoMemory>
+    pub fn accepts(&mut self, entry: &Entry) -> Result<bool, NoMemory>
         ensures judged { (A : Inputs) (journal : List Entry) → A.images ≡ self.old.programs.now → HasTaken A self.old.machine self.old.last self.old.count journal → IfOk result (λ ok. HasJudged A ok self.new.machine self.new.last self.new.count (journal ++ entry.now ∷ [])) }
         ensures programs { self.new.programs ≡ self.old.programs }
     {

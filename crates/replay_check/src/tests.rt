@@ -1,7 +1,7 @@
 // The stack page of an execve, and the pages of a loop.
 ghost use Rattle.std.specs.Prelude.{◌≡◌, IfOk};
 
-use crate::{Flat, are_images, are_numbers, references};
+use crate::{Expected, Flat, are_images, are_numbers, explain, references};
 use flat_model::{Arguments, start_page, start_regs};
 use std::alloc::{AllocError, Global};
 use std::test::Fail;
@@ -37,9 +37,8 @@ fn arguments_stand_at_the_end_of_the_stack_page(rt: HostRuntime) -> Result<(), F
     Ok(())
 }
 
-#[test]
-fn instructions_touch_their_text_and_their_stack(rt: HostRuntime) -> Result<(), Fail> {
-    let alloc = rt.alloc();
+// An image that goes round three instructions.
+fn looping(alloc: Global) -> Result<Vec<Flat>, AllocError> {
     let mut file = [0u8; 2048];
     file[0] = 0x0b;
     file[1] = 0x01;
@@ -53,6 +52,37 @@ fn instructions_touch_their_text_and_their_stack(rt: HostRuntime) -> Result<(), 
     let bytes = file.to_vec(alloc)?;
     let mut images: Vec<Flat> = Vec::new(alloc);
     images.push(Flat { name, bytes })?;
+    Ok(images)
+}
+
+#[test]
+fn tells_what_comes_in_place_of_a_bad_entry(rt: HostRuntime) -> Result<(), Fail> {
+    let alloc = rt.alloc();
+    let images = looping(alloc)?;
+    let mut entries: Vec<Entry> = Vec::new(alloc);
+    entries.push(Entry::Ran { pid: 1, count: 4 })?;
+    entries.push(Entry::Sleeps { pid: 1 })?;
+    let first = [1u32];
+    if !are_images(images.as_slice()) || !are_numbers(images.len(), &first) {
+        return Err(Fail::from("no image"));
+    }
+    let Ok(Some(misfit)) = explain(alloc, images.as_slice(), &first, entries.as_slice()) else {
+        return Err(Fail::from("nothing told"));
+    };
+    assert_eq!(rt; misfit.number, 2);
+    assert!(rt;
+        matches!(
+            misfit.expected,
+            Expected::Comes(Entry::Ran { pid: 1, count: 1 })
+        )
+    );
+    Ok(())
+}
+
+#[test]
+fn instructions_touch_their_text_and_their_stack(rt: HostRuntime) -> Result<(), Fail> {
+    let alloc = rt.alloc();
+    let images = looping(alloc)?;
     let mut entries: Vec<Entry> = Vec::new(alloc);
     entries.push(Entry::Ran { pid: 1, count: 4 })?;
     let first = [1u32];
