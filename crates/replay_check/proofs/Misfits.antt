@@ -1,5 +1,5 @@
 -- What is expected where a run ends.
-use Rattle.std.proofs.Common.{◌≡◌, ℕ, zero, suc, ◌+◌, ◌<◌, ◌≤◌, ◌==◌, leb, Bool, true, false, ◌&&◌, List, [], ◌∷◌, ◌++◌, length, take, drop, get_or, Option, Some, None, is_some, IsSome, refl, sym, ap, ◌∙◌, subst, append_assoc, arith}
+use Rattle.std.proofs.Common.{◌≡◌, ℕ, suc, ◌+◌, ◌<◌, ◌≤◌, ◌==◌, leb, Bool, true, false, ◌&&◌, List, [], ◌∷◌, ◌++◌, length, take, drop, get_or, Option, Some, None, is_some, IsSome, refl, sym, ap, ◌∙◌, subst, append_assoc, arith}
 use Rattle.std.proofs.lemmas.List.{length-take, take-append-drop}
 use Rattle.std.specs.Prelude.{position, if◌then◌else◌}
 use Rattle.std.proofs.lemmas.Bool.{leb-true, le-leb, lt-leb}
@@ -24,7 +24,6 @@ use Rattle.replay_check.specs.Judging.{state_if, entries_if, refused_in, begins,
 use Rattle.replay_check.specs.Verdicts.{instruction_limit, is_run, first_bad}
 use Rattle.replay_check.specs.Expecting.{begun, or_else, due_process, comes_if, missing, expected_by, expected_of, follows_if, comes_or, is_one, ran_or, RunsOnly, IsExpected, IsExpectedOf, IsExpectedAt, IsExpectedIf, IsExpectedBehind, IsMisfit}
 use Rattle.replay_check.proofs.Judging.{Opens, free_at, open_at}
-use Rattle.replay_check.proofs.JudgingGrowth.{other_last}
 use Rattle.replay_check.proofs.Lists.{is_first, found_at, none_found}
 use Rattle.replay_check.proofs.Running.{ran_at, ran_begins, ran_busy, units_one, skipped}
 use Rattle.replay_check.proofs.Verdicts.{taken_none, taken_run, next_front, bad_at, good_before}

@@ -1,5 +1,6 @@
 // The stack page of an execve, and the pages of a loop.
 ghost use Rattle.std.specs.Prelude.{◌≡◌, IfOk};
+ghost use Rattle.replay_check.specs.Images.{AreImageFiles};
 
 use crate::{Expected, Flat, are_images, are_numbers, explain, references};
 use flat_model::{Arguments, start_page, start_regs};
@@ -38,7 +39,9 @@ fn arguments_stand_at_the_end_of_the_stack_page(rt: HostRuntime) -> Result<(), F
 }
 
 // An image that goes round three instructions.
-fn looping(alloc: Global) -> Result<Vec<Flat>, AllocError> {
+fn looping(alloc: Global) -> Result<Vec<Flat>, Fail>
+    ensures { IfOk result (λ images. AreImageFiles images.items) }
+{
     let mut file = [0u8; 2048];
     file[0] = 0x0b;
     file[1] = 0x01;
@@ -52,6 +55,9 @@ fn looping(alloc: Global) -> Result<Vec<Flat>, AllocError> {
     let bytes = file.to_vec(alloc)?;
     let mut images: Vec<Flat> = Vec::new(alloc);
     images.push(Flat { name, bytes })?;
+    if !are_images(images.as_slice()) {
+        return Err(Fail::from("no image"));
+    }
     Ok(images)
 }
 
@@ -63,8 +69,8 @@ fn tells_what_comes_in_place_of_a_bad_entry(rt: HostRuntime) -> Result<(), Fail>
     entries.push(Entry::Ran { pid: 1, count: 4 })?;
     entries.push(Entry::Sleeps { pid: 1 })?;
     let first = [1u32];
-    if !are_images(images.as_slice()) || !are_numbers(images.len(), &first) {
-        return Err(Fail::from("no image"));
+    if !are_numbers(images.len(), &first) {
+        return Err(Fail::from("no number"));
     }
     let Ok(Some(misfit)) = explain(alloc, images.as_slice(), &first, entries.as_slice()) else {
         return Err(Fail::from("nothing told"));
@@ -86,8 +92,8 @@ fn instructions_touch_their_text_and_their_stack(rt: HostRuntime) -> Result<(), 
     let mut entries: Vec<Entry> = Vec::new(alloc);
     entries.push(Entry::Ran { pid: 1, count: 4 })?;
     let first = [1u32];
-    if !are_images(images.as_slice()) || !are_numbers(images.len(), &first) {
-        return Err(Fail::from("no image"));
+    if !are_numbers(images.len(), &first) {
+        return Err(Fail::from("no number"));
     }
     let Ok(pages) = references(alloc, images.as_slice(), &first, entries.as_slice()) else {
         return Err(Fail::from("no memory"));

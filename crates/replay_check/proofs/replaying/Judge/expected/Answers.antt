@@ -1,4 +1,4 @@
-use Rattle.std.proofs.Common.{◌≡◌, ℕ, Option, Some, sym, subst}
+use Rattle.std.proofs.Common.{ℕ, Option, Some, sym, subst}
 use Rattle.vm_facts.specs.declared.entry.Entry.{Entry}
 use Rattle.replay_check.specs.declared.expecting.Expected.TheVariants.{Comes}
 use Rattle.replay_check.specs.Expecting.{run_length, IsExpected, IsExpectedOf}

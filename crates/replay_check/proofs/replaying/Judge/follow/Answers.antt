@@ -1,7 +1,6 @@
-use Rattle.std.proofs.Common.{◌≡◌, ℕ, ◌+◌, Bool, true, false, List, [], ◌∷◌, ◌++◌, take, sym, ap, ◌∙◌, subst, arith}
-use Rattle.std.proofs.lemmas.List.{take_all}
+use Rattle.std.proofs.Common.{◌≡◌, ℕ, ◌+◌, true, List, [], ◌∷◌, ◌++◌, take, ap, ◌∙◌, subst, arith}
 use Rattle.vm_facts.specs.declared.entry.Entry.{Entry}
-use Rattle.replay_check.specs.Judging.{HasTaken, HasJudged}
+use Rattle.replay_check.specs.Judging.{HasTaken}
 use Rattle.replay_check.specs.Verdicts.{is_run}
 use Rattle.replay_check.proofs.Verdicts.{good_runs, next_front, taken_as_run}
 use Rattle.replay_check.proofs.replaying.Judge.follow.Goals as goal

@@ -1,4 +1,4 @@
-use Rattle.std.proofs.Common.{◌≡◌, ℕ, ◌+◌, Bool, true, false, [], Some, subst, arith}
+use Rattle.std.proofs.Common.{◌≡◌, ℕ, Bool, true, false, Some, subst, arith}
 use Rattle.vm_facts.specs.declared.entry.Entry.TheVariants.{Ran}
 use Rattle.flat_model.specs.Run.{flat_entry}
 use Rattle.replay_check.specs.Judging.{IsVerdict}
