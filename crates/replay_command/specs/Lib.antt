@@ -1,3 +1,4 @@
 pub mod LastLine
 pub mod Reading
 pub mod Command
+pub mod Explaining

@@ -2,12 +2,14 @@
 #![tactic(auto)]
 
 mod command;
+mod explaining;
 mod images;
 mod last_line;
 mod naming;
 mod transcript;
 
 pub use command::replay_file;
+pub use explaining::explain_transcript;
 pub use images::load_images;
 pub use naming::{Naming, name_images};
 

@@ -2,7 +2,7 @@
 ghost use Rattle.std.specs.Prelude.{◌<◌, ◌^◌, length, All};
 ghost use Rattle.run_files.specs.ImageWords.{name_in};
 
-use crate::replay_file;
+use crate::{explain_transcript, replay_file};
 use io_edge::{Files, MemFiles, MemSink, Sink};
 use std::alloc::{AllocError, Global};
 use std::process::Abort;
@@ -104,4 +104,33 @@ fn answers_a_fault_of_the_output(rt: HostRuntime) -> Result<(), Fail> {
     assert_eq!(rt; replay_file(alloc, &mut kept, &mut sink, "run", &["hi"]), 8);
     assert_eq!(rt; sink.written().len(), 0);
     Ok(())
+}
+
+// Checks what is told of a transcript.
+fn tells<R: Abort>(
+    rt: &R,
+    alloc: Global,
+    name: &str,
+    words: &[&str],
+    text: Option<&[u8]>,
+) -> Result<(), Fail>
+    requires few { length words.now < 2 ^ 31 }
+    requires names { All (λ word. length (name_in word.now) < 64) words.now }
+{
+    let mut kept = files(alloc, &[])?;
+    match explain_transcript(alloc, &mut kept, name, words) {
+        Ok(told) => assert_eq!(rt; told.as_ref().map(|line| line.as_slice()), text),
+        Err(_) => return Err(Fail::from("nothing was told")),
+    }
+    Ok(())
+}
+
+#[test]
+fn tells_what_comes_in_place_of_a_bad_line(rt: HostRuntime) -> Result<(), Fail> {
+    let alloc = rt.alloc();
+    let comes = b"vmrun: line 2: the flat machine gives r 1 1\n".as_slice();
+    tells(&rt, alloc, "none", &["hi"], Some(comes))?;
+    let absent = b"vmrun: line 2: there is no process 1\n".as_slice();
+    tells(&rt, alloc, "none", &["=hi"], Some(absent))?;
+    tells(&rt, alloc, "run", &["hi"], None)
 }
