@@ -1,8 +1,10 @@
 // The commands that judge a transcript, assemble a source and list an image.
 use super::images::paged;
-use super::{WRITTEN_BY_HI, check, check_endings, files_of};
+use super::{WRITTEN_BY_HI, check, check_endings, files_of, words_of};
 use crate::{explain, vmrun};
 use io_edge::{MemSink, SureSwap};
+use std::process::Abort;
+use std::str::from_utf8;
 use std::test::Fail;
 
 #[test]
@@ -69,21 +71,39 @@ fn names_the_bad_line_of_a_source(rt: HostRuntime) -> Result<(), Fail> {
     check(&rt, "as s", source, image, "vmrun: bad source line 3\n", 17)
 }
 
+// Checks what is told beside the status of these words, over a file `s` of this text.
+fn check_told<R: Abort + AllocGlobal>(
+    rt: &R,
+    line: &str,
+    s: &str,
+    status: u8,
+    text: &str,
+) -> Result<(), Fail> {
+    let alloc = rt.alloc();
+    let mut files = files_of(alloc, line, s, Vec::new(alloc), &[])?;
+    let words = words_of(alloc, line)?;
+    match explain(alloc, words.as_slice(), &mut files, status) {
+        Ok(told) => {
+            let told = told.unwrap_or(Vec::new(alloc));
+            assert_eq!(rt; from_utf8(told.as_slice()).ok(), Some(text), "at {line}");
+            Ok(())
+        }
+        Err(_) => Err(Fail::from("nothing was told")),
+    }
+}
+
 #[test]
 fn tells_why_a_source_is_bad(rt: HostRuntime) -> Result<(), Fail> {
-    let alloc = rt.alloc();
     let source = ".word 0\nclrl r0\nl: brb m\n";
-    let mut files = files_of(alloc, "as s", source, Vec::new(alloc), &[])?;
-    let words = ["as", "s"];
-    let Some(line) = explain(alloc, words.as_slice(), &mut files, 17)? else {
-        panic!(&rt; "nothing told");
-    };
-    assert_eq!(rt;
-        line.as_slice(),
-        b"vmrun: line 3: unknown label m\n".as_slice()
-    );
-    assert!(rt; explain(alloc, words.as_slice(), &mut files, 0)?.is_none());
-    Ok(())
+    check_told(&rt, "as s", source, 17, "vmrun: line 3: unknown label m\n")?;
+    check_told(&rt, "as s", source, 0, "")
+}
+
+#[test]
+fn tells_what_the_flat_machine_gives(rt: HostRuntime) -> Result<(), Fail> {
+    let given = "vmrun: line 3: the flat machine gives o 1 6869\n";
+    check_told(&rt, "replay s hi", "t 1\nr 1 1\no 1 68\n", 14, given)?;
+    check_told(&rt, "replay s hi", WRITTEN_BY_HI, 0, "")
 }
 
 #[test]
