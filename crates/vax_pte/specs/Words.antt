@@ -1,5 +1,5 @@
 -- The word of a page table entry: the sum of its fields, each times the power of 2 of its lowest bit.
-use Rattle.std.specs.Prelude.{◌≡◌, ℕ, ◌+◌, ◌*◌, ◌^◌, ◌≤◌, ◌<◌, Bool, true, false}
+use Rattle.std.specs.Prelude.{◌≡◌, ℕ, ◌+◌, ◌*◌, ◌^◌, ◌≤◌, ◌<◌, Bool, true, false, Option, Some, None}
 use Rattle.vax_pte.specs.declared.Place.{Place}
 use Rattle.vax_pte.specs.declared.Place.TheVariants.{Zero, Image, Swap, Frame}
 use Rattle.vax_pte.specs.declared.Pte.{Pte}
@@ -10,6 +10,11 @@ IsInRange Zero = Unit {0}
 IsInRange (Image v) = v < 2 ^ 24
 IsInRange Swap = Unit {0}
 IsInRange (Frame f valid changed) = (1 ≤ f) × (f < 2 ^ 21)
+
+-- the frame of a place whose page is valid
+abbrev pub usable_frame : Place → Option ℕ
+usable_frame (Frame f true changed) = Some f
+usable_frame _ = None
 
 -- a flag as a number
 abbrev pub one_if : Bool → ℕ

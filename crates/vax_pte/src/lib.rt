@@ -14,7 +14,7 @@
 #![tactic(auto)]
 
 ghost use Rattle.std.specs.Prelude.{◌≡◌, ◌<◌, ◌+◌, ◌*◌, ◌^◌, MatchOption};
-ghost use Rattle.vax_pte.specs.Words.{IsInRange, PacksTo, place_bits, word_of, one_if};
+ghost use Rattle.vax_pte.specs.Words.{IsInRange, PacksTo, usable_frame, place_bits, word_of, one_if};
 ghost use Rattle.vax_pte.specs.declared.Place.{Place};
 ghost use Rattle.vax_pte.specs.declared.Pte.{Pte};
 
@@ -104,6 +104,17 @@ pub fn unpack(word: u32) -> Option<Pte>
     };
     let place = place_of(word >= VALID, word % PROTECTION)?;
     Some(Pte { user_write, place })
+}
+
+/// The frame of the page whose entry has this word, where the page is valid.
+pub fn valid_frame(word: u32) -> Option<u32>
+    ensures { (e : Pte) → PacksTo e word → result ≡ usable_frame e.place }
+{
+    if word >= VALID {
+        Some(word % CHANGED)
+    } else {
+        None
+    }
 }
 
 /// The place of an entry that is or isn't valid and has these bits below its protection.

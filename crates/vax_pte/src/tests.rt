@@ -38,3 +38,10 @@ fn no_entry_has_a_stray_bit_or_protection_0(rt: HostRuntime) {
     assert_eq!(rt; unpack(0x2600_0000), None);
     assert_eq!(rt; unpack(0x8000_0005), None);
 }
+
+#[test]
+fn only_a_valid_page_shows_its_frame(rt: HostRuntime) {
+    assert_eq!(rt; valid_frame(0xa400_0005), Some(5));
+    assert_eq!(rt; valid_frame(0x2400_0005), None);
+    assert_eq!(rt; valid_frame(0x2200_0000), None);
+}
