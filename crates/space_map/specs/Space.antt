@@ -1,8 +1,9 @@
 -- What a space's map shows: for each segment the places of its pages, in order.
-use Rattle.std.specs.Prelude.{ℕ, ◌-◌, ◌*◌, ◌==◌, nat_lt, Bool, List, ◌++◌, length, map, take, replicate, slice_set, slice_get, Option, None, if◌then◌else◌}
+use Rattle.std.specs.Prelude.{ℕ, ◌-◌, ◌*◌, ◌==◌, nat_lt, Bool, List, ◌++◌, length, map, take, replicate, slice_set, slice_get, Option, Some, None, if◌then◌else◌}
 use Rattle.std.specs.List.{range_with_len}
 use Rattle.aout_image.specs.Image.{given_of}
 use Rattle.aout_image.specs.declared.Image.{Image as Facts}
+use Rattle.vax_pte.specs.Words.{usable_frame}
 use Rattle.vax_pte.specs.declared.Place.{Place}
 use Rattle.vax_pte.specs.declared.Place.TheVariants.{Zero, Image}
 use Rattle.vm_facts.specs.declared.page.Page.{Page}
@@ -33,6 +34,11 @@ abbrev pub place_in : Places → Page → Option Place
 place_in s (Data sid v) = if sid == s.sid then slice_get s.data v else None
 place_in s (Stack sid v) = if sid == s.sid then slice_get s.stack v else None
 place_in s (Text image v) = if image == s.image then slice_get s.text v else None
+
+-- the frame that an entry names, where its page is valid
+abbrev pub entry_frame : Option Place → Option ℕ
+entry_frame (Some place) = usable_frame place
+entry_frame None = None
 
 -- the map after a page of the space took this place
 abbrev pub with_place : Places → Page → Place → Places

@@ -3,12 +3,12 @@ ghost use Rattle.std.specs.Prelude.{◌≡◌, ◌<◌, ◌≤◌, ◌^◌, ◌-
 ghost use Rattle.aout_image.specs.Image.{IsSound};
 ghost use Rattle.vax_pte.specs.Words.{IsInRange};
 ghost use Rattle.vax_pte.specs.declared.Place.TheVariants.{Zero};
-ghost use Rattle.space_map.specs.Space.{first_place, first_places};
+ghost use Rattle.space_map.specs.Space.{first_place, first_places, entry_frame};
 
 use aout_image::Image;
 use std::alloc::Global;
 use std::marker::Model;
-use vax_pte::{Place, Pte, pack, unpack};
+use vax_pte::{Place, Pte, pack, unpack, valid_frame};
 use vm_facts::NoMemory;
 
 /// The entries of a segment's pages, packed. Contracts see the places.
@@ -96,6 +96,14 @@ impl PageTable {
         let word = *self.words.get(v as usize)?;
         let entry = unpack(word)?;
         Some(entry.place)
+    }
+
+    /// The frame of a page, where it is valid.
+    pub fn valid_frame(&self, v: u32) -> Option<u32>
+        ensures { result ≡ entry_frame (slice_get self.now v) }
+    {
+        let word = *self.words.get(v as usize)?;
+        valid_frame(word)
     }
 
     /// Puts a page in its place.

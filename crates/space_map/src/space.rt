@@ -1,9 +1,9 @@
 // The map itself, over the tables of its three segments.
-ghost use Rattle.std.specs.Prelude.{◌≡◌, ◌≤◌, true, false, length, replicate, IfOk, IsOk, OnOk, OnErr, IsSome};
+ghost use Rattle.std.specs.Prelude.{◌≡◌, ◌≤◌, true, false, length, replicate, IfOk, IsOk, OnOk, OnErr, IsSome, is_some, slice_get};
 ghost use Rattle.aout_image.specs.Image.{IsSound, text_pages_of};
 ghost use Rattle.vax_pte.specs.Words.{IsInRange};
 ghost use Rattle.vax_pte.specs.declared.Place.TheVariants.{Zero};
-ghost use Rattle.space_map.specs.Space.{first_places, resized, place_in, with_place};
+ghost use Rattle.space_map.specs.Space.{first_places, resized, place_in, entry_frame, with_place};
 
 use crate::page_table::PageTable;
 use aout_image::Image;
@@ -117,6 +117,17 @@ impl SpaceMap {
         self.stack.len()
     }
 
+    /// Whether a page is of this space.
+    pub fn has(&self, page: Page) -> bool
+        ensures { result ≡ is_some (place_in self.now page) }
+    {
+        match page {
+            Page::Data { sid, v } => sid == self.sid && v < self.data.len(),
+            Page::Stack { sid, v } => sid == self.sid && v < self.stack.len(),
+            Page::Text { image, v } => image == self.image && v < self.text.len(),
+        }
+    }
+
     /// Where a page is; `None` exactly where the page isn't of this space.
     pub fn place(&self, page: Page) -> Option<Place>
         ensures { result ≡ place_in self.now page }
@@ -127,6 +138,27 @@ impl SpaceMap {
             Page::Text { image, v } if image == self.image => self.text.get(v),
             _ => None,
         }
+    }
+
+    /// The frame of a text page, where it is valid.
+    pub fn text_frame(&self, v: u32) -> Option<u32>
+        ensures { result ≡ entry_frame (slice_get self.now.text v) }
+    {
+        self.text.valid_frame(v)
+    }
+
+    /// The frame of a data page, where it is valid.
+    pub fn data_frame(&self, v: u32) -> Option<u32>
+        ensures { result ≡ entry_frame (slice_get self.now.«data» v) }
+    {
+        self.data.valid_frame(v)
+    }
+
+    /// The frame of a stack page, where it is valid.
+    pub fn stack_frame(&self, v: u32) -> Option<u32>
+        ensures { result ≡ entry_frame (slice_get self.now.stack v) }
+    {
+        self.stack.valid_frame(v)
     }
 
     /// Puts a page of this space in its place.

@@ -1,4 +1,5 @@
 ghost use Rattle.aout_image.specs.Image.{IsSound};
+ghost use Rattle.vax_pte.specs.Words.{IsInRange};
 
 use super::*;
 use aout_image::{Image, Kind};
@@ -15,6 +16,17 @@ fn three_pages() -> Image
         data_len: 1024,
         bss_len: 1024,
         entry: 0,
+    }
+}
+
+// A page in frame 5, unchanged.
+fn in_frame_5(valid: bool) -> Place
+    ensures { IsInRange result }
+{
+    Place::Frame {
+        f: 5,
+        valid,
+        changed: false,
     }
 }
 
@@ -42,4 +54,24 @@ fn a_page_that_was_dropped_comes_back_as_zeros(rt: HostRuntime) {
     assert_eq!(rt; map.resize(2, 1), Ok(()));
     assert_eq!(rt; map.place(first), Some(Place::Swap));
     assert_eq!(rt; map.place(second), Some(Place::Zero));
+}
+
+#[test]
+fn a_frame_is_shown_while_its_page_is_valid(rt: HostRuntime) {
+    let mut map = SpaceMap::new(rt.alloc(), 7, 1, three_pages(), 2, 1).expect(
+        &rt,
+        "memory for a map",
+    );
+    assert_eq!(rt; map.text_frame(0), None);
+    assert_eq!(rt; map.data_frame(1), None);
+    assert_eq!(rt; map.stack_frame(0), None);
+    let page = Page::Data { sid: 7, v: 1 };
+    assert!(rt; map.has(page));
+    map.set_place(page, in_frame_5(true));
+    assert_eq!(rt; map.data_frame(1), Some(5));
+    assert!(rt; map.has(page));
+    map.set_place(page, in_frame_5(false));
+    assert_eq!(rt; map.data_frame(1), None);
+    assert_eq!(rt; map.data_frame(2), None);
+    assert!(rt; !map.has(Page::Data { sid: 7, v: 2 }));
 }
