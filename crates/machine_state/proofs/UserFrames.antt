@@ -1,9 +1,11 @@
 -- The frames of a space's own pages.
 use Rattle.std.proofs.Common.{◌≡◌, inl, inr, ◌⊎◌, ℕ, zero, suc, ◌+◌, ◌*◌, ◌^◌, ◌<◌, ◌≤◌, ◌==◌, Bool, true, false, cond, IsTrue, List, [], ◌∷◌, length, map, get_or, Option, Some, None, slice_get, option_map, refl, sym, ap, ◌∙◌, subst, arith}
+use Rattle.std.specs.Prelude.{IfSome}
 use Rattle.std.proofs.lemmas.List.{get_or_past}
 use Rattle.vm_facts.specs.declared.page.Page.{Page}
 use Rattle.vm_facts.specs.declared.page.Page.TheVariants.{Data, Stack, Text}
-use Rattle.vm_facts.specs.declared.page.PageState.TheVariants.{Valid}
+use Rattle.vm_facts.specs.declared.page.PageState.{PageState}
+use Rattle.vm_facts.specs.declared.page.PageState.TheVariants.{Unfilled, Valid, Invalid, Coming, Going, OnSwap}
 use Rattle.vm_facts.specs.declared.entry.Entry.{Entry}
 use Rattle.vax_pte.specs.declared.Place.{Place}
 use Rattle.vax_pte.specs.declared.Place.TheVariants as places
@@ -12,7 +14,7 @@ use Rattle.aout_image.specs.Image.{text_pages_of}
 use Rattle.core_map.specs.declared.slot.Slot.{Slot as Token}
 use Rattle.core_map.specs.Slots.{slot_at, is_resident, token_of, IsWhole}
 use Rattle.core_map.specs.Frames.{IsSound}
-use Rattle.space_map.specs.Space.{Places, place_in}
+use Rattle.space_map.specs.Space.{Places, place_in, entry_frame}
 use Rattle.flat_state.specs.Numbers.{IsAbsent, AllDistinct}
 use Rattle.page_model.specs.Pages.{Slot, SpacePages, numbered, no_slot, data_in, stack_in}
 use Rattle.page_model.specs.Placement.{Placement, space_number, image_of, image_in, state_of, slots_of, slot_of}
@@ -26,8 +28,8 @@ use Rattle.machine_state.specs.Rising.{sids_of, AreRising, IsHome}
 use Rattle.machine_state.specs.Alike.{EachSpace, IsLikeFirst, IsFilled, facts_in}
 use Rattle.machine_state.specs.Known.{Known}
 use Rattle.machine_state.specs.Machine.{Stands, lists_of, kernel_by}
-use Rattle.machine_state.specs.UserMemory.{bytes_of, text_len, data_len, stack_len, IsLaidOut, HasLengths, valid_frame, entry_frame, IsOwnPage, IsHeld}
-use Rattle.machine_state.proofs.Entries.{text_hit}
+use Rattle.machine_state.specs.UserMemory.{bytes_of, text_len, data_len, stack_len, IsLaidOut, HasLengths, valid_frame, NamesFrames, IsOwnPage, IsHeld}
+use Rattle.machine_state.proofs.Entries.{data_hit, stack_hit, text_hit}
 use Rattle.machine_state.proofs.Shows.{slot_or, data_shown, stack_shown, texts_shown, text_length, text_at, text_within, sids_shown}
 use Rattle.machine_state.proofs.Rising.{found_none, found_here, found_entry, data_of_space, stack_of_space}
 use Rattle.machine_state.proofs.Held.{bytes_at, flown_numbers}
@@ -147,24 +149,31 @@ module _ (t : Lists) (i : ℕ) (s : Places) (k : Known t) (rising : AreRising (s
         ∙ sym (ap (λ (y : Slot). valid_frame y.state) (gone image v (below_or_past v (length (slots_of (placement_of t) (Text image v)))) (λ l. absurd (let w : v < pages_in 1 image t.facts = text_within t image v l in omega arith))))
   ]
 
-  pub own_frame : (q : Page) → length s.text ≡ text_pages_of s.facts → IsOwnPage (placement_of t) i q → entry_frame (place_in s q) ≡ valid_frame (state_of (placement_of t) q)
-  own_frame (Data n v) whole own =
-      let same : n ≡ s.sid = own_number n own in
+  data_frame : (v : ℕ) → entry_frame (slice_get s.data v) ≡ valid_frame (state_of (placement_of t) (Data s.sid v))
+  data_frame v =
       let entry : entry_in t.spaces (Data s.sid v) ≡ place_in s (Data s.sid v) = found_entry (Data s.sid v) s.sid (data_of_space s.sid v) t.spaces s rising found in
-      subst (λ (m : ℕ). entry_frame (place_in s (Data m v)) ≡ valid_frame (state_of (placement_of t) (Data m v))) (sym same)
-      (ap entry_frame (sym entry) ∙ sym (slot_frame t.slots (entry_in t.spaces (Data s.sid v))) ∙ sym (ap (λ (y : Slot). valid_frame y.state) (data_shown t.slots t.spaces s.sid v k.differ)))
-  own_frame (Stack n v) whole own =
-      let same : n ≡ s.sid = own_number n own in
+      ap entry_frame (sym (entry ∙ data_hit s s.sid v refl)) ∙ sym (slot_frame t.slots (entry_in t.spaces (Data s.sid v))) ∙ sym (ap (λ (y : Slot). valid_frame y.state) (data_shown t.slots t.spaces s.sid v k.differ))
+
+  stack_frame : (v : ℕ) → entry_frame (slice_get s.stack v) ≡ valid_frame (state_of (placement_of t) (Stack s.sid v))
+  stack_frame v =
       let entry : entry_in t.spaces (Stack s.sid v) ≡ place_in s (Stack s.sid v) = found_entry (Stack s.sid v) s.sid (stack_of_space s.sid v) t.spaces s rising found in
-      subst (λ (m : ℕ). entry_frame (place_in s (Stack m v)) ≡ valid_frame (state_of (placement_of t) (Stack m v))) (sym same)
-      (ap entry_frame (sym entry) ∙ sym (slot_frame t.slots (entry_in t.spaces (Stack s.sid v))) ∙ sym (ap (λ (y : Slot). valid_frame y.state) (stack_shown t.slots t.spaces s.sid v k.differ)))
-  own_frame (Text image v) whole own = text_frame image v (some_number image s.image (sym own ∙ at_image t.slots t.spaces i s at)) whole
+      ap entry_frame (sym (entry ∙ stack_hit s s.sid v refl)) ∙ sym (slot_frame t.slots (entry_in t.spaces (Stack s.sid v))) ∙ sym (ap (λ (y : Slot). valid_frame y.state) (stack_shown t.slots t.spaces s.sid v k.differ))
 
   shown : numbered space_number s.sid (placement_of t).spaces ≡ Some (space_shown t.slots s)
   shown = numbered_shown t.slots t.spaces s.sid ∙ ap (option_map (space_shown t.slots)) found
 
   image_shown : image_of (placement_of t) s.sid ≡ s.image
   image_shown = ap image_in shown
+
+  pub names_frames : (sid : ℕ) → length s.text ≡ text_pages_of s.facts → slice_get (map space_number (placement_of t).spaces) i ≡ Some sid → NamesFrames (placement_of t) sid s
+  names_frames sid whole number =
+      let image : ℕ = image_of (placement_of t) s.sid in
+      subst (λ (n : ℕ). NamesFrames (placement_of t) n s) (sym (own_number sid number))
+      (record {
+        text = λ v. ap entry_frame (sym (text_hit s image v image_shown)) ∙ text_frame image v image_shown whole;
+        «data» = data_frame;
+        stack = stack_frame;
+      })
 
   text_shown : text_len (placement_of t) s.sid ≡ 1024 * text_pages_of s.facts
   text_shown =
@@ -194,20 +203,31 @@ get_below [] i x e = absurd cc
 get_below (y ∷ ys) zero x e = omega arith
 get_below (y ∷ ys) (suc i) x e = let h = get_below ys i x e in omega arith
 
-own_below : (t : Lists) (i : ℕ) (q : Page) → IsOwnPage (placement_of t) i q → i < length (placement_of t).spaces
-own_below t i (Data n v) own = let h = get_below (map space_number (placement_of t).spaces) i n own in let l = map_length space_number (placement_of t).spaces in omega arith
-own_below t i (Stack n v) own = let h = get_below (map space_number (placement_of t).spaces) i n own in let l = map_length space_number (placement_of t).spaces in omega arith
-own_below t i (Text n v) own = let h = get_below (map (λ (s : SpacePages). s.image) (placement_of t).spaces) i n own in let l = map_length (λ (s : SpacePages). s.image) (placement_of t).spaces in omega arith
+-- each number is that of a space
+pub number_below : (p : Placement) (i sid : ℕ) → slice_get (map space_number p.spaces) i ≡ Some sid → i < length p.spaces
+number_below p i sid e = let h = get_below (map space_number p.spaces) i sid e in let l = map_length space_number p.spaces in omega arith
 
-pub own_index : (t : Lists) (i : ℕ) (q : Page) → IsOwnPage (placement_of t) i q → i < length t.spaces
-own_index t i q own = let h = own_below t i q own in let l = map_length (space_shown t.slots) t.spaces in omega arith
+pub space_below : (t : Lists) (i : ℕ) → i < length (placement_of t).spaces → i < length t.spaces
+space_below t i h = let l = map_length (space_shown t.slots) t.spaces in omega arith
 
 pub own_home : (t : Lists) (i : ℕ) (q : Page) → IsWritable q → IsOwnPage (placement_of t) i q → IsHome t.spaces i q
-own_home t i (Data n v) w own = record { sid = n; named = refl; stands = record { in_range = own_index t i (Data n v) own; number = ap (λ (ns : List ℕ). slice_get ns i) (sym (sids_shown t.slots t.spaces)) ∙ own } }
-own_home t i (Stack n v) w own = record { sid = n; named = refl; stands = record { in_range = own_index t i (Stack n v) own; number = ap (λ (ns : List ℕ). slice_get ns i) (sym (sids_shown t.slots t.spaces)) ∙ own } }
+own_home t i (Data n v) w own = record { sid = n; named = refl; stands = record { in_range = space_below t i (number_below (placement_of t) i n own); number = ap (λ (ns : List ℕ). slice_get ns i) (sym (sids_shown t.slots t.spaces)) ∙ own } }
+own_home t i (Stack n v) w own = record { sid = n; named = refl; stands = record { in_range = space_below t i (number_below (placement_of t) i n own); number = ap (λ (ns : List ℕ). slice_get ns i) (sym (sids_shown t.slots t.spaces)) ∙ own } }
 own_home t i (Text n v) w own = absurd w
 
 -- Bytes.
+
+held_by : (p : Placement) (q : Page) (s : PageState) → state_of p q ≡ s → IfSome (valid_frame s) (IsHeld p)
+held_by p q Unfilled e = tt
+held_by p q (Valid f) e = record { page = q; valid = e }
+held_by p q (Invalid f) e = tt
+held_by p q (Coming f) e = tt
+held_by p q (Going f) e = tt
+held_by p q OnSwap e = tt
+
+-- the frame of a valid page is held
+pub held_frame : (p : Placement) (q : Page) (frame : Option ℕ) → frame ≡ valid_frame (state_of p q) → IfSome frame (IsHeld p)
+held_frame p q frame e = subst (λ (o : Option ℕ). IfSome o (IsHeld p)) (sym e) (held_by p q (state_of p q) refl)
 
 pub held_resident : (t : Lists) (f : ℕ) → Known t → IsHeld (placement_of t) f → IsTrue (is_resident (slot_at t.slots f))
 held_resident t f k h = let i = in_frame t h.page f k h.valid in subst (λ (s : Token). IsTrue (is_resident s)) (sym i.resident) refl

@@ -1,5 +1,5 @@
 -- The memory of a space, as the frames of its valid pages have it.
-use Rattle.std.specs.Prelude.{◌≡◌, ℕ, ◌+◌, ◌*◌, ◌/◌, ◌%◌, ◌^◌, ◌<◌, ◌≤◌, true, false, List, [], ◌∷◌, length, map, Option, Some, None, slice_get, slice_index}
+use Rattle.std.specs.Prelude.{◌≡◌, ℕ, ◌+◌, ◌*◌, ◌/◌, ◌%◌, ◌^◌, ◌<◌, ◌≤◌, false, List, [], ◌∷◌, length, map, Option, Some, None, slice_get, slice_index}
 use Rattle.vm_facts.specs.Answers.{Answers, ByteWrite}
 use Rattle.vm_facts.specs.declared.memory.ByteRead.{ByteRead}
 use Rattle.vm_facts.specs.declared.memory.ByteRead.TheVariants as reads
@@ -9,10 +9,8 @@ use Rattle.vm_facts.specs.declared.page.Page.{Page}
 use Rattle.vm_facts.specs.declared.page.Page.TheVariants as pages
 use Rattle.vm_facts.specs.declared.page.PageState.{PageState}
 use Rattle.vm_facts.specs.declared.page.PageState.TheVariants.{Valid}
-use Rattle.vax_pte.specs.declared.Place.{Place}
-use Rattle.vax_pte.specs.declared.Place.TheVariants as places
 use Rattle.aout_image.specs.Image.{text_pages_of}
-use Rattle.space_map.specs.Space.{Places}
+use Rattle.space_map.specs.Space.{Places, entry_frame}
 use Rattle.flat_state.specs.declared.spot.Spot.{Spot}
 use Rattle.flat_state.specs.declared.spot.Spot.TheVariants.{Text, Data, Stack, Below, Outside}
 use Rattle.flat_state.specs.Space.{spot_at}
@@ -137,10 +135,11 @@ abbrev pub valid_frame : PageState → Option ℕ
 valid_frame (Valid f) = Some f
 valid_frame _ = None
 
--- the frame that an entry names, where its page is valid
-abbrev pub entry_frame : Option Place → Option ℕ
-entry_frame (Some (places.Frame f true changed)) = Some f
-entry_frame _ = None
+-- the entries of a space, and of its text, name the frames of its valid pages
+pub record NamesFrames (p : Placement) (sid : ℕ) (space : Places) : Type 0 where
+  pub text : (v : ℕ) → entry_frame (slice_get space.text v) ≡ valid_frame (state_of p (pages.Text (image_of p sid) v))
+  pub «data» : (v : ℕ) → entry_frame (slice_get space.data v) ≡ valid_frame (state_of p (pages.Data sid v))
+  pub stack : (v : ℕ) → entry_frame (slice_get space.stack v) ≡ valid_frame (state_of p (pages.Stack sid v))
 
 -- the page is of the space that stands at this place among all, or of the text that it shares
 abbrev pub IsOwnPage : Placement → ℕ → Page → Type 0

@@ -51,7 +51,7 @@ fn set_place(space: &mut SpaceMap, page: Page, place: Place)
     requires { IsInRange place }
     ensures { space.new ≡ placed page place space.old }
 {
-    if space.place(page).is_some() {
+    if space.has(page) {
         space.set_place(page, place);
     }
 }

@@ -1,18 +1,20 @@
 //! The memory of one process, as an instruction meets it: the bytes of the frames of its valid pages.
-ghost use Rattle.std.specs.Prelude.{◌≡◌, ◌<◌, ◌/◌, false, length, slice_index};
+ghost use Rattle.std.specs.Prelude.{◌≡◌, ℕ, ◌<◌, ◌/◌, false, length, map, Some, IfSome, slice_get, slice_index};
+ghost use Rattle.vm_facts.specs.declared.page.Page.{Page};
+ghost use Rattle.vm_facts.specs.declared.page.PageState.{PageState};
 ghost use Rattle.vm_facts.specs.declared.page.PageState.TheVariants.{Valid};
 ghost use Rattle.vm_facts.specs.declared.page.Page.TheVariants.{Text as TextPage, Data as DataPage, Stack as StackPage};
-ghost use Rattle.page_model.specs.Placement.{state_of, image_of};
+ghost use Rattle.page_model.specs.Placement.{space_number, state_of, image_of};
 ghost use Rattle.page_model.specs.PageBytes.{IsWritable};
 ghost use Rattle.page_model.specs.Ownership.{OwnsFrames};
 ghost use Rattle.kernel_model.specs.Kernel.{frame_bytes, write_step, HoldsSpace};
 ghost use Rattle.machine_state.specs.Calls.{life_in};
-ghost use Rattle.machine_state.specs.UserMemory.{spot_in, page_in, read_page, valid_frame, entry_frame, may_write_by, IsOwnPage, IsLaidOut, HasLengths, CanLend, IsHeld, AreWhole, WrotePage};
+ghost use Rattle.machine_state.specs.UserMemory.{spot_in, page_in, read_page, valid_frame, may_write_by, NamesFrames, IsOwnPage, IsLaidOut, HasLengths, CanLend, IsHeld, AreWhole, WrotePage};
 
 use crate::machine::Machine;
 use crate::spaces::Spaces;
 use flat_state::{PAGE, Spot, locate};
-use vax_pte::Place;
+use space_map::SpaceMap;
 use vm_facts::{ByteRead, MayWrite, Memory, Page};
 
 /// Where a space stands among all, and what its addresses name: the lengths of its segments are in bytes.
@@ -52,27 +54,27 @@ fn layout_at(spaces: &Spaces, index: usize, sid: u32) -> Layout
     }
 }
 
-// The frame that an entry names, where its page is valid.
-fn frame_if_valid(entry: Option<Place>) -> Option<u32>
-    ensures { result ≡ entry_frame entry }
+// Whether a byte may be written, by the frame of its page where that is valid.
+fn may_write_in(frame: Option<u32>) -> MayWrite
+    ensures { (state : PageState) → frame ≡ valid_frame state → result ≡ may_write_by state }
 {
-    match entry {
-        Some(Place::Frame { f, valid: true, .. }) => Some(f),
-        _ => None,
+    match frame {
+        Some(_) => MayWrite::May,
+        None => MayWrite::Miss,
     }
 }
 
 impl Machine {
-    // The frame of a page of the space that stands at `index`, or of its text, where the page is valid.
-    fn valid_frame(&self, index: usize, page: Page) -> Option<u32>
+    // The entries of the space that stands at `index`, and of its text.
+    fn space_at(&self, index: usize) -> &SpaceMap
         requires running { self.now.kernel.stopped ≡ false }
-        requires own { IsOwnPage self.now.kernel.place index page }
-        ensures { result ≡ valid_frame (state_of self.now.kernel.place page) }
+        requires within { index < length self.now.kernel.place.spaces }
+        ensures { (sid : ℕ) → slice_get (map space_number self.now.kernel.place.spaces) index ≡ Some sid → NamesFrames self.now.kernel.place sid result.now }
     {
         let _frames = self.tables.core.frames();
         let space = self.tables.spaces.at(index);
         let _pages = space.text_pages();
-        frame_if_valid(space.place(page))
+        space
     }
 
     // A byte of the frame of a valid page.
@@ -189,38 +191,58 @@ impl SpaceMemory<'_> {
         }
     }
 
-    // A byte of a page.
-    fn read_page(&self, page: Page, at: u32) -> ByteRead
-        requires own { IsOwnPage self.now.machine.now.kernel.place self.now.layout.index page }
-        requires within { at < 1024 }
-        ensures { result ≡ read_page self.now.machine.now.kernel page at }
+    // The space itself, by its entries.
+    fn space(&self) -> &SpaceMap
+        ensures { NamesFrames self.now.machine.now.kernel.place self.now.layout.sid result.now }
     {
-        match self.machine.valid_frame(self.layout.index, page) {
+        self.machine.space_at(self.layout.index)
+    }
+
+    // The frame of the text page that a byte of the text is in, where the page is valid.
+    fn text_frame(&self, at: u32) -> Option<u32>
+        ensures { result ≡ valid_frame (state_of self.now.machine.now.kernel.place (TextPage (image_of self.now.machine.now.kernel.place self.now.layout.sid) (at / 1024))) }
+    {
+        self.space().text_frame(at / PAGE)
+    }
+
+    // The frame of the data page that a byte of the data is in, where the page is valid.
+    fn data_frame(&self, at: u32) -> Option<u32>
+        ensures { result ≡ valid_frame (state_of self.now.machine.now.kernel.place (DataPage self.now.layout.sid (at / 1024))) }
+    {
+        self.space().data_frame(at / PAGE)
+    }
+
+    // The frame of the stack page that a byte of the stack is in, where the page is valid.
+    fn stack_frame(&self, at: u32) -> Option<u32>
+        ensures { result ≡ valid_frame (state_of self.now.machine.now.kernel.place (StackPage self.now.layout.sid (at / 1024))) }
+    {
+        self.space().stack_frame(at / PAGE)
+    }
+
+    // A byte of a page, by its frame where the page is valid.
+    fn read_frame(&self, frame: Option<u32>, at: u32) -> ByteRead
+        requires held { IfSome frame (IsHeld self.now.machine.now.kernel.place) }
+        requires within { at < 1024 }
+        ensures { (page : Page) → frame ≡ valid_frame (state_of self.now.machine.now.kernel.place page) → result ≡ read_page self.now.machine.now.kernel page at }
+    {
+        match frame {
             Some(frame) => ByteRead::Is(self.machine.frame_byte(frame, at)),
             None => ByteRead::Miss,
         }
     }
 
-    fn may_write_page(&self, page: Page) -> MayWrite
-        requires { IsOwnPage self.now.machine.now.kernel.place self.now.layout.index page }
-        ensures { result ≡ may_write_by (state_of self.now.machine.now.kernel.place page) }
-    {
-        match self.machine.valid_frame(self.layout.index, page) {
-            Some(_) => MayWrite::May,
-            None => MayWrite::Miss,
-        }
-    }
-
-    fn write_page(&mut self, page: Page, at: u32, byte: u8)
+    // A byte of a page is written, by its frame.
+    fn write_page(&mut self, page: Page, frame: Option<u32>, at: u32, byte: u8)
         requires own { IsOwnPage self.old.machine.now.kernel.place self.old.layout.index page }
         requires writable { IsWritable page }
+        requires frame { frame ≡ valid_frame (state_of self.old.machine.now.kernel.place page) }
         requires may { may_write_by (state_of self.old.machine.now.kernel.place page) ≡ MayWrite.May }
         requires within { at < 1024 }
         ensures same_reference { self.new.machine.ghost_name ≡ self.old.machine.ghost_name }
         ensures layout { self.new.layout ≡ self.old.layout }
         ensures wrote { WrotePage self.old.machine.now self.new.machine.now page at byte }
     {
-        match self.machine.valid_frame(self.layout.index, page) {
+        match frame {
             Some(frame) => self
                 .machine
                 .write_byte(self.layout.index, page, frame, at, byte),
@@ -239,9 +261,9 @@ impl Memory for SpaceMemory<'_> {
 
     fn read(&self, address: u32) -> ByteRead {
         match self.spot(address) {
-            Spot::Text(at) => self.read_page(self.text_page(at), at % PAGE),
-            Spot::Data(at) => self.read_page(self.data_page(at), at % PAGE),
-            Spot::Stack(at) => self.read_page(self.stack_page(at), at % PAGE),
+            Spot::Text(at) => self.read_frame(self.text_frame(at), at % PAGE),
+            Spot::Data(at) => self.read_frame(self.data_frame(at), at % PAGE),
+            Spot::Stack(at) => self.read_frame(self.stack_frame(at), at % PAGE),
             Spot::Below => ByteRead::Below,
             Spot::Outside => ByteRead::Outside,
         }
@@ -250,8 +272,8 @@ impl Memory for SpaceMemory<'_> {
     fn may_write(&self, address: u32) -> MayWrite {
         match self.spot(address) {
             Spot::Text(_) => MayWrite::Text,
-            Spot::Data(at) => self.may_write_page(self.data_page(at)),
-            Spot::Stack(at) => self.may_write_page(self.stack_page(at)),
+            Spot::Data(at) => may_write_in(self.data_frame(at)),
+            Spot::Stack(at) => may_write_in(self.stack_frame(at)),
             Spot::Below => MayWrite::Below,
             Spot::Outside => MayWrite::Outside,
         }
@@ -259,8 +281,14 @@ impl Memory for SpaceMemory<'_> {
 
     fn write(&mut self, address: u32, byte: u8) {
         match self.spot(address) {
-            Spot::Data(at) => self.write_page(self.data_page(at), at % PAGE, byte),
-            Spot::Stack(at) => self.write_page(self.stack_page(at), at % PAGE, byte),
+            Spot::Data(at) => {
+                let frame = self.data_frame(at);
+                self.write_page(self.data_page(at), frame, at % PAGE, byte)
+            }
+            Spot::Stack(at) => {
+                let frame = self.stack_frame(at);
+                self.write_page(self.stack_page(at), frame, at % PAGE, byte)
+            }
             Spot::Text(_) | Spot::Below | Spot::Outside => unreachable!(),
         }
     }
