@@ -2,6 +2,7 @@
 //! round the number 0, which is no frame: `next[0]` is the first frame and `prev[0]` the last.
 ghost use Rattle.std.specs.Prelude.{◌≡◌, ℕ, ◌+◌, ◌<◌, ◌≤◌, List, [], ◌∷◌, ◌++◌, length, IfOk, IsNone, IfNone, IfSome, ◌↔◌, ◌-◌, ◌^◌};
 ghost use Rattle.core_map.specs.Fresh.{first_frames as first_numbers};
+ghost use Rattle.core_map.specs.Order.{place_from};
 ghost use Rattle.vm_facts.specs.Lists.{times, without};
 
 use std::alloc::{AllocError, Global};
@@ -120,6 +121,20 @@ impl FrameList {
     {
         self.remove(frame);
         self.push_front(frame);
+    }
+
+    /// The place of a frame in the list, from 1 on; 0 where it isn't there.
+    pub fn place(&self, frame: u32) -> u32
+        ensures { result ≡ place_from 1 frame self.now.frames }
+    {
+        let mut at = 0;
+        for before in 0..self.len {
+            at = self.next[at as usize];
+            if at == frame {
+                return before + 1;
+            }
+        }
+        0
     }
 }
 

@@ -2,6 +2,7 @@
 
 ghost use Rattle.std.specs.Prelude.{◌≡◌, ℕ, ◌+◌, ◌<◌, ◌≤◌, List, [], ◌∷◌, ◌++◌, length, slice_set, IsTrue, IfSome, IfNone, IsNone, ◌↔◌, None, Some, is_some, false, IfOk, ◌-◌, ◌^◌};
 ghost use Rattle.core_map.specs.Fresh.{first_frames, fresh_slots};
+ghost use Rattle.core_map.specs.Order.{place_from};
 ghost use Rattle.core_map.specs.Frames.{IsAway, IsSound, HoldsNot, TakesHead};
 ghost use Rattle.vm_facts.specs.Lists.{without};
 ghost use Rattle.core_map.specs.Slots.{ShowsOwner, slot_at, is_free, is_resident, is_dirty, owner_of, page_of, token_of, with_byte, with_dirty};
@@ -64,6 +65,13 @@ impl CoreMap {
         ensures { result ≡ length self.now.free }
     {
         self.free.len()
+    }
+
+    /// The place of a frame on the free list, 1 for its head; 0 where the frame isn't free.
+    pub fn free_place(&self, frame: u32) -> u32
+        ensures { result ≡ place_from 1 frame self.now.free }
+    {
+        self.free.place(frame)
     }
 
     /// Takes the frame at the head of the free list, and tells the page that it still held; the map
