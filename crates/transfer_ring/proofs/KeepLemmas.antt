@@ -1,5 +1,5 @@
 -- Lemmas on the slots of the ring.
-use Rattle.std.proofs.Common.{Bool, true, false, ◌||◌, ◌≡◌, ℕ, ◌+◌, ◌<◌, ◌≤◌, List, [], ◌∷◌, ◌++◌, Option, Some, None, length, refl, ap, ap₂, ◌∙◌, sym, subst, inl, inr, arith, set, drop, ◌-◌, slice_get, get_or-set_same, get_or-set_other, length-set}
+use Rattle.std.proofs.Common.{zero, suc, Bool, true, false, ◌||◌, ◌≡◌, ℕ, ◌+◌, ◌<◌, ◌≤◌, List, [], ◌∷◌, ◌++◌, Option, Some, None, length, refl, ap, ap₂, ◌∙◌, sym, subst, inl, inr, arith, set, drop, ◌-◌, slice_get, get_or-set_same, get_or-set_other, length-set}
 use Rattle.std.proofs.lemmas.Bool.{cases_eq, cases_lt, false≢true, or_left}
 use Rattle.std.proofs.lemmas.List.Folds.{list_any-append}
 use Rattle.std.specs.List.{list_any}
@@ -260,3 +260,29 @@ first_part test slots xs ys order e hit = list_any-in_flight test slots xs ys or
 
 pub second_part : (test : Transfer → Bool) (slots : List (Option Transfer)) (xs ys order : List ℕ) → xs ++ ys ≡ order → list_any test (in_flight slots xs) ≡ false → list_any test (in_flight slots order) ≡ list_any test (in_flight slots ys)
 second_part test slots xs ys order e miss = list_any-in_flight test slots xs ys order e ∙ either_false (list_any test (in_flight slots xs)) (list_any test (in_flight slots ys)) miss
+
+get-put_first_zero : (held : Option Transfer) (xs : List Transfer) → 0 < listings held → slice_get (put_first held xs) 0 ≡ held
+get-put_first_zero None xs h = absurd (omega arith)
+get-put_first_zero (Some t) xs h = refl
+
+get-put_first_suc : (held : Option Transfer) (xs : List Transfer) (n : ℕ) → 0 < listings held → slice_get (put_first held xs) (suc n) ≡ slice_get xs n
+get-put_first_suc None xs n h = absurd (omega arith)
+get-put_first_suc (Some t) xs n h = refl
+
+-- where each slot of the order is used, the transfer at a place stands in the slot at that place
+pub get-in_flight : (slots : List (Option Transfer)) (order : List ℕ) (place slot : ℕ) → ((slot : ℕ) → 0 < times slot order → 0 < listings (slot_at slots slot)) → slice_get order place ≡ Some slot → slice_get (in_flight slots order) place ≡ slot_at slots slot
+get-in_flight slots [] place slot used is = absurd (none-some slot is)
+get-in_flight slots (x ∷ rest) zero slot used is =
+    get-put_first_zero (slot_at slots x) (in_flight slots rest) (used x (omega (arith, times_head x rest)))
+    ∙ ap (slot_at slots) (same_Some x slot is)
+get-in_flight slots (x ∷ rest) (suc n) slot used is =
+    get-put_first_suc (slot_at slots x) (in_flight slots rest) n (used x (omega (arith, times_head x rest)))
+    ∙ get-in_flight slots rest n slot (λ s h. used s (grind (arith, nat_tests))) is
+
+-- and past the order's end there is none
+pub get-in_flight_past : (slots : List (Option Transfer)) (order : List ℕ) (place : ℕ) → ((slot : ℕ) → 0 < times slot order → 0 < listings (slot_at slots slot)) → slice_get order place ≡ None → slice_get (in_flight slots order) place ≡ None
+get-in_flight_past slots [] place used is = refl
+get-in_flight_past slots (x ∷ rest) zero used is = absurd (none-some x (sym is))
+get-in_flight_past slots (x ∷ rest) (suc n) used is =
+    get-put_first_suc (slot_at slots x) (in_flight slots rest) n (used x (omega (arith, times_head x rest)))
+    ∙ get-in_flight_past slots rest n (λ s h. used s (grind (arith, nat_tests))) is

@@ -1,5 +1,5 @@
 //! The ring of transfers in flight.
-ghost use Rattle.std.specs.Prelude.{◌≡◌, ℕ, ◌+◌, ◌*◌, ◌<◌, ◌≤◌, ◌∷◌, ◌++◌, [], List, length, drop, slice_get, slice_set, IfOk, IfSome, IsNone, IsSome, Some, None, ◌↔◌};
+ghost use Rattle.std.specs.Prelude.{◌≡◌, ℕ, ◌+◌, ◌*◌, ◌<◌, ◌≤◌, ◌∷◌, ◌++◌, [], List, length, drop, slice_get, slice_set, IfOk, IfSome, IsNone, IsSome, Some, None, option_copied, ◌↔◌};
 ghost use Rattle.std.specs.List.{list_any};
 ghost use Rattle.io_edge.specs.Calls.{KeepsSwap, ReadsPages};
 ghost use Rattle.vm_facts.specs.Swap.{most_in_flight};
@@ -113,6 +113,14 @@ impl TransferRing {
         self.order.len() as u32
     }
 
+    /// The transfer in flight at this place, 0 for the oldest. None where there are not so many.
+    pub fn get(&self, place: u32) -> Option<&Transfer>
+        ensures { option_copied result ≡ slice_get self.now place }
+    {
+        let slot = self.order.get(place as usize)?;
+        in_slot(&self.slots, *slot)
+    }
+
     // Puts a transfer behind those in flight.
     fn begin(&mut self, t: Transfer) -> Begun
         requires { IsFlight t }
@@ -217,6 +225,16 @@ impl TransferRing {
         } = self;
         order.destroy_empty();
         end_slots(slots);
+    }
+}
+
+// The transfer in this slot.
+fn in_slot(slots: &[Option<Transfer>], slot: u32) -> Option<&Transfer>
+    ensures { option_copied result ≡ slot_at slots.now slot }
+{
+    match slots.get(slot as usize) {
+        Some(Some(transfer)) => Some(transfer),
+        _ => None,
     }
 }
 
