@@ -15,6 +15,8 @@ mod transcript_reader;
 mod waiting;
 
 pub use answers::{Schedule, Transcript};
+pub use buffer::OutputBuffer;
+pub use line::{put_named, put_page};
 pub use schedule_reader::read_schedule;
 pub use text::{write_entry, write_text};
 pub use transcript_reader::read_transcript;

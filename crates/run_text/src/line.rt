@@ -73,7 +73,7 @@ fn put_line<S: Sink>(
     put_rest(out, sink, numbers)
 }
 
-// Puts a name and numbers.
+/// Puts a name, and behind it numbers, each behind a space.
 pub fn put_named<S: Sink>(
     out: &mut OutputBuffer,
     sink: &mut S,
@@ -88,8 +88,8 @@ pub fn put_named<S: Sink>(
     put_numbers(out, sink, numbers)
 }
 
-// Puts a page behind a space.
-fn put_page<S: Sink>(out: &mut OutputBuffer, sink: &mut S, page: &Page) -> Result<(), Failed>
+/// Puts a page behind a space: the letter of its segment, its space or image, and its number.
+pub fn put_page<S: Sink>(out: &mut OutputBuffer, sink: &mut S, page: &Page) -> Result<(), Failed>
     ensures leads { S.leads sink.old sink.new }
     ensures puts { Puts result (S.written sink.old) out.old (page_text page.now) (S.written sink.new) out.new }
     ensures faults { CountsErr result (S.faults sink.old) (S.faults sink.new) }
