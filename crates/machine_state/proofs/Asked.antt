@@ -1,6 +1,6 @@
 -- A machine that was asked for pieces of swap space.
 use Rattle.std.proofs.Common.{◌≡◌, ℕ, ◌+◌, ◌-◌, ◌≤◌, Bool, true, false, List, length, take, Result, Ok, Err, refl, sym, ap, ◌∙◌, subst, arith}
-use Rattle.std.specs.Prelude.{is_ok, IfOk, OnOk, OnErr}
+use Rattle.std.specs.Prelude.{is_ok, is_err, IfOk, OnOk, OnErr}
 use Rattle.std.proofs.lemmas.List.{length-append, take-append-le, take_all}
 use Rattle.vm_facts.specs.declared.stop.NoMemory.{NoMemory}
 use Rattle.swap_book.specs.declared.Held.{Held}
@@ -54,54 +54,54 @@ asked_before size old hs ws e =
     let n : length hs - (length hs - length old) ≡ length old = omega (arith, more) in
     ap (λ (k : ℕ). take k hs) n ∙ ap (take (length old)) a.is ∙ take-append-le (length old) old a.pieces (omega arith) ∙ take_all (length old) old (omega arith)
 
+-- where the pieces couldn't be looked for, the book is as before
+pub unlooked : (r : Result Bool NoMemory) (b now : Book) → is_err r ≡ true → OnErr r (now ≡ b) → now ≡ b
+unlooked (Ok fits) b now e h = absurd cc
+unlooked (Err none) b now e h = h
+
 -- Where no pieces are kept, all is as before.
 
-abbrev pub booked : Inside → Book → ℕ → Bool → Inside
-booked m b found stopped = record m { tables = record m.tables { book = b; found = found }; stopped = stopped }
+abbrev pub booked : Inside → Book → ℕ → Inside
+booked m b found = record m { tables = record m.tables { book = b; found = found } }
 
-pub asked_none : (m : Inside) (s : Standing) (b : Book) (stopped : Bool) → RunsInside m → standing_of m ≡ s → s.kernel.stopped ≡ false → b ≡ m.tables.book → stopped ≡ false → RunsNow (booked m b m.tables.found stopped)
-asked_none m s b stopped h e r is now =
-    subst (λ (x : Book). RunsNow (booked m x m.tables.found stopped)) (sym is)
-    (subst (λ (x : Bool). RunsNow (booked m m.tables.book m.tables.found x)) ((ap (λ (x : Standing). x.kernel.stopped) e ∙ r) ∙ sym now) (stands_now m s h e r))
+pub asked_none : (m : Inside) (s : Standing) (b : Book) → RunsInside m → standing_of m ≡ s → s.kernel.stopped ≡ false → b ≡ m.tables.book → RunsNow (booked m b m.tables.found)
+asked_none m s b h e r is = subst (λ (x : Book). RunsNow (booked m x m.tables.found)) (sym is) (stands_now m s h e r)
 
-pub standing_none : (m : Inside) (s : Standing) (b : Book) (stopped : Bool) → standing_of m ≡ s → b ≡ m.tables.book → stopped ≡ m.stopped → standing_of (booked m b m.tables.found stopped) ≡ s
-standing_none m s b stopped e is now =
-    ap (λ (x : Book). standing_of (booked m x m.tables.found stopped)) is ∙ ap (λ (x : Bool). standing_of (booked m m.tables.book m.tables.found x)) now ∙ e
+pub standing_none : (m : Inside) (s : Standing) (b : Book) → standing_of m ≡ s → b ≡ m.tables.book → standing_of (booked m b m.tables.found) ≡ s
+standing_none m s b e is = ap (λ (x : Book). standing_of (booked m x m.tables.found)) is ∙ e
 
 -- Where they are, they stand beside the holdings.
-pub record Asked (m : Inside) (s : Standing) (b : Book) (found : ℕ) (stopped : Bool) (ws : List Wanted) (hs : Holdings) : Type 0 where
+pub record Asked (m : Inside) (s : Standing) (b : Book) (found : ℕ) (ws : List Wanted) (hs : Holdings) : Type 0 where
   pub view_is : standing_of m ≡ s
   pub whole : s.before ≡ s.kernel.holdings
   pub placed : place_all m.tables.book.size m.tables.book.holdings ws ≡ Ok hs
   pub book : b ≡ with_holdings m.tables.book hs
   pub count : found ≡ length b.holdings - length m.tables.book.holdings
-  pub stopped_is : stopped ≡ m.stopped
 
-before_still : (m : Inside) (s : Standing) (b : Book) (found : ℕ) (stopped : Bool) (ws : List Wanted) (hs : Holdings) → Asked m s b found stopped ws hs → take (length b.holdings - found) b.holdings ≡ m.tables.book.holdings
-before_still m s b found stopped ws hs a =
+before_still : (m : Inside) (s : Standing) (b : Book) (found : ℕ) (ws : List Wanted) (hs : Holdings) → Asked m s b found ws hs → take (length b.holdings - found) b.holdings ≡ m.tables.book.holdings
+before_still m s b found ws hs a =
     ap (λ (n : ℕ). take (length b.holdings - n) b.holdings) a.count
     ∙ ap (λ (x : Book). take (length x.holdings - (length x.holdings - length m.tables.book.holdings)) x.holdings) a.book
     ∙ asked_before m.tables.book.size m.tables.book.holdings hs ws a.placed
 
-pub asked_stands : (m : Inside) (s : Standing) (b : Book) (found : ℕ) (stopped : Bool) (ws : List Wanted) (hs : Holdings) → Asked m s b found stopped ws hs → RunsInside m → s.kernel.stopped ≡ false → RunsNow (booked m b found stopped)
-asked_stands m s b found stopped ws hs a h r =
+pub asked_stands : (m : Inside) (s : Standing) (b : Book) (found : ℕ) (ws : List Wanted) (hs : Holdings) → Asked m s b found ws hs → RunsInside m → s.kernel.stopped ≡ false → RunsNow (booked m b found)
+asked_stands m s b found ws hs a h r =
     let n : RunsNow m = stands_now m s h a.view_is r in
     let t : Tables = m.tables in
     let whole : before_of t ≡ t.book.holdings = whole_now m s a.view_is a.whole in
-    let before : before_of t ≡ take (length b.holdings - found) b.holdings = whole ∙ sym (before_still m s b found stopped ws hs a) in
+    let before : before_of t ≡ take (length b.holdings - found) b.holdings = whole ∙ sym (before_still m s b found ws hs a) in
     let size : t.book.size ≡ b.size = ap (λ (x : Book). x.size) (sym a.book) in
     record {
       stands = record {
-        runs = subst (λ (x : ℕ). Runs (record (kernel_by t m.journal.items stopped) { holdings = take (length b.holdings - found) b.holdings }) (lists_of t) x) size
-            (subst (λ (x : Holdings). Runs (record (kernel_by t m.journal.items stopped) { holdings = x }) (lists_of t) t.book.size) before
-            (subst (λ (x : Bool). Runs (record (kernel_by t m.journal.items x) { holdings = before_of t }) (lists_of t) t.book.size) (sym a.stopped_is) n.stands.runs));
+        runs = subst (λ (x : ℕ). Runs (record (kernel_by t m.journal.items m.stopped) { holdings = take (length b.holdings - found) b.holdings }) (lists_of t) x) size
+            (subst (λ (x : Holdings). Runs (record (kernel_by t m.journal.items m.stopped) { holdings = x }) (lists_of t) t.book.size) before n.stands.runs);
         ring = subst (λ (x : ℕ). AreSourced (images_of t) (image_at t) (take (length b.holdings - found) b.holdings) x t.ring) size
             (subst (λ (x : Holdings). AreSourced (images_of t) (image_at t) x t.book.size t.ring) before n.stands.ring);
         within = n.stands.within;
         book = sym size ∙ n.stands.book;
         found = record {
           pieces = ws;
-          found = ap (λ (x : Holdings). place_all b.size x ws) (before_still m s b found stopped ws hs a) ∙ ap (λ (x : ℕ). place_all x t.book.holdings ws) (sym size) ∙ a.placed
+          found = ap (λ (x : Holdings). place_all b.size x ws) (before_still m s b found ws hs a) ∙ ap (λ (x : ℕ). place_all x t.book.holdings ws) (sym size) ∙ a.placed
               ∙ ap (λ (x : Book). let r : Result Holdings ℕ = Ok x.holdings in r) (sym a.book);
         };
         records = n.stands.records;
@@ -112,13 +112,12 @@ asked_stands m s b found stopped ws hs a h r =
       room = n.room;
     }
 
-pub asked_standing : (m : Inside) (s : Standing) (b : Book) (found : ℕ) (stopped : Bool) (ws : List Wanted) (hs : Holdings) → Asked m s b found stopped ws hs
-    → standing_of (booked m b found stopped) ≡ record (standing_of m) { kernel = record (standing_of m).kernel { holdings = hs } }
-asked_standing m s b found stopped ws hs a =
+pub asked_standing : (m : Inside) (s : Standing) (b : Book) (found : ℕ) (ws : List Wanted) (hs : Holdings) → Asked m s b found ws hs
+    → standing_of (booked m b found) ≡ record (standing_of m) { kernel = record (standing_of m).kernel { holdings = hs } }
+asked_standing m s b found ws hs a =
     let t : Tables = m.tables in
     let whole : before_of t ≡ t.book.holdings = whole_now m s a.view_is a.whole in
-    let before : take (length b.holdings - found) b.holdings ≡ before_of t = before_still m s b found stopped ws hs a ∙ sym whole in
+    let before : take (length b.holdings - found) b.holdings ≡ before_of t = before_still m s b found ws hs a ∙ sym whole in
     let k : Kernel = record (kernel_by t m.journal.items m.stopped) { holdings = hs } in
-    ap (λ (x : Bool). record (standing_of m) { kernel = record (kernel_by t m.journal.items x) { holdings = b.holdings }; before = take (length b.holdings - found) b.holdings }) a.stopped_is
-    ∙ ap (λ (x : Book). record (standing_of m) { kernel = record (kernel_by t m.journal.items m.stopped) { holdings = x.holdings }; before = take (length b.holdings - found) b.holdings }) a.book
+    ap (λ (x : Book). record (standing_of m) { kernel = record (kernel_by t m.journal.items m.stopped) { holdings = x.holdings }; before = take (length b.holdings - found) b.holdings }) a.book
     ∙ ap (λ (x : Holdings). record (standing_of m) { kernel = k; before = x }) before

@@ -86,6 +86,7 @@ pub mod ForkedSpaces
 pub mod Puttings
 pub mod MovesOn
 pub mod Joins
+pub mod InFlight
 pub mod Instructions
 pub mod Sharers
 pub mod Removed

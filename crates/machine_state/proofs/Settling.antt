@@ -93,10 +93,10 @@ err_same : (s t : Stop) → (let r : Result Bool Stop = Err s in r) ≡ Err t �
 err_same s t e = cc
 
 pub stopped_first : (sid : ℕ) (old new : Standing) (holds : Option (List NamedFile)) (i j : Option (List ℕ)) (stop : Stop) → is_settled old.kernel.place sid ≡ false
-    → HasStopped old new → StopsFor (Err stop) old.kernel.place.transfers
+    → HasStopped old new → old.before ≡ old.kernel.holdings → StopsFor (Err stop) old.kernel.place.transfers
     → (((let r : Result Bool Stop = Err stop in r) ≡ Err stops.JournalFull) ↔ ((0 < length old.kernel.place.transfers) × (old.params.journal ≤ length old.kernel.journal)))
     → SwapAfter (Err stop) old.kernel i j → StopsSettling sid old new holds i j stop
-stopped_first sid old new holds i j stop u s c full a = record {
+stopped_first sid old new holds i j stop u s w c full a = record {
   count = 0;
   between = old;
   image = i;
@@ -105,6 +105,7 @@ stopped_first sid old new holds i j stop u s c full a = record {
   unsettled = u;
   stops = record {
     stopped = s;
+    whole = w;
     full = (
       (λ h. full.0 (ap (λ (t : Stop). let r : Result Bool Stop = Err t in r) h)),
       (λ h. err_same stop stops.JournalFull (full.1 h)),

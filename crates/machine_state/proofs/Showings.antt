@@ -1,5 +1,5 @@
 -- The core map and the entries of a space show the placement.
-use Rattle.std.proofs.Common.{◌≡◌, ◌⊎◌, inl, inr, ℕ, ◌<◌, ◌≤◌, Bool, true, false, ltb, IsSome, length, slice_get, option_map, Option, Some, None, refl, sym, ap, ◌∙◌, subst, arith}
+use Rattle.std.proofs.Common.{◌≡◌, ◌≢◌, ◌⊎◌, inl, inr, ℕ, ◌<◌, ◌≤◌, Bool, true, false, ltb, IsSome, length, slice_get, option_map, Option, Some, None, refl, sym, ap, ◌∙◌, subst, arith}
 use Rattle.std.proofs.lemmas.Bool.Decides.{nat_tests}
 use Rattle.std.proofs.lemmas.Option.{same_Some}
 use Rattle.vm_facts.specs.declared.page.Page.{Page}
@@ -9,6 +9,7 @@ use Rattle.vm_facts.specs.Lists.{times}
 use Rattle.vax_pte.specs.declared.Place.{Place}
 use Rattle.vax_pte.specs.declared.Place.TheVariants as places
 use Rattle.aout_image.specs.Image.{text_pages_of}
+use Rattle.frame_state.specs.Frame.{Frame}
 use Rattle.core_map.specs.declared.slot.Slot.{Slot as Token}
 use Rattle.core_map.specs.declared.slot.Slot.TheVariants as tokens
 use Rattle.core_map.specs.Slots.{slot_at, listings}
@@ -29,7 +30,7 @@ use Rattle.machine_state.specs.Alike.{IsLikeFirst, IsFilled}
 use Rattle.machine_state.specs.Rising.{sids_of, AreRising}
 use Rattle.machine_state.specs.PlaceOf.{text_if, place_of}
 use Rattle.machine_state.specs.Showing.{ShowsCore}
-use Rattle.machine_state.proofs.Held.{held_at, not_flown, holds_length}
+use Rattle.machine_state.proofs.Held.{held_at, above_zero, below_length, not_flown, holds_length}
 use Rattle.machine_state.proofs.Dirty.{dirty_is}
 use Rattle.machine_state.proofs.Residing.{Resides, resides, resides_seat}
 use Rattle.machine_state.proofs.Rising.{found_entry, data_of_space, stack_of_space, found_here}
@@ -63,11 +64,18 @@ away_is t f k w tokens.Away e = elim (zero_or (times f (flying (parts_of t.trans
   | inr l ↦ some_moves (times f (flying (parts_of t.transfers))) l
 ]
 
+-- a free frame has its page in the placement too
+free_page : (t : Lists) → Known t → (f : ℕ) (token : Frame) (page : Option Page) → slot_at t.slots f ≡ tokens.Free token page → page_of (placement_of t) f ≡ page
+free_page t k f token page e =
+    let there : slot_at t.slots f ≢ tokens.Away = λ away. let clash : tokens.Free token page ≡ tokens.Away = sym e ∙ away in absurd cc in
+    held_at t f (above_zero t.free t.slots f k.core there) (below_length t.slots f there) ∙ ap (λ (s : Token). page_by s (flown_at t.flown f)) e
+
 pub core_shows : (t : Lists) → Known t → ShowsCore (placement_of t) (record { free = t.free; slots = t.slots })
 core_shows t k = record {
   frames = (let l = holds_length t in let some = k.core.has_none in omega arith);
   free = refl;
   listed = k.core.listed;
+  still = free_page t k;
   away = λ f w. away_is t f k w (slot_at t.slots f) refl;
   kept = λ f token q mark e.
       let r : Resides t q f = resides t q f token mark k e in

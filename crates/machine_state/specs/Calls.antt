@@ -6,7 +6,7 @@ use Rattle.vm_facts.specs.declared.entry.Entry.{Entry}
 use Rattle.vm_facts.specs.declared.entry.Entry.TheVariants as entries
 use Rattle.flat_state.specs.PageNames.{number_of, pages_from}
 use Rattle.page_model.specs.Pages.{numbered}
-use Rattle.page_model.specs.Placement.{Placement, Due, CopyOf, due_page, state_of, is_dirty, IsThere}
+use Rattle.page_model.specs.Placement.{Placement, Due, Start, CopyOf, due_page, state_of, is_dirty, IsThere}
 use Rattle.page_model.specs.PageBytes.{IsWritable}
 use Rattle.page_model.specs.Conditions.{EachPage, HasSeat}
 use Rattle.page_model.specs.Runs.{Run}
@@ -21,6 +21,14 @@ use Rattle.kernel_model.specs.ChangeStep.{life_of_proc}
 abbrev pub first_due : List Due → Option Page
 first_due [] = None
 first_due (d ∷ ds) = Some (due_page d)
+
+-- the parent's page, where the page that is due is to be copied from it
+abbrev pub due_parent : Due → Option Page
+due_parent (Start q) = None
+due_parent (CopyOf q parent) = Some parent
+
+abbrev pub due_and_parent : Due → Page × Option Page
+due_and_parent d = (due_page d, due_parent d)
 
 -- a child's page that is due first, whose parent's page is valid, and a frame for it
 pub record CanCopy (p : Placement) (child parent : Page) : Type 0 where

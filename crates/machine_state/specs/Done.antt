@@ -120,10 +120,11 @@ abbrev pub SwapAfter : Result Bool Stop → Kernel → Option (List ℕ) → Opt
 SwapAfter (Err stops.SwapWriteFault) k before after = SpoilsAfter k before after
 SwapAfter _ k before after = after ≡ before
 
--- The end of the oldest transfer stops the machine: the journal was full exactly where it was at its bound, a fault comes of a
--- transfer of its own kind, and only a write that failed changes the swap image.
+-- The end of the oldest transfer stops the machine, in which no pieces wait: the journal was full exactly where it was at its
+-- bound, a fault comes of a transfer of its own kind, and only a write that failed changes the swap image.
 pub record StopsEnding (old new : Standing) (before after : Option (List ℕ)) (stop : Stop) : Type 0 where
   pub stopped : HasStopped old new
+  pub whole : old.before ≡ old.kernel.holdings
   pub full : (stop ≡ stops.JournalFull) ↔ ((0 < length old.kernel.place.transfers) × (old.params.journal ≤ length old.kernel.journal))
   pub cause : let r : Result Bool Stop = Err stop in StopsFor r old.kernel.place.transfers
   pub image : let r : Result Bool Stop = Err stop in SwapAfter r old.kernel before after

@@ -1,13 +1,15 @@
 //! What the machine tells of its tables.
-ghost use Rattle.std.specs.Prelude.{◌≡◌, ◌↔◌, false, length, map, IsSome, IfSome};
+ghost use Rattle.std.specs.Prelude.{◌≡◌, ◌↔◌, false, length, map, IsSome, IfSome, slice_get, option_copied, option_map};
 ghost use Rattle.core_map.specs.Frames.{Frames};
 ghost use Rattle.table_view.specs.Views.{ShowsSpace};
 ghost use Rattle.kernel_model.specs.Asks.{HasSpace};
 ghost use Rattle.proc_table.specs.Records.{Lowest};
 ghost use Rattle.page_model.specs.Placement.{image_of, parts_of};
 ghost use Rattle.machine_state.specs.Machine.{image_shown};
-ghost use Rattle.machine_state.specs.Calls.{first_due};
+ghost use Rattle.machine_state.specs.Calls.{first_due, due_and_parent};
 ghost use Rattle.machine_state.specs.Sharing.{IsSharer};
+ghost use Rattle.machine_state.specs.Sourced.{IsFlightSourced};
+ghost use Rattle.machine_state.specs.View.{transfer_shown};
 ghost use Rattle.machine_state.specs.Showing.{ShowsCore};
 
 use crate::machine::Machine;
@@ -15,6 +17,7 @@ use crate::named::Named;
 use core_map::CoreMap;
 use space_map::SpaceMap;
 use swap_book::Held;
+use transfer_ring::Transfer;
 use vm_facts::{Page, Params};
 
 impl Machine {
@@ -23,6 +26,15 @@ impl Machine {
         ensures { result ≡ length self.now.kernel.place.transfers }
     {
         self.tables.ring.len()
+    }
+
+    /// The transfer in flight at this place, 0 for the oldest; None where there are not so many. In a machine that runs
+    /// each of its pages is moved from or to its own two blocks of swap, or comes from a range of its image's file.
+    pub fn transfer(&self, place: u32) -> Option<&Transfer>
+        ensures transfer { option_map transfer_shown (option_copied result) ≡ slice_get self.now.kernel.place.transfers place }
+        ensures sources { self.now.kernel.stopped ≡ false → IfSome result (λ t. IsFlightSourced self.now.images (image_of self.now.kernel.place) self.now.before self.now.params.swap_blocks t.now) }
+    {
+        self.tables.ring.get(place)
     }
 
     /// How many frames are in transfers.
@@ -63,6 +75,14 @@ impl Machine {
         ensures { result.now ≡ self.now.kernel.holdings }
     {
         self.tables.book.holdings()
+    }
+
+    /// Who holds which pieces of swap, without those that `ask` found last for an entry that comes yet.
+    pub fn holdings_before(&self) -> &[Held]
+        ensures { result.now ≡ self.now.before }
+    {
+        let held = self.tables.book.holdings();
+        &held[..held.len().saturating_sub(self.tables.found)]
     }
 
     /// The frames at which the front hand and the back hand stand.
@@ -107,5 +127,21 @@ impl Machine {
         ensures { result ≡ first_due self.now.kernel.place.due }
     {
         Some(self.tables.fills.front()?.page())
+    }
+
+    /// How many pages are due for a fill.
+    pub fn due_count(&self) -> usize
+        ensures { result ≡ length self.now.kernel.place.due }
+    {
+        self.tables.fills.len()
+    }
+
+    /// The page that is due for a fill at this place, 0 for the first, and its parent's page, where it is a copy of that
+    /// one; None where there are not so many.
+    pub fn due_at(&self, place: usize) -> Option<(Page, Option<Page>)>
+        ensures { result ≡ option_map due_and_parent (slice_get self.now.kernel.place.due place) }
+    {
+        let fill = self.tables.fills.get(place)?;
+        Some((fill.page(), fill.parent()))
     }
 }

@@ -17,12 +17,12 @@ impl Machine {
         requires running { self.old.kernel.stopped ≡ false }
         requires can { CanAsk self.old.kernel.holdings wants.now }
         ensures answer { IfOk result (λ fits. fits ≡ fits_for self.old.params.swap_blocks self.old.kernel.holdings wants.now) }
-        ensures same { OnOk result (self.new ≡ self.old) }
+        ensures same { self.new ≡ self.old }
         ensures stop { OnErr result (HasStopped self.old self.new) }
         ensures cause { OnErr result (result ≡ Err Stop.NoMemory) }
     {
         let found = pieces::find_all(&mut self.tables.book, wants, false);
-        notes::or_stop(&mut self.stopped, found)
+        notes::or_stop(found)
     }
 
     /// Finds the pieces with which each owner holds its blocks, for the next entry of a process, and appends no entry. False
@@ -43,7 +43,7 @@ impl Machine {
     {
         let before = self.tables.book.holdings().len();
         let found = pieces::find_all(&mut self.tables.book, wants, true);
-        if notes::or_stop(&mut self.stopped, found)? {
+        if notes::or_stop(found)? {
             self.tables.found = self.tables.book.holdings().len() - before;
             return Ok(true);
         }

@@ -15,20 +15,9 @@ ghost use Rattle.machine_state.specs.UserMemory.{CanLend};
 use crate::machine::Machine;
 use crate::{joining, notes};
 use flat_state::Change;
-use vm_facts::{Entry, NoMemory, Regs, Stop};
+use vm_facts::{Entry, Regs, Stop};
 
 impl Machine {
-    /// What a caller made, or the machine stops for want of memory.
-    pub fn or_stop<T>(&mut self, made: Result<T, NoMemory>) -> Result<T, Stop>
-        requires running { self.old.kernel.stopped ≡ false }
-        ensures made { IfOk result (λ value. made ≡ Ok value) }
-        ensures same { OnOk result (self.new ≡ self.old) }
-        ensures stop { OnErr result (HasStopped self.old self.new) }
-        ensures cause { OnErr result (result ≡ Err Stop.NoMemory) }
-    {
-        notes::or_stop(&mut self.stopped, made)
-    }
-
     /// Appends an entry that changes nothing: `Event`, `Turn` or `Owners`.
     pub fn note(&mut self, e: Entry) -> Result<(), Stop>
         requires running { self.old.kernel.stopped ≡ false }
@@ -43,11 +32,29 @@ impl Machine {
     {
         notes::make_room(
             &mut self.journal,
-            &mut self.stopped,
             &mut self.room,
             self.tables.params.journal,
         )?;
         self.journal.push_reserved(e);
+        Ok(())
+    }
+
+    /// Makes room for one more entry, and changes nothing else.
+    pub fn make_room(&mut self) -> Result<(), Stop>
+        requires running { self.old.kernel.stopped ≡ false }
+        ensures ok { OnOk result (self.new ≡ self.old) }
+        ensures has_room { OnOk result (length self.old.kernel.journal < self.old.params.journal) }
+        ensures stop { OnErr result (HasStopped self.old self.new) }
+        ensures cause { OnErr result ((result ≡ Err Stop.JournalFull) ⊎ (result ≡ Err Stop.NoMemory)) }
+        ensures full { (result ≡ Err Stop.JournalFull) ↔ (self.old.params.journal ≤ length self.old.kernel.journal) }
+    {
+        let room = self.room;
+        notes::make_room(
+            &mut self.journal,
+            &mut self.room,
+            self.tables.params.journal,
+        )?;
+        self.room = room;
         Ok(())
     }
 
@@ -61,7 +68,6 @@ impl Machine {
     {
         joining::make_room_to_run(
             &mut self.journal,
-            &mut self.stopped,
             &mut self.room,
             self.tables.params.journal,
             pid,
@@ -100,7 +106,6 @@ impl Machine {
     {
         notes::make_room(
             &mut self.journal,
-            &mut self.stopped,
             &mut self.room,
             self.tables.params.journal,
         )?;
@@ -108,7 +113,7 @@ impl Machine {
         self.tables.set_regs(pid, regs);
         let since = self.journal.len() as u32 + 1;
         let applied = self.tables.apply(self.alloc, pid, change, since);
-        notes::or_stop(&mut self.stopped, applied)?;
+        notes::or_break_off(&mut self.stopped, applied)?;
         self.tables.found = 0;
         self.journal.push_reserved(e);
         Ok(())

@@ -1,6 +1,7 @@
 //! Pages that are due for a fill before anything else.
 ghost use Rattle.std.specs.Prelude.{◌≡◌, length};
 ghost use Rattle.page_model.specs.Placement.{due_page};
+ghost use Rattle.machine_state.specs.Calls.{due_parent};
 ghost use Rattle.machine_state.specs.View.{due_shown};
 ghost use Rattle.machine_state.specs.Due.{first_bytes, AreWhole};
 
@@ -23,6 +24,16 @@ impl DueFill {
         match self {
             DueFill::Start { page, .. } => *page,
             DueFill::Copy { child, .. } => *child,
+        }
+    }
+
+    /// The parent's page, where the page is to be copied from it.
+    pub(crate) fn parent(&self) -> Option<Page>
+        ensures { result ≡ due_parent (due_shown self.now) }
+    {
+        match self {
+            DueFill::Start { .. } => None,
+            DueFill::Copy { parent, .. } => Some(*parent),
         }
     }
 }

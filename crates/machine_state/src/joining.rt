@@ -28,15 +28,12 @@ fn last_moves(journal: &[Entry]) -> Option<u32>
 /// Room for one more move of the hands, which a last entry that counts moves has.
 pub(crate) fn make_room_to_move(
     journal: &mut Vec<Entry>,
-    stopped: &mut bool,
     room: &mut Option<u32>,
     limit: u32,
 ) -> Result<(), Stop>
     ensures same { journal.new.items ≡ journal.old.items }
-    ensures ok { OnOk result (stopped.new ≡ stopped.old) }
     ensures has_room { OnOk result (last_says moves_in journal.old.items ≡ None → (length journal.old.items < limit) × (vec_len journal.new < vec_capacity journal.new)) }
     ensures room { room.new ≡ None }
-    ensures err { OnErr result (stopped.new ≡ true) }
     ensures full { (result ≡ Err Stop.JournalFull) ↔ ((limit ≤ length journal.old.items) × (length journal.old.items < length (append journal.old.items (Hands 1)))) }
     ensures cause { OnErr result ((result ≡ Err Stop.JournalFull) ⊎ (result ≡ Err Stop.NoMemory)) }
 {
@@ -44,7 +41,7 @@ pub(crate) fn make_room_to_move(
         *room = None;
         return Ok(());
     }
-    notes::make_room(journal, stopped, room, limit)
+    notes::make_room(journal, room, limit)
 }
 
 /// Counts one more move of the hands, for which there is room.
@@ -82,16 +79,13 @@ fn last_instructions(journal: &[Entry], pid: u32) -> Option<u32>
 /// Room for one more instruction of a process, which a last entry that counts its instructions has.
 pub(crate) fn make_room_to_run(
     journal: &mut Vec<Entry>,
-    stopped: &mut bool,
     room: &mut Option<u32>,
     limit: u32,
     pid: u32,
 ) -> Result<(), Stop>
     ensures same { journal.new.items ≡ journal.old.items }
-    ensures ok { OnOk result (stopped.new ≡ stopped.old) }
     ensures has_room { OnOk result (last_says (instructions_in pid) journal.old.items ≡ None → (length journal.old.items < limit) × (vec_len journal.new < vec_capacity journal.new)) }
     ensures room { room.new ≡ None }
-    ensures err { OnErr result (stopped.new ≡ true) }
     ensures full { (result ≡ Err Stop.JournalFull) ↔ ((limit ≤ length journal.old.items) × (length journal.old.items < length (append journal.old.items (Ran pid 1)))) }
     ensures cause { OnErr result ((result ≡ Err Stop.JournalFull) ⊎ (result ≡ Err Stop.NoMemory)) }
 {
@@ -99,7 +93,7 @@ pub(crate) fn make_room_to_run(
         *room = None;
         return Ok(());
     }
-    notes::make_room(journal, stopped, room, limit)
+    notes::make_room(journal, room, limit)
 }
 
 /// Counts one more instruction of a process, for which there is room.

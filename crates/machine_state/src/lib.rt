@@ -34,5 +34,6 @@ mod user_memory;
 pub use laws::memory_is_flat;
 pub use machine::Machine;
 pub use named::Named;
+pub use notes::or_stop;
 pub use pieces::{Want, image_wants};
 pub use user_memory::SpaceMemory;

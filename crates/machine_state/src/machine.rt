@@ -101,13 +101,15 @@ impl Machine {
         })
     }
 
-    /// What is so of each machine that runs, with the holdings before the pieces that were found last. Its images are those that
+    /// What is so of each machine that runs, with the holdings before the pieces that were found last. Its journal is
+    /// within its bound. Its images are those that
     /// it was made with: at most 16, each as a header may be, and the text of each has as many pages as its header tells.
     pub fn sound(&self)
         requires { self.now.kernel.stopped ≡ false }
         ensures sound { Sound self.now.params.swap_blocks (record self.now.kernel { holdings = self.now.before }) }
         ensures numbered { Numbered self.now.kernel }
         ensures due { DueStand self.now.kernel.place }
+        ensures within { length self.now.kernel.journal ≤ self.now.params.journal }
         ensures frames { length self.now.kernel.place.holds ≤ 4096 }
         ensures few_images { length self.now.images ≤ 16 }
         ensures images { AreSound (map (λ image. image.facts) self.now.images) }
@@ -145,7 +147,6 @@ impl Machine {
     {
         notes::make_room(
             &mut self.journal,
-            &mut self.stopped,
             &mut self.room,
             self.tables.params.journal,
         )?;
@@ -173,7 +174,6 @@ impl Machine {
     {
         notes::make_room(
             &mut self.journal,
-            &mut self.stopped,
             &mut self.room,
             self.tables.params.journal,
         )?;
@@ -201,11 +201,10 @@ impl Machine {
     {
         notes::make_room(
             &mut self.journal,
-            &mut self.stopped,
             &mut self.room,
             self.tables.params.journal,
         )?;
-        let parts = notes::or_stop(&mut self.stopped, reading::room_in(self.alloc, n))?;
+        let parts = notes::or_stop(reading::room_in(self.alloc, n))?;
         let _frames = self.tables.core.frames();
         self.tables.read_run(parts, page, lo, n);
         self.journal.push_reserved(Entry::Get { page, lo, n });
@@ -244,7 +243,6 @@ impl Machine {
         }
         notes::make_room(
             &mut self.journal,
-            &mut self.stopped,
             &mut self.room,
             self.tables.params.journal,
         )?;

@@ -62,7 +62,6 @@ impl Machine {
     {
         notes::make_room(
             &mut self.journal,
-            &mut self.stopped,
             &mut self.room,
             self.tables.params.journal,
         )?;
@@ -90,11 +89,10 @@ impl Machine {
     {
         notes::make_room(
             &mut self.journal,
-            &mut self.stopped,
             &mut self.room,
             self.tables.params.journal,
         )?;
-        let parts = notes::or_stop(&mut self.stopped, launching::room_in(self.alloc, n))?;
+        let parts = notes::or_stop(launching::room_in(self.alloc, n))?;
         let _frames = self.tables.core.frames();
         let written = self.tables.written_of(lo, n);
         self.tables.put_out(parts, lo, number_of(lo), written);
@@ -119,11 +117,10 @@ impl Machine {
     {
         joining::make_room_to_move(
             &mut self.journal,
-            &mut self.stopped,
             &mut self.room,
             self.tables.params.journal,
         )?;
-        let parts = notes::or_stop(&mut self.stopped, launching::room_in(self.alloc, n))?;
+        let parts = notes::or_stop(launching::room_in(self.alloc, n))?;
         let _frames = self.tables.core.frames();
         self.tables.move_hands(locked, parts, lo, n);
         joining::add_move(&mut self.journal);

@@ -3,7 +3,7 @@ ghost use Rattle.std.specs.Prelude.{◌≡◌, ◌<◌, true, false, [], ◌∷�
 ghost use Rattle.aout_image.specs.Image.{IsSound};
 ghost use Rattle.flat_state.specs.Flat.{start_page, start_regs};
 ghost use Rattle.machine_state.specs.Beginning.{MayStart, StartedFirst, FindsNoPlace, MayLookFirst, LookedFirst, MayEnterFirst, BeganFirst};
-ghost use Rattle.machine_state.specs.Conditions.{HasStopped};
+ghost use Rattle.machine_state.specs.Conditions.{HasBrokenOff};
 
 use crate::machine::Machine;
 use crate::named::Named;
@@ -73,16 +73,16 @@ impl Machine {
         ensures began { result ≡ Ok true → StartedFirst self.old self.new image }
         ensures no_place { result ≡ Ok false → FindsNoPlace self.old image }
         ensures same { result ≡ Ok false → self.new ≡ self.old }
-        ensures stop { OnErr result (HasStopped self.old self.new) }
+        ensures stop { OnErr result (HasBrokenOff self.old self.new) }
         ensures cause { OnErr result (result ≡ Err Stop.NoMemory) }
     {
         let _frames = self.tables.core.frames();
         let found = self.tables.find_first(pid, image);
-        if !notes::or_stop(&mut self.stopped, found)? {
+        if !notes::or_break_off(&mut self.stopped, found)? {
             return Ok(false);
         }
         let started = self.tables.start_first(self.alloc, image);
-        notes::or_stop(&mut self.stopped, started)?;
+        notes::or_break_off(&mut self.stopped, started)?;
         self.tables.found = 0;
         Ok(true)
     }

@@ -112,7 +112,6 @@ impl Machine {
     {
         notes::make_room(
             &mut self.journal,
-            &mut self.stopped,
             &mut self.room,
             self.tables.params.journal,
         )?;
@@ -154,7 +153,6 @@ impl Machine {
     {
         notes::make_room(
             &mut self.journal,
-            &mut self.stopped,
             &mut self.room,
             self.tables.params.journal,
         )?;

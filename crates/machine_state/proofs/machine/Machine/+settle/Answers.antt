@@ -1,12 +1,11 @@
-use Rattle.std.proofs.Common.{◌≡◌, Bool, List, Option, Result, Ok, Err, refl, sym, ap, ◌∙◌, subst, arith}
+use Rattle.std.proofs.Common.{Bool, List, Option, Result, Ok, sym, ap, ◌∙◌, subst, arith}
 use Rattle.std.proofs.lemmas.Result.{err_from_is_err_and}
 use Rattle.io_edge.specs.FileHolding.{NamedFile}
 use Rattle.vm_facts.specs.declared.params.Params.{Params}
 use Rattle.vm_facts.specs.declared.stop.Stop.{Stop}
 use Rattle.machine_state.specs.Sourced.{ImageNamed}
 use Rattle.machine_state.specs.Files.{AreFiles}
-use Rattle.machine_state.specs.Done.{Sources, sources, IsDone, ImageAfter}
-use Rattle.machine_state.specs.Settled.{IsSameBeside}
+use Rattle.machine_state.specs.Done.{Sources, sources, IsDone}
 use Rattle.machine_state.proofs.Settling.{on_ok, if_err, GoesOn, goes_on, beside_done, same_sources, one_more, one_stopped, stopped_first, through}
 use Rattle.machine_state.proofs.machine.Machine.+settle.Goals as goal
 
@@ -15,7 +14,7 @@ returns-in_err-done-clause-stops g t c =
     let p = err_from_is_err_and c.from_residual.result c.from_residual.ensures.1 in
     rw (p.1, p.2)
     (stopped_first c.args.sid c.args.self.now c.done.new.self (g.F.Files.holds c.args.files.now) (g.D.SwapDev.image c.args.swap.now) (g.D.SwapDev.image c.done.new.swap) c.in_err-done.field-0.0
-    (sym c.settled.ensures ∙ c.if-settled.false) c.in_err-done.ensures.stop c.in_err-done.ensures.cause c.in_err-done.ensures.full c.in_err-done.ensures.spoiled)
+    (sym c.settled.ensures ∙ c.if-settled.false) c.in_err-done.ensures.stop c.requires.whole c.in_err-done.ensures.cause c.in_err-done.ensures.full c.in_err-done.ensures.spoiled)
 
 pub settle-requires : goal.settle-requires
 settle-requires g t c κs out =

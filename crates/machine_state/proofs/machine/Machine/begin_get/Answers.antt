@@ -1,4 +1,4 @@
-use Rattle.std.proofs.Common.{◌≡◌, Bool, List, refl, sym, ap, ◌∙◌, subst}
+use Rattle.std.proofs.Common.{◌≡◌, List, refl, sym, ap, ◌∙◌, subst}
 use Rattle.vm_facts.specs.declared.entry.Entry.{Entry}
 use Rattle.swap_book.specs.Holdings.{Holdings}
 use Rattle.page_model.specs.Conditions.{EachPage}
@@ -42,15 +42,14 @@ invariant_of-self-2 c _ =
     let whole = whole_now c.self.inside c.args.self.now c.self.view_is c.requires.whole in
     let e = c.read_run.ensures.rest in
     let s : Still t w = still_along _ _ _ e (record { params = refl; images = refl; book = refl; found = refl; processes = refl; next_pid = refl; next_sid = refl }) in
-    let stopped : c.or_stop.new.stopped ≡ c.self.inside.stopped = c.in_ok-parts.ensures.same ∙ c.in_ok-make_room.ensures.ok.0 in
     let own = subst (λ (hs : Holdings). IsFlightSourced (images_of t) (image_at t) hs t.book.size c.read_run.ensures.flight) (sym whole) c.read_run.ensures.sourced in
     record {
-      stands = stands_on c.self.inside w c.push_reserved.new.self.items c.or_stop.new.stopped now.stands whole s
-          (subst (λ (j : List Entry). Runs (kernel_by w j c.or_stop.new.stopped) (lists_of w) w.book.size) (sym c.push_reserved.ensures.items)
-          (get_runs c.self.inside w c.args.page c.args.lo c.args.n c.make_room.new.journal.items c.or_stop.new.stopped r can c.read_run.ensures c.make_room.ensures.same stopped))
+      stands = stands_on c.self.inside w c.push_reserved.new.self.items c.self.inside.stopped now.stands whole s
+          (subst (λ (j : List Entry). Runs (kernel_by w j c.self.inside.stopped) (lists_of w) w.book.size) (sym c.push_reserved.ensures.items)
+          (get_runs c.self.inside w c.args.page c.args.lo c.args.n c.make_room.new.journal.items c.self.inside.stopped r can c.read_run.ensures c.make_room.ensures.same refl))
           (subst (AreSourced (images_of t) (image_at t) (before_of t) t.book.size) (sym c.read_run.ensures.ring)
           (sourced_more (images_of t) (image_at t) (before_of t) t.book.size t.ring c.read_run.ensures.flight now.stands.ring own))
-          c.read_run.ensures.images (pushed c.self.inside.journal.items c.make_room.new.journal.items c.push_reserved.new.self.items _ t.params.journal c.make_room.ensures.same c.push_reserved.ensures.items c.in_ok-make_room.ensures.ok.1);
+          c.read_run.ensures.images (pushed c.self.inside.journal.items c.make_room.new.journal.items c.push_reserved.new.self.items _ t.params.journal c.make_room.ensures.same c.push_reserved.ensures.items c.in_ok-make_room.ensures.ok.0);
       none_lost = now.none_lost;
       room = no_room _ _ _ c.make_room.ensures.room;
     }
@@ -66,14 +65,12 @@ returns-clause-rest c =
 pub returns-clause-step : goal.returns-clause-step
 returns-clause-step c =
     let t : Tables = c.self.inside.tables in
-    let stopped : c.or_stop.new.stopped ≡ c.self.inside.stopped = c.in_ok-parts.ensures.same ∙ c.in_ok-make_room.ensures.ok.0 in
     let k : Kernel = kernel_by t c.self.inside.journal.items c.self.inside.stopped in
     let w : Tables = c.read_run.new.self in
-    let is : kernel_by w c.push_reserved.new.self.items c.or_stop.new.stopped ≡ get_step k c.args.page c.args.lo c.args.n =
-    ap (λ (j : List Entry). kernel_by w j c.or_stop.new.stopped) c.push_reserved.ensures.items
-    ∙ get_kernel t w c.args.page c.args.lo c.args.n c.make_room.new.journal.items c.or_stop.new.stopped c.read_run.ensures
-    ∙ ap (λ (j : List Entry). get_step (kernel_by t j c.or_stop.new.stopped) c.args.page c.args.lo c.args.n) c.make_room.ensures.same
-    ∙ ap (λ (b : Bool). get_step (kernel_by t c.self.inside.journal.items b) c.args.page c.args.lo c.args.n) stopped in
+    let is : kernel_by w c.push_reserved.new.self.items c.self.inside.stopped ≡ get_step k c.args.page c.args.lo c.args.n =
+    ap (λ (j : List Entry). kernel_by w j c.self.inside.stopped) c.push_reserved.ensures.items
+    ∙ get_kernel t w c.args.page c.args.lo c.args.n c.make_room.new.journal.items c.self.inside.stopped c.read_run.ensures
+    ∙ ap (λ (j : List Entry). get_step (kernel_by t j c.self.inside.stopped) c.args.page c.args.lo c.args.n) c.make_room.ensures.same in
     is ∙ ap (λ (s : Standing). get_step s.kernel c.args.page c.args.lo c.args.n) c.self.view_is
 
 pub returns-clause-keeps : goal.returns-clause-keeps
@@ -81,14 +78,12 @@ returns-clause-keeps c =
     let t : Tables = c.self.inside.tables in
     let r = running c.self.inside c.args.self.now c.self.invariant c.self.view_is c.requires.running c.requires.whole in
     let can : CanBringIn (placement_of (lists_of t)) c.args.page c.args.lo c.args.n = subst (λ (s : Standing). CanBringIn s.kernel.place c.args.page c.args.lo c.args.n) (sym c.self.view_is) c.requires.can in
-    let stopped : c.or_stop.new.stopped ≡ c.self.inside.stopped = c.in_ok-parts.ensures.same ∙ c.in_ok-make_room.ensures.ok.0 in
     let k : Kernel = kernel_by t c.self.inside.journal.items c.self.inside.stopped in
     let w : Tables = c.read_run.new.self in
-    let is : kernel_by w c.push_reserved.new.self.items c.or_stop.new.stopped ≡ get_step k c.args.page c.args.lo c.args.n =
-    ap (λ (j : List Entry). kernel_by w j c.or_stop.new.stopped) c.push_reserved.ensures.items
-    ∙ get_kernel t w c.args.page c.args.lo c.args.n c.make_room.new.journal.items c.or_stop.new.stopped c.read_run.ensures
-    ∙ ap (λ (j : List Entry). get_step (kernel_by t j c.or_stop.new.stopped) c.args.page c.args.lo c.args.n) c.make_room.ensures.same
-    ∙ ap (λ (b : Bool). get_step (kernel_by t c.self.inside.journal.items b) c.args.page c.args.lo c.args.n) stopped in
+    let is : kernel_by w c.push_reserved.new.self.items c.self.inside.stopped ≡ get_step k c.args.page c.args.lo c.args.n =
+    ap (λ (j : List Entry). kernel_by w j c.self.inside.stopped) c.push_reserved.ensures.items
+    ∙ get_kernel t w c.args.page c.args.lo c.args.n c.make_room.new.journal.items c.self.inside.stopped c.read_run.ensures
+    ∙ ap (λ (j : List Entry). get_step (kernel_by t j c.self.inside.stopped) c.args.page c.args.lo c.args.n) c.make_room.ensures.same in
     subst (KeepsFlat c.args.self.now.kernel) (sym is) (subst (λ (s : Standing). KeepsFlat s.kernel (get_step k c.args.page c.args.lo c.args.n)) c.self.view_is (get_keeps t.book.size k c.args.page c.args.lo c.args.n r.sound can))
 
 pub returns-clause-same : goal.returns-clause-same
@@ -96,13 +91,11 @@ returns-clause-same c =
     let t : Tables = c.self.inside.tables in
     let r = running c.self.inside c.args.self.now c.self.invariant c.self.view_is c.requires.running c.requires.whole in
     let can : CanBringIn (placement_of (lists_of t)) c.args.page c.args.lo c.args.n = subst (λ (s : Standing). CanBringIn s.kernel.place c.args.page c.args.lo c.args.n) (sym c.self.view_is) c.requires.can in
-    let stopped : c.or_stop.new.stopped ≡ c.self.inside.stopped = c.in_ok-parts.ensures.same ∙ c.in_ok-make_room.ensures.ok.0 in
     let k : Kernel = kernel_by t c.self.inside.journal.items c.self.inside.stopped in
     let w : Tables = c.read_run.new.self in
-    let is : kernel_by w c.push_reserved.new.self.items c.or_stop.new.stopped ≡ get_step k c.args.page c.args.lo c.args.n =
-    ap (λ (j : List Entry). kernel_by w j c.or_stop.new.stopped) c.push_reserved.ensures.items
-    ∙ get_kernel t w c.args.page c.args.lo c.args.n c.make_room.new.journal.items c.or_stop.new.stopped c.read_run.ensures
-    ∙ ap (λ (j : List Entry). get_step (kernel_by t j c.or_stop.new.stopped) c.args.page c.args.lo c.args.n) c.make_room.ensures.same
-    ∙ ap (λ (b : Bool). get_step (kernel_by t c.self.inside.journal.items b) c.args.page c.args.lo c.args.n) stopped in
+    let is : kernel_by w c.push_reserved.new.self.items c.self.inside.stopped ≡ get_step k c.args.page c.args.lo c.args.n =
+    ap (λ (j : List Entry). kernel_by w j c.self.inside.stopped) c.push_reserved.ensures.items
+    ∙ get_kernel t w c.args.page c.args.lo c.args.n c.make_room.new.journal.items c.self.inside.stopped c.read_run.ensures
+    ∙ ap (λ (j : List Entry). get_step (kernel_by t j c.self.inside.stopped) c.args.page c.args.lo c.args.n) c.make_room.ensures.same in
     subst (λ (y : Kernel). SameOutside c.args.self.now.kernel y (pages_from c.args.page c.args.lo c.args.n)) (sym is)
     (subst (λ (s : Standing). SameOutside s.kernel (get_step k c.args.page c.args.lo c.args.n) (pages_from c.args.page c.args.lo c.args.n)) c.self.view_is (get_same t.book.size k c.args.page c.args.lo c.args.n r.sound can))

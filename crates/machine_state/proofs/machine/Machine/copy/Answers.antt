@@ -1,4 +1,4 @@
-use Rattle.std.proofs.Common.{◌≡◌, inl, ℕ, Bool, IsTrue, List, Option, refl, sym, ap, ◌∙◌, subst}
+use Rattle.std.proofs.Common.{◌≡◌, inl, ℕ, IsTrue, List, Option, refl, sym, ap, ◌∙◌, subst}
 use Rattle.vm_facts.specs.declared.entry.Entry.{Entry}
 use Rattle.vax_pte.specs.declared.Place.{Place}
 use Rattle.core_map.specs.declared.slot.Slot.{Slot as Token}
@@ -80,11 +80,11 @@ invariant_of-self-2 c _ =
     let whole = whole_now c.self.inside c.args.self.now c.self.view_is c.requires.whole in
     let ties = copy_ties t c.copy_frame-copy.new.self c.seat.new.self c.finish_fill.new.self m.token c.copy_frame-copy.result c.args.child c.args.parent can.frame can.others z (ap frame_of can.unfilled) in
     record {
-      stands = stands_same c.self.inside c.finish_fill.new.self c.push_reserved.new.self.items c.make_room.new.stopped now.stands whole s
-          (subst (λ (j : List Entry). Runs (kernel_by c.finish_fill.new.self j c.make_room.new.stopped) (lists_of c.finish_fill.new.self) c.finish_fill.new.self.book.size) (sym c.push_reserved.ensures.items)
+      stands = stands_same c.self.inside c.finish_fill.new.self c.push_reserved.new.self.items c.self.inside.stopped now.stands whole s
+          (subst (λ (j : List Entry). Runs (kernel_by c.finish_fill.new.self j c.self.inside.stopped) (lists_of c.finish_fill.new.self) c.finish_fill.new.self.book.size) (sym c.push_reserved.ensures.items)
           (copy_runs c.self.inside c.copy_frame-copy.new.self c.seat.new.self c.finish_fill.new.self m.token c.copy_frame-copy.result c.args.child c.args.parent can.frame can.others
-          c.make_room.new.journal.items c.make_room.new.stopped r can z c.make_room.ensures.same c.in_ok-make_room.ensures.ok.0))
-          (ap (λ (x : Tables). x.ring) e2) ties.heads (pushed c.self.inside.journal.items c.make_room.new.journal.items c.push_reserved.new.self.items _ c.self.inside.tables.params.journal c.make_room.ensures.same c.push_reserved.ensures.items c.in_ok-make_room.ensures.ok.1);
+          c.make_room.new.journal.items c.self.inside.stopped r can z c.make_room.ensures.same refl))
+          (ap (λ (x : Tables). x.ring) e2) ties.heads (pushed c.self.inside.journal.items c.make_room.new.journal.items c.push_reserved.new.self.items _ c.self.inside.tables.params.journal c.make_room.ensures.same c.push_reserved.ensures.items c.in_ok-make_room.ensures.ok.0);
       none_lost = now.none_lost;
       room = no_room _ _ _ c.make_room.ensures.room;
     }
@@ -136,11 +136,10 @@ returns-clause-step c =
       once = r.tied.once;
     } in
     let b : Kernel = kernel_by t c.self.inside.journal.items c.self.inside.stopped in
-    let is : kernel_by c.finish_fill.new.self c.push_reserved.new.self.items c.make_room.new.stopped ≡ copy_step b c.args.child =
-    ap (λ (j : List Entry). kernel_by c.finish_fill.new.self j c.make_room.new.stopped) c.push_reserved.ensures.items
-    ∙ copy_kernel t c.copy_frame-copy.new.self c.seat.new.self c.finish_fill.new.self m.token c.copy_frame-copy.result c.args.child c.args.parent can.frame can.others c.make_room.new.journal.items c.make_room.new.stopped z
-    ∙ ap (λ (j : List Entry). copy_step (kernel_by t j c.make_room.new.stopped) c.args.child) c.make_room.ensures.same
-    ∙ ap (λ (s : Bool). copy_step (kernel_by t c.self.inside.journal.items s) c.args.child) c.in_ok-make_room.ensures.ok.0 in
+    let is : kernel_by c.finish_fill.new.self c.push_reserved.new.self.items c.self.inside.stopped ≡ copy_step b c.args.child =
+    ap (λ (j : List Entry). kernel_by c.finish_fill.new.self j c.self.inside.stopped) c.push_reserved.ensures.items
+    ∙ copy_kernel t c.copy_frame-copy.new.self c.seat.new.self c.finish_fill.new.self m.token c.copy_frame-copy.result c.args.child c.args.parent can.frame can.others c.make_room.new.journal.items c.self.inside.stopped z
+    ∙ ap (λ (j : List Entry). copy_step (kernel_by t j c.self.inside.stopped) c.args.child) c.make_room.ensures.same in
     is ∙ ap (λ (s : Standing). copy_step s.kernel c.args.child) c.self.view_is
 
 pub returns-clause-keeps : goal.returns-clause-keeps
@@ -165,11 +164,10 @@ returns-clause-keeps c =
       once = r.tied.once;
     } in
     let b : Kernel = kernel_by t c.self.inside.journal.items c.self.inside.stopped in
-    let is : kernel_by c.finish_fill.new.self c.push_reserved.new.self.items c.make_room.new.stopped ≡ copy_step b c.args.child =
-    ap (λ (j : List Entry). kernel_by c.finish_fill.new.self j c.make_room.new.stopped) c.push_reserved.ensures.items
-    ∙ copy_kernel t c.copy_frame-copy.new.self c.seat.new.self c.finish_fill.new.self m.token c.copy_frame-copy.result c.args.child c.args.parent can.frame can.others c.make_room.new.journal.items c.make_room.new.stopped z
-    ∙ ap (λ (j : List Entry). copy_step (kernel_by t j c.make_room.new.stopped) c.args.child) c.make_room.ensures.same
-    ∙ ap (λ (s : Bool). copy_step (kernel_by t c.self.inside.journal.items s) c.args.child) c.in_ok-make_room.ensures.ok.0 in
+    let is : kernel_by c.finish_fill.new.self c.push_reserved.new.self.items c.self.inside.stopped ≡ copy_step b c.args.child =
+    ap (λ (j : List Entry). kernel_by c.finish_fill.new.self j c.self.inside.stopped) c.push_reserved.ensures.items
+    ∙ copy_kernel t c.copy_frame-copy.new.self c.seat.new.self c.finish_fill.new.self m.token c.copy_frame-copy.result c.args.child c.args.parent can.frame can.others c.make_room.new.journal.items c.self.inside.stopped z
+    ∙ ap (λ (j : List Entry). copy_step (kernel_by t j c.self.inside.stopped) c.args.child) c.make_room.ensures.same in
     subst (KeepsFlat c.args.self.now.kernel) (sym is) (subst (λ (s : Standing). KeepsFlat s.kernel (copy_step b c.args.child)) c.self.view_is (copy_keeps t.book.size b c.args.child c.args.parent r.sound can))
 
 pub returns-clause-same : goal.returns-clause-same
@@ -194,10 +192,9 @@ returns-clause-same c =
       once = r.tied.once;
     } in
     let b : Kernel = kernel_by t c.self.inside.journal.items c.self.inside.stopped in
-    let is : kernel_by c.finish_fill.new.self c.push_reserved.new.self.items c.make_room.new.stopped ≡ copy_step b c.args.child =
-    ap (λ (j : List Entry). kernel_by c.finish_fill.new.self j c.make_room.new.stopped) c.push_reserved.ensures.items
-    ∙ copy_kernel t c.copy_frame-copy.new.self c.seat.new.self c.finish_fill.new.self m.token c.copy_frame-copy.result c.args.child c.args.parent can.frame can.others c.make_room.new.journal.items c.make_room.new.stopped z
-    ∙ ap (λ (j : List Entry). copy_step (kernel_by t j c.make_room.new.stopped) c.args.child) c.make_room.ensures.same
-    ∙ ap (λ (s : Bool). copy_step (kernel_by t c.self.inside.journal.items s) c.args.child) c.in_ok-make_room.ensures.ok.0 in
+    let is : kernel_by c.finish_fill.new.self c.push_reserved.new.self.items c.self.inside.stopped ≡ copy_step b c.args.child =
+    ap (λ (j : List Entry). kernel_by c.finish_fill.new.self j c.self.inside.stopped) c.push_reserved.ensures.items
+    ∙ copy_kernel t c.copy_frame-copy.new.self c.seat.new.self c.finish_fill.new.self m.token c.copy_frame-copy.result c.args.child c.args.parent can.frame can.others c.make_room.new.journal.items c.self.inside.stopped z
+    ∙ ap (λ (j : List Entry). copy_step (kernel_by t j c.self.inside.stopped) c.args.child) c.make_room.ensures.same in
     subst (λ (x : Kernel). SameElsewhere c.args.self.now.kernel x c.args.child) (sym is)
     (subst (λ (s : Standing). SameElsewhere s.kernel (copy_step b c.args.child) c.args.child) c.self.view_is (copy_same t.book.size b c.args.child c.args.parent r.sound can))

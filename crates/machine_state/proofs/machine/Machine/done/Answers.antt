@@ -1,4 +1,4 @@
-use Rattle.std.proofs.Common.{◌≡◌, ℕ, ◌*◌, ◌<◌, ◌≤◌, Bool, List, length, map, drop, Some, refl, sym, ap, ◌∙◌, subst, arith}
+use Rattle.std.proofs.Common.{◌≡◌, ℕ, ◌*◌, ◌<◌, ◌≤◌, List, length, map, drop, Some, refl, sym, ap, ◌∙◌, subst, arith}
 use Rattle.vm_facts.specs.declared.entry.Entry.{Entry}
 use Rattle.swap_book.specs.Holdings.{Holdings}
 use Rattle.transfer_ring.specs.declared.transfer.Finished.TheVariants as answers
@@ -58,20 +58,19 @@ invariant_of-self-in-Done g c _ =
       all = c.land.ensures.all;
     } in
     let b : Kernel = kernel_by t c.self.inside.journal.items c.self.inside.stopped in
-    let is : kernel_by w c.push_reserved.new.self.items c.make_room.new.stopped ≡ done_step b (brought n) =
-    ap (λ (j : List Entry). kernel_by w j c.make_room.new.stopped) c.push_reserved.ensures.items
-    ∙ done_kernel t w l e.oldest n c.make_room.new.journal.items c.make_room.new.stopped d
-    ∙ ap (λ (j : List Entry). done_step (kernel_by t j c.make_room.new.stopped) (brought n)) c.make_room.ensures.same
-    ∙ ap (λ (x : Bool). done_step (kernel_by t c.self.inside.journal.items x) (brought n)) c.in_ok-make_room.ensures.ok.0 in
+    let is : kernel_by w c.push_reserved.new.self.items c.self.inside.stopped ≡ done_step b (brought n) =
+    ap (λ (j : List Entry). kernel_by w j c.self.inside.stopped) c.push_reserved.ensures.items
+    ∙ done_kernel t w l e.oldest n c.make_room.new.journal.items c.self.inside.stopped d
+    ∙ ap (λ (j : List Entry). done_step (kernel_by t j c.self.inside.stopped) (brought n)) c.make_room.ensures.same in
     let u = d.all.rest in
     let s : Still t w = still_along _ _ _ u (record { params = refl; images = refl; book = refl; found = refl; processes = refl; next_pid = refl; next_sid = refl }) in
     let left : w.ring ≡ e.rest = ap (λ (x : Tables). x.ring) u ∙ c.in-Done.ensures.rest ∙ ap (drop 1) e.ring_is in
     record {
-      stands = stands_on c.self.inside w c.push_reserved.new.self.items c.make_room.new.stopped now.stands whole s
-          (done_runs t w l e.oldest n b (kernel_by w c.push_reserved.new.self.items c.make_room.new.stopped) d refl is r)
+      stands = stands_on c.self.inside w c.push_reserved.new.self.items c.self.inside.stopped now.stands whole s
+          (done_runs t w l e.oldest n b (kernel_by w c.push_reserved.new.self.items c.self.inside.stopped) d refl is r)
           (subst (AreSourced (images_of t) (image_at t) (before_of t) t.book.size) (sym left) (rest_sourced (images_of t) (image_at t) (before_of t) t.book.size t.ring e.rest e.oldest e.ring_is now.stands.ring))
           d.all.images
-          (pushed c.self.inside.journal.items c.make_room.new.journal.items c.push_reserved.new.self.items _ t.params.journal c.make_room.ensures.same c.push_reserved.ensures.items c.in_ok-make_room.ensures.ok.1);
+          (pushed c.self.inside.journal.items c.make_room.new.journal.items c.push_reserved.new.self.items _ t.params.journal c.make_room.ensures.same c.push_reserved.ensures.items c.in_ok-make_room.ensures.ok.0);
       none_lost = now.none_lost;
       room = no_room _ _ _ c.make_room.ensures.room;
     }
@@ -95,11 +94,10 @@ returns-in-Done-clause-step g c _ =
       all = c.land.ensures.all;
     } in
     let b : Kernel = kernel_by t c.self.inside.journal.items c.self.inside.stopped in
-    let is : kernel_by w c.push_reserved.new.self.items c.make_room.new.stopped ≡ done_step b (brought n) =
-    ap (λ (j : List Entry). kernel_by w j c.make_room.new.stopped) c.push_reserved.ensures.items
-    ∙ done_kernel t w l e.oldest n c.make_room.new.journal.items c.make_room.new.stopped d
-    ∙ ap (λ (j : List Entry). done_step (kernel_by t j c.make_room.new.stopped) (brought n)) c.make_room.ensures.same
-    ∙ ap (λ (x : Bool). done_step (kernel_by t c.self.inside.journal.items x) (brought n)) c.in_ok-make_room.ensures.ok.0 in
+    let is : kernel_by w c.push_reserved.new.self.items c.self.inside.stopped ≡ done_step b (brought n) =
+    ap (λ (j : List Entry). kernel_by w j c.self.inside.stopped) c.push_reserved.ensures.items
+    ∙ done_kernel t w l e.oldest n c.make_room.new.journal.items c.self.inside.stopped d
+    ∙ ap (λ (j : List Entry). done_step (kernel_by t j c.self.inside.stopped) (brought n)) c.make_room.ensures.same in
     let f : Before t (images_of t) b e.oldest e.rest t.book.size = record {
       place = refl;
       frames = refl;
@@ -135,11 +133,10 @@ returns-in-Done-clause-keeps g c images flat loads fits stands =
       all = c.land.ensures.all;
     } in
     let b : Kernel = kernel_by t c.self.inside.journal.items c.self.inside.stopped in
-    let is : kernel_by w c.push_reserved.new.self.items c.make_room.new.stopped ≡ done_step b (brought n) =
-    ap (λ (j : List Entry). kernel_by w j c.make_room.new.stopped) c.push_reserved.ensures.items
-    ∙ done_kernel t w l e.oldest n c.make_room.new.journal.items c.make_room.new.stopped d
-    ∙ ap (λ (j : List Entry). done_step (kernel_by t j c.make_room.new.stopped) (brought n)) c.make_room.ensures.same
-    ∙ ap (λ (x : Bool). done_step (kernel_by t c.self.inside.journal.items x) (brought n)) c.in_ok-make_room.ensures.ok.0 in
+    let is : kernel_by w c.push_reserved.new.self.items c.self.inside.stopped ≡ done_step b (brought n) =
+    ap (λ (j : List Entry). kernel_by w j c.self.inside.stopped) c.push_reserved.ensures.items
+    ∙ done_kernel t w l e.oldest n c.make_room.new.journal.items c.self.inside.stopped d
+    ∙ ap (λ (j : List Entry). done_step (kernel_by t j c.self.inside.stopped) (brought n)) c.make_room.ensures.same in
     let f : Before t (images_of t) b e.oldest e.rest t.book.size = record {
       place = refl;
       frames = refl;

@@ -1,4 +1,4 @@
-use Rattle.std.proofs.Common.{◌≡◌, Bool, List, refl, sym, ap, ◌∙◌, subst}
+use Rattle.std.proofs.Common.{◌≡◌, List, refl, sym, ap, ◌∙◌, subst}
 use Rattle.vm_facts.specs.declared.entry.Entry.{Entry}
 use Rattle.page_model.specs.Pages.{frame_of}
 use Rattle.kernel_model.specs.Kernel.{Kernel, zero_step}
@@ -48,11 +48,11 @@ invariant_of-self-2 c _ =
     let s : Still c.self.inside.tables c.finish_fill.new.self = still_along _ _ _ e (record { params = refl; images = refl; book = refl; found = refl; processes = refl; next_pid = refl; next_sid = refl }) in
     let ties = zero_ties c.self.inside.tables c.take_frame-token.new.self c.seat.new.self c.finish_fill.new.self c.take_frame-token.result c.fill_frame-filled.result c.args.page z (ap frame_of can.unfilled) in
     record {
-      stands = stands_same c.self.inside c.finish_fill.new.self c.push_reserved.new.self.items c.make_room.new.stopped now.stands whole s
-          (subst (λ (j : List Entry). Runs (kernel_by c.finish_fill.new.self j c.make_room.new.stopped) (lists_of c.finish_fill.new.self) c.finish_fill.new.self.book.size) (sym c.push_reserved.ensures.items)
+      stands = stands_same c.self.inside c.finish_fill.new.self c.push_reserved.new.self.items c.self.inside.stopped now.stands whole s
+          (subst (λ (j : List Entry). Runs (kernel_by c.finish_fill.new.self j c.self.inside.stopped) (lists_of c.finish_fill.new.self) c.finish_fill.new.self.book.size) (sym c.push_reserved.ensures.items)
           (zero_runs c.self.inside c.take_frame-token.new.self c.seat.new.self c.finish_fill.new.self c.take_frame-token.result c.fill_frame-filled.result c.args.page
-          c.make_room.new.journal.items c.make_room.new.stopped r can z c.make_room.ensures.same c.in_ok-make_room.ensures.ok.0))
-          (ap (λ (x : Tables). x.ring) e) ties.heads (pushed c.self.inside.journal.items c.make_room.new.journal.items c.push_reserved.new.self.items _ c.self.inside.tables.params.journal c.make_room.ensures.same c.push_reserved.ensures.items c.in_ok-make_room.ensures.ok.1);
+          c.make_room.new.journal.items c.self.inside.stopped r can z c.make_room.ensures.same refl))
+          (ap (λ (x : Tables). x.ring) e) ties.heads (pushed c.self.inside.journal.items c.make_room.new.journal.items c.push_reserved.new.self.items _ c.self.inside.tables.params.journal c.make_room.ensures.same c.push_reserved.ensures.items c.in_ok-make_room.ensures.ok.0);
       none_lost = now.none_lost;
       room = no_room _ _ _ c.make_room.ensures.room;
     }
@@ -91,11 +91,10 @@ returns-clause-step c =
       first = can.first;
       once = r.tied.once;
     } in
-    let is : kernel_by c.finish_fill.new.self c.push_reserved.new.self.items c.make_room.new.stopped ≡ zero_step (kernel_by c.self.inside.tables c.self.inside.journal.items c.self.inside.stopped) c.args.page =
-    ap (λ (j : List Entry). kernel_by c.finish_fill.new.self j c.make_room.new.stopped) c.push_reserved.ensures.items
-    ∙ zero_kernel c.self.inside.tables c.take_frame-token.new.self c.seat.new.self c.finish_fill.new.self c.take_frame-token.result c.fill_frame-filled.result c.args.page c.make_room.new.journal.items c.make_room.new.stopped z
-    ∙ ap (λ (j : List Entry). zero_step (kernel_by c.self.inside.tables j c.make_room.new.stopped) c.args.page) c.make_room.ensures.same
-    ∙ ap (λ (b : Bool). zero_step (kernel_by c.self.inside.tables c.self.inside.journal.items b) c.args.page) c.in_ok-make_room.ensures.ok.0 in
+    let is : kernel_by c.finish_fill.new.self c.push_reserved.new.self.items c.self.inside.stopped ≡ zero_step (kernel_by c.self.inside.tables c.self.inside.journal.items c.self.inside.stopped) c.args.page =
+    ap (λ (j : List Entry). kernel_by c.finish_fill.new.self j c.self.inside.stopped) c.push_reserved.ensures.items
+    ∙ zero_kernel c.self.inside.tables c.take_frame-token.new.self c.seat.new.self c.finish_fill.new.self c.take_frame-token.result c.fill_frame-filled.result c.args.page c.make_room.new.journal.items c.self.inside.stopped z
+    ∙ ap (λ (j : List Entry). zero_step (kernel_by c.self.inside.tables j c.self.inside.stopped) c.args.page) c.make_room.ensures.same in
     is ∙ ap (λ (s : Standing). zero_step s.kernel c.args.page) c.self.view_is
 
 pub returns-clause-keeps : goal.returns-clause-keeps
@@ -113,11 +112,10 @@ returns-clause-keeps c =
       first = can.first;
       once = r.tied.once;
     } in
-    let is : kernel_by c.finish_fill.new.self c.push_reserved.new.self.items c.make_room.new.stopped ≡ zero_step (kernel_by c.self.inside.tables c.self.inside.journal.items c.self.inside.stopped) c.args.page =
-    ap (λ (j : List Entry). kernel_by c.finish_fill.new.self j c.make_room.new.stopped) c.push_reserved.ensures.items
-    ∙ zero_kernel c.self.inside.tables c.take_frame-token.new.self c.seat.new.self c.finish_fill.new.self c.take_frame-token.result c.fill_frame-filled.result c.args.page c.make_room.new.journal.items c.make_room.new.stopped z
-    ∙ ap (λ (j : List Entry). zero_step (kernel_by c.self.inside.tables j c.make_room.new.stopped) c.args.page) c.make_room.ensures.same
-    ∙ ap (λ (b : Bool). zero_step (kernel_by c.self.inside.tables c.self.inside.journal.items b) c.args.page) c.in_ok-make_room.ensures.ok.0 in
+    let is : kernel_by c.finish_fill.new.self c.push_reserved.new.self.items c.self.inside.stopped ≡ zero_step (kernel_by c.self.inside.tables c.self.inside.journal.items c.self.inside.stopped) c.args.page =
+    ap (λ (j : List Entry). kernel_by c.finish_fill.new.self j c.self.inside.stopped) c.push_reserved.ensures.items
+    ∙ zero_kernel c.self.inside.tables c.take_frame-token.new.self c.seat.new.self c.finish_fill.new.self c.take_frame-token.result c.fill_frame-filled.result c.args.page c.make_room.new.journal.items c.self.inside.stopped z
+    ∙ ap (λ (j : List Entry). zero_step (kernel_by c.self.inside.tables j c.self.inside.stopped) c.args.page) c.make_room.ensures.same in
     let k : Kernel = kernel_by c.self.inside.tables c.self.inside.journal.items c.self.inside.stopped in
     subst (KeepsFlat c.args.self.now.kernel) (sym is) (subst (λ (s : Standing). KeepsFlat s.kernel (zero_step k c.args.page)) c.self.view_is (zero_keeps c.self.inside.tables.book.size k c.args.page c.self.inside.tables.fills.items r.sound can refl refl))
 
@@ -136,10 +134,9 @@ returns-clause-same c =
       first = can.first;
       once = r.tied.once;
     } in
-    let is : kernel_by c.finish_fill.new.self c.push_reserved.new.self.items c.make_room.new.stopped ≡ zero_step (kernel_by c.self.inside.tables c.self.inside.journal.items c.self.inside.stopped) c.args.page =
-    ap (λ (j : List Entry). kernel_by c.finish_fill.new.self j c.make_room.new.stopped) c.push_reserved.ensures.items
-    ∙ zero_kernel c.self.inside.tables c.take_frame-token.new.self c.seat.new.self c.finish_fill.new.self c.take_frame-token.result c.fill_frame-filled.result c.args.page c.make_room.new.journal.items c.make_room.new.stopped z
-    ∙ ap (λ (j : List Entry). zero_step (kernel_by c.self.inside.tables j c.make_room.new.stopped) c.args.page) c.make_room.ensures.same
-    ∙ ap (λ (b : Bool). zero_step (kernel_by c.self.inside.tables c.self.inside.journal.items b) c.args.page) c.in_ok-make_room.ensures.ok.0 in
+    let is : kernel_by c.finish_fill.new.self c.push_reserved.new.self.items c.self.inside.stopped ≡ zero_step (kernel_by c.self.inside.tables c.self.inside.journal.items c.self.inside.stopped) c.args.page =
+    ap (λ (j : List Entry). kernel_by c.finish_fill.new.self j c.self.inside.stopped) c.push_reserved.ensures.items
+    ∙ zero_kernel c.self.inside.tables c.take_frame-token.new.self c.seat.new.self c.finish_fill.new.self c.take_frame-token.result c.fill_frame-filled.result c.args.page c.make_room.new.journal.items c.self.inside.stopped z
+    ∙ ap (λ (j : List Entry). zero_step (kernel_by c.self.inside.tables j c.self.inside.stopped) c.args.page) c.make_room.ensures.same in
     let k : Kernel = kernel_by c.self.inside.tables c.self.inside.journal.items c.self.inside.stopped in
     subst (λ (x : Kernel). SameElsewhere c.args.self.now.kernel x c.args.page) (sym is) (subst (λ (s : Standing). SameElsewhere s.kernel (zero_step k c.args.page) c.args.page) c.self.view_is (zero_same c.self.inside.tables.book.size k c.args.page r.sound can))

@@ -2,6 +2,6 @@ use Rattle.machine_state.proofs.Asked.{only_looked, asked_none}
 use Rattle.machine_state.proofs.machine.Machine.fits.Goals as goal
 
 pub invariant_of-self : goal.invariant_of-self
-invariant_of-self c now =
-    asked_none c.self.inside c.args.self.now c.find_all-found.new.book c.or_stop.new.stopped c.self.invariant c.self.view_is c.requires.running
-    (only_looked c.find_all-found.result c.self.inside.tables.book c.find_all-found.new.book c.args.wants.now c.find_all-found.ensures.book c.find_all-found.ensures.err) now
+invariant_of-self c _ =
+    asked_none c.self.inside c.args.self.now c.find_all-found.new.book c.self.invariant c.self.view_is c.requires.running
+    (only_looked c.find_all-found.result c.self.inside.tables.book c.find_all-found.new.book c.args.wants.now c.find_all-found.ensures.book c.find_all-found.ensures.err)

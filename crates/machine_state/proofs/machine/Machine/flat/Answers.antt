@@ -23,15 +23,15 @@ pub invariant_of-self-2 : goal.invariant_of-self-2
 invariant_of-self-2 c _ =
     let r = ready_of c.self.inside c.args.self.now c.args.pid c.args.e c.args.change c.self.invariant c.self.view_is c.requires.running c.requires.can c.frames-frames.ensures.sound in
     let now = stands_now c.self.inside c.args.self.now c.self.invariant c.self.view_is c.requires.running in
-    let applies = made_of c.apply-applied.result _ c.in_ok-or_stop.ensures.made c.apply-applied.ensures.applied in
+    let applies = made_of c.apply-applied.result _ c.in_ok-or_break_off.ensures.made c.apply-applied.ensures.applied in
     let same : length c.make_room.new.journal.items ≡ length c.self.inside.journal.items = ap length c.make_room.ensures.same in
     record {
       stands = flat_stands c.self.inside.tables c.set_regs.new.self c.self.inside.journal.items c.self.inside.stopped c.args.pid c.args.regs.now c.args.e c.args.change r c.set_regs.ensures
-          c.apply-applied.new.self _ applies (omega (arith, same, c.len.ensures)) c.push_reserved.new.self.items c.or_stop.new.stopped
+          c.apply-applied.new.self _ applies (omega (arith, same, c.len.ensures)) c.push_reserved.new.self.items c.or_break_off.new.stopped
           (c.push_reserved.ensures.items ∙ ap (λ (j : List Entry). j ++ c.args.e ∷ []) c.make_room.ensures.same)
-          (c.in_ok-or_stop.ensures.same ∙ c.in_ok-make_room.ensures.ok.0)
+          c.in_ok-or_break_off.ensures.same
           (pushed c.self.inside.journal.items c.make_room.new.journal.items c.push_reserved.new.self.items _ c.self.inside.tables.params.journal
-          c.make_room.ensures.same c.push_reserved.ensures.items c.in_ok-make_room.ensures.ok.1).within;
+          c.make_room.ensures.same c.push_reserved.ensures.items c.in_ok-make_room.ensures.ok.0).within;
       none_lost = now.none_lost;
       room = no_room _ _ _ c.make_room.ensures.room;
     }
@@ -39,23 +39,23 @@ invariant_of-self-2 c _ =
 pub returns-clause-step : goal.returns-clause-step
 returns-clause-step c =
     let r = ready_of c.self.inside c.args.self.now c.args.pid c.args.e c.args.change c.self.invariant c.self.view_is c.requires.running c.requires.can c.frames-frames.ensures.sound in
-    let applies = made_of c.apply-applied.result _ c.in_ok-or_stop.ensures.made c.apply-applied.ensures.applied in
+    let applies = made_of c.apply-applied.result _ c.in_ok-or_break_off.ensures.made c.apply-applied.ensures.applied in
     let same : length c.make_room.new.journal.items ≡ length c.self.inside.journal.items = ap length c.make_room.ensures.same in
     flat_kernel c.self.inside.tables c.set_regs.new.self c.self.inside.journal.items c.self.inside.stopped c.args.pid c.args.regs.now c.args.e c.args.change r c.set_regs.ensures
-    c.apply-applied.new.self _ applies (omega (arith, same, c.len.ensures)) c.push_reserved.new.self.items c.or_stop.new.stopped
+    c.apply-applied.new.self _ applies (omega (arith, same, c.len.ensures)) c.push_reserved.new.self.items c.or_break_off.new.stopped
     (c.push_reserved.ensures.items ∙ ap (λ (j : List Entry). j ++ c.args.e ∷ []) c.make_room.ensures.same)
-    (c.in_ok-or_stop.ensures.same ∙ c.in_ok-make_room.ensures.ok.0)
+    c.in_ok-or_break_off.ensures.same
     ∙ ap (λ (s : Standing). change_step (facts_named s.images) s.kernel c.args.pid c.args.regs.now c.args.e c.args.change) c.self.view_is
 
 pub returns-clause-keeps : goal.returns-clause-keeps
 returns-clause-keeps c =
     let w : Tables = record c.apply-applied.new.self { found = 0 } in
     let r = ready_of c.self.inside c.args.self.now c.args.pid c.args.e c.args.change c.self.invariant c.self.view_is c.requires.running c.requires.can c.frames-frames.ensures.sound in
-    let applies = made_of c.apply-applied.result _ c.in_ok-or_stop.ensures.made c.apply-applied.ensures.applied in
+    let applies = made_of c.apply-applied.result _ c.in_ok-or_break_off.ensures.made c.apply-applied.ensures.applied in
     let same : length c.make_room.new.journal.items ≡ length c.self.inside.journal.items = ap length c.make_room.ensures.same in
-    changes_whole c.args.self.now (record c.args.self.now { kernel = kernel_by w c.push_reserved.new.self.items c.or_stop.new.stopped }) c.args.pid c.args.regs.now c.args.e c.args.change
+    changes_whole c.args.self.now (record c.args.self.now { kernel = kernel_by w c.push_reserved.new.self.items c.or_break_off.new.stopped }) c.args.pid c.args.regs.now c.args.e c.args.change
     (flat_kernel c.self.inside.tables c.set_regs.new.self c.self.inside.journal.items c.self.inside.stopped c.args.pid c.args.regs.now c.args.e c.args.change r c.set_regs.ensures
-    c.apply-applied.new.self _ applies (omega (arith, same, c.len.ensures)) c.push_reserved.new.self.items c.or_stop.new.stopped
+    c.apply-applied.new.self _ applies (omega (arith, same, c.len.ensures)) c.push_reserved.new.self.items c.or_break_off.new.stopped
     (c.push_reserved.ensures.items ∙ ap (λ (j : List Entry). j ++ c.args.e ∷ []) c.make_room.ensures.same)
-    (c.in_ok-or_stop.ensures.same ∙ c.in_ok-make_room.ensures.ok.0)
+    c.in_ok-or_break_off.ensures.same
     ∙ ap (λ (s : Standing). change_step (facts_named s.images) s.kernel c.args.pid c.args.regs.now c.args.e c.args.change) c.self.view_is)

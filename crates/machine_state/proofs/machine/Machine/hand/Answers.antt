@@ -80,11 +80,10 @@ invariant_of-self-2 c _ =
     } in
     let ej : c.add_move.new.journal.items ≡ append c.self.inside.journal.items (entries.Hands 1) =
     c.add_move.ensures ∙ ap (λ (j : List Entry). append j (entries.Hands 1)) c.make_room_to_move.ensures.same in
-    let es : c.or_stop.new.stopped ≡ c.self.inside.stopped = c.in_ok-parts.ensures.same ∙ c.in_ok-make_room_to_move.ensures.ok in
     let now = stands_now c.self.inside c.args.self.now c.self.invariant c.self.view_is c.requires.running in
     let whole = whole_now c.self.inside c.args.self.now c.self.view_is c.requires.whole in
     record {
-      stands = moving_stands c.self.inside c.move_hands.new.self p c.args.locked.now (entries.Hands 1) c.add_move.new.journal.items c.or_stop.new.stopped g now.stands whole ej es
+      stands = moving_stands c.self.inside c.move_hands.new.self p c.args.locked.now (entries.Hands 1) c.add_move.new.journal.items c.self.inside.stopped g now.stands whole ej refl
           (joined_within moves_in (λ (count : ℕ). entries.Hands count) moves_kind c.self.inside.journal.items c.add_move.new.journal.items t.params.journal ej now.stands.within (λ h. (c.in_ok-make_room_to_move.ensures.has_room h).0));
       none_lost = now.none_lost;
       room = no_room _ _ _ c.make_room_to_move.ensures.room;
@@ -109,7 +108,6 @@ returns-clause-rest c =
     } in
     let ej : c.add_move.new.journal.items ≡ append c.self.inside.journal.items (entries.Hands 1) =
     c.add_move.ensures ∙ ap (λ (j : List Entry). append j (entries.Hands 1)) c.make_room_to_move.ensures.same in
-    let es : c.or_stop.new.stopped ≡ c.self.inside.stopped = c.in_ok-parts.ensures.same ∙ c.in_ok-make_room_to_move.ensures.ok in
     rest_of c.self.inside c.args.self.now c.move_hands.new.self _ _ _ c.self.view_is (moved_still t c.move_hands.new.self p m) c.make_room_to_move.ensures.room
 
 pub returns-clause-step : goal.returns-clause-step
@@ -131,10 +129,9 @@ returns-clause-step c =
     } in
     let ej : c.add_move.new.journal.items ≡ append c.self.inside.journal.items (entries.Hands 1) =
     c.add_move.ensures ∙ ap (λ (j : List Entry). append j (entries.Hands 1)) c.make_room_to_move.ensures.same in
-    let es : c.or_stop.new.stopped ≡ c.self.inside.stopped = c.in_ok-parts.ensures.same ∙ c.in_ok-make_room_to_move.ensures.ok in
     let b : Kernel = kernel_by t c.self.inside.journal.items c.self.inside.stopped in
-    let is : kernel_by c.move_hands.new.self c.add_move.new.journal.items c.or_stop.new.stopped ≡ hand_step b c.args.locked.now =
-    moving_kernel c.self.inside c.move_hands.new.self p c.args.locked.now (entries.Hands 1) c.add_move.new.journal.items c.or_stop.new.stopped g ej es in
+    let is : kernel_by c.move_hands.new.self c.add_move.new.journal.items c.self.inside.stopped ≡ hand_step b c.args.locked.now =
+    moving_kernel c.self.inside c.move_hands.new.self p c.args.locked.now (entries.Hands 1) c.add_move.new.journal.items c.self.inside.stopped g ej refl in
     is ∙ ap (λ (s : Standing). hand_step s.kernel c.args.locked.now) c.self.view_is
 
 pub returns-clause-keeps : goal.returns-clause-keeps
@@ -156,10 +153,9 @@ returns-clause-keeps c =
     } in
     let ej : c.add_move.new.journal.items ≡ append c.self.inside.journal.items (entries.Hands 1) =
     c.add_move.ensures ∙ ap (λ (j : List Entry). append j (entries.Hands 1)) c.make_room_to_move.ensures.same in
-    let es : c.or_stop.new.stopped ≡ c.self.inside.stopped = c.in_ok-parts.ensures.same ∙ c.in_ok-make_room_to_move.ensures.ok in
     let b : Kernel = kernel_by t c.self.inside.journal.items c.self.inside.stopped in
-    let is : kernel_by c.move_hands.new.self c.add_move.new.journal.items c.or_stop.new.stopped ≡ hand_step b c.args.locked.now =
-    moving_kernel c.self.inside c.move_hands.new.self p c.args.locked.now (entries.Hands 1) c.add_move.new.journal.items c.or_stop.new.stopped g ej es in
+    let is : kernel_by c.move_hands.new.self c.add_move.new.journal.items c.self.inside.stopped ≡ hand_step b c.args.locked.now =
+    moving_kernel c.self.inside c.move_hands.new.self p c.args.locked.now (entries.Hands 1) c.add_move.new.journal.items c.self.inside.stopped g ej refl in
     subst (KeepsFlat c.args.self.now.kernel) (sym is) (subst (λ (s : Standing). KeepsFlat s.kernel (hand_step b c.args.locked.now)) c.self.view_is (hand_keeps t.book.size b c.args.locked.now r.sound))
 
 pub returns-clause-same : goal.returns-clause-same
@@ -181,8 +177,7 @@ returns-clause-same c =
     } in
     let ej : c.add_move.new.journal.items ≡ append c.self.inside.journal.items (entries.Hands 1) =
     c.add_move.ensures ∙ ap (λ (j : List Entry). append j (entries.Hands 1)) c.make_room_to_move.ensures.same in
-    let es : c.or_stop.new.stopped ≡ c.self.inside.stopped = c.in_ok-parts.ensures.same ∙ c.in_ok-make_room_to_move.ensures.ok in
     let b : Kernel = kernel_by t c.self.inside.journal.items c.self.inside.stopped in
-    let is : kernel_by c.move_hands.new.self c.add_move.new.journal.items c.or_stop.new.stopped ≡ hand_step b c.args.locked.now =
-    moving_kernel c.self.inside c.move_hands.new.self p c.args.locked.now (entries.Hands 1) c.add_move.new.journal.items c.or_stop.new.stopped g ej es in
+    let is : kernel_by c.move_hands.new.self c.add_move.new.journal.items c.self.inside.stopped ≡ hand_step b c.args.locked.now =
+    moving_kernel c.self.inside c.move_hands.new.self p c.args.locked.now (entries.Hands 1) c.add_move.new.journal.items c.self.inside.stopped g ej refl in
     subst (SameEverywhere c.args.self.now.kernel) (sym is) (subst (λ (s : Standing). SameEverywhere s.kernel (hand_step b c.args.locked.now)) c.self.view_is (hand_alike b c.args.locked.now))

@@ -1,4 +1,4 @@
-use Rattle.std.proofs.Common.{◌≡◌, ℕ, cond, List, [], ◌∷◌, ◌++◌, sym, ap, ◌∙◌, subst}
+use Rattle.std.proofs.Common.{◌≡◌, ℕ, cond, List, [], ◌∷◌, ◌++◌, refl, sym, ap, ◌∙◌, subst}
 use Rattle.vm_facts.specs.declared.entry.Entry.{Entry}
 use Rattle.vm_facts.specs.declared.entry.Entry.TheVariants as entries
 use Rattle.flat_state.specs.Journal.{append}
@@ -62,12 +62,11 @@ invariant_of-self-2 c _ =
     } in
     let ej : c.push_reserved.new.self.items ≡ append c.self.inside.journal.items (entries.Put c.args.lo c.args.n) =
     c.push_reserved.ensures.items ∙ ap (λ (j : List Entry). j ++ entries.Put c.args.lo c.args.n ∷ []) c.make_room.ensures.same in
-    let es : c.or_stop.new.stopped ≡ c.self.inside.stopped = c.in_ok-parts.ensures.same ∙ c.in_ok-make_room.ensures.ok.0 in
     let now = stands_now c.self.inside c.args.self.now c.self.invariant c.self.view_is c.requires.running in
     let whole = whole_now c.self.inside c.args.self.now c.self.view_is c.requires.whole in
     record {
-      stands = moving_stands c.self.inside c.put_out.new.self p [] (entries.Put c.args.lo c.args.n) c.push_reserved.new.self.items c.or_stop.new.stopped g now.stands whole ej es
-          (pushed c.self.inside.journal.items c.make_room.new.journal.items c.push_reserved.new.self.items _ t.params.journal c.make_room.ensures.same c.push_reserved.ensures.items c.in_ok-make_room.ensures.ok.1).within;
+      stands = moving_stands c.self.inside c.put_out.new.self p [] (entries.Put c.args.lo c.args.n) c.push_reserved.new.self.items c.self.inside.stopped g now.stands whole ej refl
+          (pushed c.self.inside.journal.items c.make_room.new.journal.items c.push_reserved.new.self.items _ t.params.journal c.make_room.ensures.same c.push_reserved.ensures.items c.in_ok-make_room.ensures.ok.0).within;
       none_lost = now.none_lost;
       room = no_room _ _ _ c.make_room.ensures.room;
     }
@@ -94,7 +93,6 @@ returns-clause-rest c =
     } in
     let ej : c.push_reserved.new.self.items ≡ append c.self.inside.journal.items (entries.Put c.args.lo c.args.n) =
     c.push_reserved.ensures.items ∙ ap (λ (j : List Entry). j ++ entries.Put c.args.lo c.args.n ∷ []) c.make_room.ensures.same in
-    let es : c.or_stop.new.stopped ≡ c.self.inside.stopped = c.in_ok-parts.ensures.same ∙ c.in_ok-make_room.ensures.ok.0 in
     rest_of c.self.inside c.args.self.now c.put_out.new.self _ _ _ c.self.view_is (moved_still t c.put_out.new.self p m) c.make_room.ensures.room
 
 pub returns-clause-step : goal.returns-clause-step
@@ -119,10 +117,9 @@ returns-clause-step c =
     } in
     let ej : c.push_reserved.new.self.items ≡ append c.self.inside.journal.items (entries.Put c.args.lo c.args.n) =
     c.push_reserved.ensures.items ∙ ap (λ (j : List Entry). j ++ entries.Put c.args.lo c.args.n ∷ []) c.make_room.ensures.same in
-    let es : c.or_stop.new.stopped ≡ c.self.inside.stopped = c.in_ok-parts.ensures.same ∙ c.in_ok-make_room.ensures.ok.0 in
     let b : Kernel = kernel_by t c.self.inside.journal.items c.self.inside.stopped in
-    let is : kernel_by c.put_out.new.self c.push_reserved.new.self.items c.or_stop.new.stopped ≡ push_step b c.args.lo c.args.n =
-    moving_kernel c.self.inside c.put_out.new.self p [] (entries.Put c.args.lo c.args.n) c.push_reserved.new.self.items c.or_stop.new.stopped g ej es in
+    let is : kernel_by c.put_out.new.self c.push_reserved.new.self.items c.self.inside.stopped ≡ push_step b c.args.lo c.args.n =
+    moving_kernel c.self.inside c.put_out.new.self p [] (entries.Put c.args.lo c.args.n) c.push_reserved.new.self.items c.self.inside.stopped g ej refl in
     is ∙ ap (λ (s : Standing). push_step s.kernel c.args.lo c.args.n) c.self.view_is
 
 pub returns-clause-keeps : goal.returns-clause-keeps
@@ -147,10 +144,9 @@ returns-clause-keeps c =
     } in
     let ej : c.push_reserved.new.self.items ≡ append c.self.inside.journal.items (entries.Put c.args.lo c.args.n) =
     c.push_reserved.ensures.items ∙ ap (λ (j : List Entry). j ++ entries.Put c.args.lo c.args.n ∷ []) c.make_room.ensures.same in
-    let es : c.or_stop.new.stopped ≡ c.self.inside.stopped = c.in_ok-parts.ensures.same ∙ c.in_ok-make_room.ensures.ok.0 in
     let b : Kernel = kernel_by t c.self.inside.journal.items c.self.inside.stopped in
-    let is : kernel_by c.put_out.new.self c.push_reserved.new.self.items c.or_stop.new.stopped ≡ push_step b c.args.lo c.args.n =
-    moving_kernel c.self.inside c.put_out.new.self p [] (entries.Put c.args.lo c.args.n) c.push_reserved.new.self.items c.or_stop.new.stopped g ej es in
+    let is : kernel_by c.put_out.new.self c.push_reserved.new.self.items c.self.inside.stopped ≡ push_step b c.args.lo c.args.n =
+    moving_kernel c.self.inside c.put_out.new.self p [] (entries.Put c.args.lo c.args.n) c.push_reserved.new.self.items c.self.inside.stopped g ej refl in
     subst (KeepsFlat c.args.self.now.kernel) (sym is) (subst (λ (s : Standing). KeepsFlat s.kernel (push_step b c.args.lo c.args.n)) c.self.view_is (push_keeps t.book.size b c.args.lo c.args.n r.sound can))
 
 pub returns-clause-same : goal.returns-clause-same
@@ -175,8 +171,7 @@ returns-clause-same c =
     } in
     let ej : c.push_reserved.new.self.items ≡ append c.self.inside.journal.items (entries.Put c.args.lo c.args.n) =
     c.push_reserved.ensures.items ∙ ap (λ (j : List Entry). j ++ entries.Put c.args.lo c.args.n ∷ []) c.make_room.ensures.same in
-    let es : c.or_stop.new.stopped ≡ c.self.inside.stopped = c.in_ok-parts.ensures.same ∙ c.in_ok-make_room.ensures.ok.0 in
     let b : Kernel = kernel_by t c.self.inside.journal.items c.self.inside.stopped in
-    let is : kernel_by c.put_out.new.self c.push_reserved.new.self.items c.or_stop.new.stopped ≡ push_step b c.args.lo c.args.n =
-    moving_kernel c.self.inside c.put_out.new.self p [] (entries.Put c.args.lo c.args.n) c.push_reserved.new.self.items c.or_stop.new.stopped g ej es in
+    let is : kernel_by c.put_out.new.self c.push_reserved.new.self.items c.self.inside.stopped ≡ push_step b c.args.lo c.args.n =
+    moving_kernel c.self.inside c.put_out.new.self p [] (entries.Put c.args.lo c.args.n) c.push_reserved.new.self.items c.self.inside.stopped g ej refl in
     subst (SameEverywhere c.args.self.now.kernel) (sym is) (subst (λ (s : Standing). SameEverywhere s.kernel (push_step b c.args.lo c.args.n)) c.self.view_is (push_alike b c.args.lo c.args.n))

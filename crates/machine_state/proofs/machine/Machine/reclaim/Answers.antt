@@ -89,10 +89,10 @@ invariant_of-self-2 c _ =
     let e = v.rest in
     let s : Still t c.revive.new.self = still_along _ _ _ e (record { params = refl; images = refl; book = refl; found = refl; processes = refl; next_pid = refl; next_sid = refl }) in
     record {
-      stands = stands_same c.self.inside c.revive.new.self c.push_reserved.new.self.items c.make_room.new.stopped now.stands whole s
-          (subst (λ (j : List Entry). Runs (kernel_by c.revive.new.self j c.make_room.new.stopped) (lists_of c.revive.new.self) c.revive.new.self.book.size) (sym c.push_reserved.ensures.items)
-          (reclaim_runs c.self.inside c.revive.new.self c.args.page can.frame c.make_room.new.journal.items c.make_room.new.stopped r can.shared g c.make_room.ensures.same c.in_ok-make_room.ensures.ok.0))
-          (ap (λ (x : Tables). x.ring) e) (ap (map head_of) v.spaces ∙ placed_heads t.spaces c.args.page (Frame can.frame true (dirty_shown t.spaces t.texts c.args.page))) (pushed c.self.inside.journal.items c.make_room.new.journal.items c.push_reserved.new.self.items _ c.self.inside.tables.params.journal c.make_room.ensures.same c.push_reserved.ensures.items c.in_ok-make_room.ensures.ok.1);
+      stands = stands_same c.self.inside c.revive.new.self c.push_reserved.new.self.items c.self.inside.stopped now.stands whole s
+          (subst (λ (j : List Entry). Runs (kernel_by c.revive.new.self j c.self.inside.stopped) (lists_of c.revive.new.self) c.revive.new.self.book.size) (sym c.push_reserved.ensures.items)
+          (reclaim_runs c.self.inside c.revive.new.self c.args.page can.frame c.make_room.new.journal.items c.self.inside.stopped r can.shared g c.make_room.ensures.same refl))
+          (ap (λ (x : Tables). x.ring) e) (ap (map head_of) v.spaces ∙ placed_heads t.spaces c.args.page (Frame can.frame true (dirty_shown t.spaces t.texts c.args.page))) (pushed c.self.inside.journal.items c.make_room.new.journal.items c.push_reserved.new.self.items _ c.self.inside.tables.params.journal c.make_room.ensures.same c.push_reserved.ensures.items c.in_ok-make_room.ensures.ok.0);
       none_lost = now.none_lost;
       room = no_room _ _ _ c.make_room.ensures.room;
     }
@@ -124,11 +124,10 @@ returns-clause-step c =
     subst (λ (b : Bool). RevivedPage t c.revive.new.self c.args.page can.frame b) c.is_dirty-dirty.ensures (subst (λ (f : ℕ). RevivedPage t c.revive.new.self c.args.page f c.is_dirty-dirty.result) frame c.revive.ensures) in
     let g : Reclaiming t c.revive.new.self c.args.page can.frame = record { known = k; invalid = can.invalid; entry = i; revived_it = v } in
     let b : Kernel = kernel_by t c.self.inside.journal.items c.self.inside.stopped in
-    let is : kernel_by c.revive.new.self c.push_reserved.new.self.items c.make_room.new.stopped ≡ reclaim_step b c.args.page =
-    ap (λ (j : List Entry). kernel_by c.revive.new.self j c.make_room.new.stopped) c.push_reserved.ensures.items
-    ∙ reclaim_kernel t c.revive.new.self c.args.page can.frame c.make_room.new.journal.items c.make_room.new.stopped g
-    ∙ ap (λ (j : List Entry). reclaim_step (kernel_by t j c.make_room.new.stopped) c.args.page) c.make_room.ensures.same
-    ∙ ap (λ (s : Bool). reclaim_step (kernel_by t c.self.inside.journal.items s) c.args.page) c.in_ok-make_room.ensures.ok.0 in
+    let is : kernel_by c.revive.new.self c.push_reserved.new.self.items c.self.inside.stopped ≡ reclaim_step b c.args.page =
+    ap (λ (j : List Entry). kernel_by c.revive.new.self j c.self.inside.stopped) c.push_reserved.ensures.items
+    ∙ reclaim_kernel t c.revive.new.self c.args.page can.frame c.make_room.new.journal.items c.self.inside.stopped g
+    ∙ ap (λ (j : List Entry). reclaim_step (kernel_by t j c.self.inside.stopped) c.args.page) c.make_room.ensures.same in
     is ∙ ap (λ (s : Standing). reclaim_step s.kernel c.args.page) c.self.view_is
 
 pub returns-clause-keeps : goal.returns-clause-keeps
@@ -143,11 +142,10 @@ returns-clause-keeps c =
     subst (λ (b : Bool). RevivedPage t c.revive.new.self c.args.page can.frame b) c.is_dirty-dirty.ensures (subst (λ (f : ℕ). RevivedPage t c.revive.new.self c.args.page f c.is_dirty-dirty.result) frame c.revive.ensures) in
     let g : Reclaiming t c.revive.new.self c.args.page can.frame = record { known = k; invalid = can.invalid; entry = i; revived_it = v } in
     let b : Kernel = kernel_by t c.self.inside.journal.items c.self.inside.stopped in
-    let is : kernel_by c.revive.new.self c.push_reserved.new.self.items c.make_room.new.stopped ≡ reclaim_step b c.args.page =
-    ap (λ (j : List Entry). kernel_by c.revive.new.self j c.make_room.new.stopped) c.push_reserved.ensures.items
-    ∙ reclaim_kernel t c.revive.new.self c.args.page can.frame c.make_room.new.journal.items c.make_room.new.stopped g
-    ∙ ap (λ (j : List Entry). reclaim_step (kernel_by t j c.make_room.new.stopped) c.args.page) c.make_room.ensures.same
-    ∙ ap (λ (s : Bool). reclaim_step (kernel_by t c.self.inside.journal.items s) c.args.page) c.in_ok-make_room.ensures.ok.0 in
+    let is : kernel_by c.revive.new.self c.push_reserved.new.self.items c.self.inside.stopped ≡ reclaim_step b c.args.page =
+    ap (λ (j : List Entry). kernel_by c.revive.new.self j c.self.inside.stopped) c.push_reserved.ensures.items
+    ∙ reclaim_kernel t c.revive.new.self c.args.page can.frame c.make_room.new.journal.items c.self.inside.stopped g
+    ∙ ap (λ (j : List Entry). reclaim_step (kernel_by t j c.self.inside.stopped) c.args.page) c.make_room.ensures.same in
     subst (KeepsFlat c.args.self.now.kernel) (sym is) (subst (λ (s : Standing). KeepsFlat s.kernel (reclaim_step b c.args.page)) c.self.view_is (reclaim_keeps t.book.size b c.args.page r.sound))
 
 pub returns-clause-same : goal.returns-clause-same
@@ -162,9 +160,8 @@ returns-clause-same c =
     subst (λ (b : Bool). RevivedPage t c.revive.new.self c.args.page can.frame b) c.is_dirty-dirty.ensures (subst (λ (f : ℕ). RevivedPage t c.revive.new.self c.args.page f c.is_dirty-dirty.result) frame c.revive.ensures) in
     let g : Reclaiming t c.revive.new.self c.args.page can.frame = record { known = k; invalid = can.invalid; entry = i; revived_it = v } in
     let b : Kernel = kernel_by t c.self.inside.journal.items c.self.inside.stopped in
-    let is : kernel_by c.revive.new.self c.push_reserved.new.self.items c.make_room.new.stopped ≡ reclaim_step b c.args.page =
-    ap (λ (j : List Entry). kernel_by c.revive.new.self j c.make_room.new.stopped) c.push_reserved.ensures.items
-    ∙ reclaim_kernel t c.revive.new.self c.args.page can.frame c.make_room.new.journal.items c.make_room.new.stopped g
-    ∙ ap (λ (j : List Entry). reclaim_step (kernel_by t j c.make_room.new.stopped) c.args.page) c.make_room.ensures.same
-    ∙ ap (λ (s : Bool). reclaim_step (kernel_by t c.self.inside.journal.items s) c.args.page) c.in_ok-make_room.ensures.ok.0 in
+    let is : kernel_by c.revive.new.self c.push_reserved.new.self.items c.self.inside.stopped ≡ reclaim_step b c.args.page =
+    ap (λ (j : List Entry). kernel_by c.revive.new.self j c.self.inside.stopped) c.push_reserved.ensures.items
+    ∙ reclaim_kernel t c.revive.new.self c.args.page can.frame c.make_room.new.journal.items c.self.inside.stopped g
+    ∙ ap (λ (j : List Entry). reclaim_step (kernel_by t j c.self.inside.stopped) c.args.page) c.make_room.ensures.same in
     subst (SameEverywhere c.args.self.now.kernel) (sym is) (subst (λ (s : Standing). SameEverywhere s.kernel (reclaim_step b c.args.page)) c.self.view_is (reclaim_alike b c.args.page))

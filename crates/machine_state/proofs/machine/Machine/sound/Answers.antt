@@ -47,3 +47,9 @@ pub returns-clause-texts : goal.returns-clause-texts
 returns-clause-texts c =
     let m = c.self.inside in
     subst TextsStand c.self.view_is (texts_stand m.tables)
+
+pub returns-clause-within : goal.returns-clause-within
+returns-clause-within c =
+    let m = c.self.inside in
+    let now = stands_now m c.args.self.now c.self.invariant c.self.view_is c.requires in
+    subst (λ (s : Standing). length s.kernel.journal ≤ s.params.journal) c.self.view_is now.stands.within

@@ -1,4 +1,4 @@
-use Rattle.std.proofs.Common.{◌≡◌, ℕ, ◌+◌, ◌*◌, ◌≤◌, true, List, [], ◌∷◌, ◌++◌, length, Some, sym, ap, ◌∙◌, subst, arith}
+use Rattle.std.proofs.Common.{◌≡◌, ℕ, ◌+◌, ◌*◌, ◌≤◌, true, List, [], ◌∷◌, ◌++◌, length, Some, refl, sym, ap, ◌∙◌, subst, arith}
 use Rattle.vm_facts.specs.declared.entry.Entry.{Entry}
 use Rattle.vm_facts.specs.declared.entry.Entry.TheVariants as entries
 use Rattle.kernel_model.specs.Kernel.{Kernel, out_step}
@@ -65,17 +65,17 @@ invariant_of-self-in-Done u c _ =
     let r = running m c.args.self.now c.self.invariant c.self.view_is c.requires.running c.requires.whole in
     let now = stands_now m c.args.self.now c.self.invariant c.self.view_is c.requires.running in
     let whole = whole_now m c.args.self.now c.self.view_is c.requires.whole in
-    let g : Gone m c.move_record.new.processes c.push_reserved.new.self.items c.make_room.new.stopped c.args.pid c.no_regs.result true c.next_place-since.result (entries.SwapOut c.args.pid) = record {
+    let g : Gone m c.move_record.new.processes c.push_reserved.new.self.items c.self.inside.stopped c.args.pid c.no_regs.result true c.next_place-since.result (entries.SwapOut c.args.pid) = record {
       moved = c.move_record.ensures;
       lasts = leaving_lasts t k c.args.pid c.move_record.ensures.was l c.move_record.ensures.found;
       since_is = c.next_place-since.ensures ∙ ap (λ (j : List Entry). length j + 1) (c.as_slice.ensures.value ∙ c.make_room.ensures.same);
       journal_is = c.push_reserved.ensures.items ∙ ap (λ (j : List Entry). j ++ entries.SwapOut c.args.pid ∷ []) c.make_room.ensures.same;
-      stopped_is = c.in_ok-make_room.ensures.ok.0;
+      stopped_is = refl;
     } in
-    let is : kernel_by (with_records t c.move_record.new.processes) c.push_reserved.new.self.items c.make_room.new.stopped ≡ out_step k c.args.pid =
-    out_is m c.move_record.new.processes c.push_reserved.new.self.items c.make_room.new.stopped c.args.pid c.no_regs.result c.next_place-since.result g c.no_regs.ensures in
+    let is : kernel_by (with_records t c.move_record.new.processes) c.push_reserved.new.self.items c.self.inside.stopped ≡ out_step k c.args.pid =
+    out_is m c.move_record.new.processes c.push_reserved.new.self.items c.self.inside.stopped c.args.pid c.no_regs.result c.next_place-since.result g c.no_regs.ensures in
     record {
-      stands = out_stands m c.move_record.new.processes c.push_reserved.new.self.items c.make_room.new.stopped c.args.pid c.no_regs.result c.next_place-since.result g c.no_regs.ensures now.stands whole r (omega (arith, c.in_ok-make_room.ensures.ok.1));
+      stands = out_stands m c.move_record.new.processes c.push_reserved.new.self.items c.self.inside.stopped c.args.pid c.no_regs.result c.next_place-since.result g c.no_regs.ensures now.stands whole r (omega (arith, c.in_ok-make_room.ensures.ok.0));
       none_lost = now.none_lost;
       room = no_room _ _ _ c.make_room.ensures.room;
     }
@@ -87,15 +87,15 @@ returns-in-Done-clause-step u c =
     let k : Kernel = kernel_by t m.journal.items m.stopped in
     let can : CanGoOut k c.args.pid = subst (λ (s : Standing). CanGoOut s.kernel c.args.pid) (sym c.self.view_is) c.requires.can in
     let l : Leaving t k c.args.pid = leaving t m.journal.items m.stopped c.args.pid can in
-    let g : Gone m c.move_record.new.processes c.push_reserved.new.self.items c.make_room.new.stopped c.args.pid c.no_regs.result true c.next_place-since.result (entries.SwapOut c.args.pid) = record {
+    let g : Gone m c.move_record.new.processes c.push_reserved.new.self.items c.self.inside.stopped c.args.pid c.no_regs.result true c.next_place-since.result (entries.SwapOut c.args.pid) = record {
       moved = c.move_record.ensures;
       lasts = leaving_lasts t k c.args.pid c.move_record.ensures.was l c.move_record.ensures.found;
       since_is = c.next_place-since.ensures ∙ ap (λ (j : List Entry). length j + 1) (c.as_slice.ensures.value ∙ c.make_room.ensures.same);
       journal_is = c.push_reserved.ensures.items ∙ ap (λ (j : List Entry). j ++ entries.SwapOut c.args.pid ∷ []) c.make_room.ensures.same;
-      stopped_is = c.in_ok-make_room.ensures.ok.0;
+      stopped_is = refl;
     } in
-    let is : kernel_by (with_records t c.move_record.new.processes) c.push_reserved.new.self.items c.make_room.new.stopped ≡ out_step k c.args.pid =
-    out_is m c.move_record.new.processes c.push_reserved.new.self.items c.make_room.new.stopped c.args.pid c.no_regs.result c.next_place-since.result g c.no_regs.ensures in
+    let is : kernel_by (with_records t c.move_record.new.processes) c.push_reserved.new.self.items c.self.inside.stopped ≡ out_step k c.args.pid =
+    out_is m c.move_record.new.processes c.push_reserved.new.self.items c.self.inside.stopped c.args.pid c.no_regs.result c.next_place-since.result g c.no_regs.ensures in
     is ∙ ap (λ (s : Standing). out_step s.kernel c.args.pid) c.self.view_is
 
 pub returns-in-Done-clause-keeps : goal.returns-in-Done-clause-keeps
@@ -108,15 +108,15 @@ returns-in-Done-clause-keeps u c =
     let r = running m c.args.self.now c.self.invariant c.self.view_is c.requires.running c.requires.whole in
     let now = stands_now m c.args.self.now c.self.invariant c.self.view_is c.requires.running in
     let whole = whole_now m c.args.self.now c.self.view_is c.requires.whole in
-    let g : Gone m c.move_record.new.processes c.push_reserved.new.self.items c.make_room.new.stopped c.args.pid c.no_regs.result true c.next_place-since.result (entries.SwapOut c.args.pid) = record {
+    let g : Gone m c.move_record.new.processes c.push_reserved.new.self.items c.self.inside.stopped c.args.pid c.no_regs.result true c.next_place-since.result (entries.SwapOut c.args.pid) = record {
       moved = c.move_record.ensures;
       lasts = leaving_lasts t k c.args.pid c.move_record.ensures.was l c.move_record.ensures.found;
       since_is = c.next_place-since.ensures ∙ ap (λ (j : List Entry). length j + 1) (c.as_slice.ensures.value ∙ c.make_room.ensures.same);
       journal_is = c.push_reserved.ensures.items ∙ ap (λ (j : List Entry). j ++ entries.SwapOut c.args.pid ∷ []) c.make_room.ensures.same;
-      stopped_is = c.in_ok-make_room.ensures.ok.0;
+      stopped_is = refl;
     } in
-    let is : kernel_by (with_records t c.move_record.new.processes) c.push_reserved.new.self.items c.make_room.new.stopped ≡ out_step k c.args.pid =
-    out_is m c.move_record.new.processes c.push_reserved.new.self.items c.make_room.new.stopped c.args.pid c.no_regs.result c.next_place-since.result g c.no_regs.ensures in
+    let is : kernel_by (with_records t c.move_record.new.processes) c.push_reserved.new.self.items c.self.inside.stopped ≡ out_step k c.args.pid =
+    out_is m c.move_record.new.processes c.push_reserved.new.self.items c.self.inside.stopped c.args.pid c.no_regs.result c.next_place-since.result g c.no_regs.ensures in
     let w : WritesU k c.args.pid (u.D.SwapDev.image c.args.swap.now) (u.D.SwapDev.image c.write.new.self) =
     written k c.args.pid c.u_block-block.result c.u_page_of-page.result (u.D.SwapDev.image c.args.swap.now) (u.D.SwapDev.image c.write.new.self) (sym c.u_block-block.ensures) (bytes_are t m.journal.items m.stopped c.args.pid c.u_page_of-page.result l c.u_page_of-page.ensures) c.in-Done.ensures.done in
     let area = c.requires.area in
