@@ -1,5 +1,5 @@
 -- A call that stops at a unit.
-use Rattle.std.proofs.Common.{◌≡◌, ◌⊎◌, ◌↔◌, inl, inr, ℕ, ◌<◌, ◌≤◌, Bool, List, [], ◌∷◌, length, Option, Some, None, Result, Ok, Err, OnErr, IfErr, sym, ap, ◌∙◌, subst, arith}
+use Rattle.std.proofs.Common.{◌≡◌, ◌⊎◌, ◌↔◌, inl, inr, ℕ, ◌<◌, ◌≤◌, Bool, List, [], ◌∷◌, length, map, Option, Some, None, Result, Ok, Err, OnErr, IfErr, sym, ap, ◌∙◌, subst, arith}
 use Rattle.std.proofs.lemmas.List.{length-append}
 use Rattle.vm_facts.specs.declared.entry.Entry.{Entry}
 use Rattle.vm_facts.specs.declared.entry.Entry.TheVariants as entries
@@ -10,10 +10,11 @@ use Rattle.flat_state.specs.Journal.{append, IsPlain}
 use Rattle.flat_state.proofs.Joins.{append_plain}
 use Rattle.page_model.specs.Placement.{Transfer, Source, FromSwap, FromFile}
 use Rattle.kernel_model.specs.Kernel.{Kernel}
+use Rattle.kernel_model.specs.Coupled.{outline_kept}
 use Rattle.machine_state.specs.Machine.{Standing}
 use Rattle.machine_state.specs.Conditions.{HasStopped}
 use Rattle.machine_state.specs.Done.{ImageAfter, StopsFor, SwapAfter, OldestReadsFrom, OldestWrites}
-use Rattle.paging_units.specs.Stops.{CauseBy, SpoilsBy, StopsAt}
+use Rattle.paging_units.specs.Stops.{CauseBy, SpoilsBy, StopsAt, StaysWhereFull}
 
 -- an entry that is never joined makes the journal longer
 pub plain_longer : (journal : List Entry) (e : Entry) → IsPlain e → length journal < length (append journal e)
@@ -25,17 +26,30 @@ plain_longer journal e p =
 err_same : {A : Type 0} (s t : Stop) → (let r : Result A Stop = Err s in r) ≡ Err t → s ≡ t
 err_same s t e = cc
 
+-- a call that stops at the journal's bound leaves the machine running, with the placement, the processes and the holdings as they
+-- were, where no pieces wait
+pub held_here : (stop : Stop) (old new : Standing) → HasStopped old new → old.before ≡ old.kernel.holdings → (stop ≡ stops.JournalFull → old.params.journal ≤ length old.kernel.journal)
+    → StaysWhereFull old.kernel stop new
+held_here stop old new s w full e =
+    let same = s.held (full e) in
+    record {
+      stopped = ap (λ (k : Kernel). k.stopped) same;
+      place = ap (λ (k : Kernel). k.place) same;
+      holdings = ap (λ (k : Kernel). k.holdings) same ∙ w;
+      processes = ap (λ (k : Kernel). map outline_kept k.processes) same;
+    }
+
 -- a call of the machine that makes this unit and calls no device
 pub call_stops : {A : Type 0} (r : Result A Stop) (e : Entry) (old new : Standing) (i : Option (List ℕ))
     → ((stop : Stop) → (stop ≡ stops.JournalFull) ⊎ (stop ≡ stops.NoMemory) → CauseBy e stop old.kernel.place.transfers)
     → ((stop : Stop) → SpoilsBy e stop old.kernel i i)
     → ((r ≡ Err stops.JournalFull) ↔ ((old.params.journal ≤ length old.kernel.journal) × (length old.kernel.journal < length (append old.kernel.journal e))))
     → OnErr r (HasStopped old new) → OnErr r ((r ≡ Err stops.JournalFull) ⊎ (r ≡ Err stops.NoMemory))
-    → IfErr r (λ stop. StopsAt e old.kernel i stop new i)
-call_stops (Ok x) e old new i cause image full s c = tt
-call_stops {A} (Err stop) e old new i cause image full s c = record {
-  stopped = s.stopped;
+    → old.before ≡ old.kernel.holdings → IfErr r (λ stop. StopsAt e old.kernel i stop new i)
+call_stops (Ok x) e old new i cause image full s c w = tt
+call_stops {A} (Err stop) e old new i cause image full s c w = record {
   journal = s.journal;
+  held = held_here stop old new s w (λ h. (full.0 (ap (λ (t : Stop). let r : Result A Stop = Err t in r) h)).0);
   full = (
     (λ h. subst (λ (p : Params). (p.journal ≤ length old.kernel.journal) × (length old.kernel.journal < length (append old.kernel.journal e))) (sym s.params)
         (full.0 (ap (λ (t : Stop). let r : Result A Stop = Err t in r) h))),
@@ -73,10 +87,10 @@ stops_some ts stops.SwapWriteFault h = some_writes ts h
 pub done_stops : (stop : Stop) (old new : Standing) (i j : Option (List ℕ)) → HasStopped old new → StopsFor (Err stop) old.kernel.place.transfers
     → (((let r : Result Bool Stop = Err stop in r) ≡ Err stops.JournalFull) ↔ ((0 < length old.kernel.place.transfers) × (old.params.journal ≤ length old.kernel.journal)))
     → SwapAfter (Err stop) old.kernel i j
-    → StopsAt entries.Done old.kernel i stop new j
-done_stops stop old new i j s c full image = record {
-  stopped = s.stopped;
+    → old.before ≡ old.kernel.holdings → StopsAt entries.Done old.kernel i stop new j
+done_stops stop old new i j s c full image w = record {
   journal = s.journal;
+  held = held_here stop old new s w (λ h. (full.0 (ap (λ (t : Stop). let r : Result Bool Stop = Err t in r) h)).1);
   full = (
     (λ h. (subst (λ (p : Params). p.journal ≤ length old.kernel.journal) (sym s.params) (full.0 (ap (λ (t : Stop). let r : Result Bool Stop = Err t in r) h)).1, plain_longer old.kernel.journal entries.Done tt)),
     (λ h. err_same {A = Bool} stop stops.JournalFull (full.1 (stops_some old.kernel.place.transfers stop c, subst (λ (p : Params). p.journal ≤ length old.kernel.journal) s.params h.0))),
