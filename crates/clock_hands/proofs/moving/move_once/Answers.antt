@@ -27,7 +27,7 @@ returns-in_err-hand-clause-stopped g c =
     ] in
     let unit : move_unit old.kernel.place [] ≡ entries.Hands 1 = moves_now old.kernel.place c.next_write-lo.result.0 c.next_write-lo.result.1 c.next_write-lo.ensures either in
     let i = g.D.SwapDev.image c.args.swap.now in
-    let stops = call_stops c.hand.result (entries.Hands 1) old c.hand.new.self i (λ s h. h) (λ s. refl) c.hand.ensures.full c.hand.ensures.stop c.hand.ensures.cause in
+    let stops = call_stops c.hand.result (entries.Hands 1) old c.hand.new.self i (λ s h. h) (λ s. refl) c.hand.ensures.full c.hand.ensures.stop c.hand.ensures.cause c.requires.whole in
     let p = err_from_is_err_and c.from_residual-in_err-hand.result c.from_residual-in_err-hand.ensures.1 in
     rw (p.1, p.2) (subst (λ (u : Entry). StopsAt u old.kernel i c.in_err-hand.field-0.0 c.hand.new.self i) (sym unit)
     (IfErr-at_err (λ s. StopsAt (entries.Hands 1) old.kernel i s c.hand.new.self i) c.in_err-hand.was stops))
