@@ -49,7 +49,7 @@ use Rattle.paging_units.specs.Made.{Made, MakesUnit, Ground, ground}
 use Rattle.paging_units.specs.Stops.{StopsAt, SpoilsBy}
 use Rattle.paging_units.proofs.Units.{unit_place, unit_journal, unit_same, unit_whole, same_ground}
 use Rattle.paging_units.proofs.Keeping.{unit_shaped}
-use Rattle.paging_units.proofs.Stopping.{plain_longer}
+use Rattle.paging_units.proofs.Stopping.{plain_longer, held_here}
 use Rattle.swapper.specs.declared.putting_out.Step.{Step}
 use Rattle.swapper.specs.declared.putting_out.Step.TheVariants as steps
 use Rattle.swapper.specs.Putting.{IsOfSegment, IsStep, IsNext, HoldsThere, PutOut, StopsPutting}
@@ -295,12 +295,12 @@ ok_is {A} r limit journal pid s t e f = (
 pub out_stops : (pid sid : ℕ) (old new : Standing) (holds : Option (List NamedFile)) (i j : Option (List ℕ)) (r : Result (Unit {0}) Stop) → is_out old.kernel.place pid ≡ false → IsNext old.kernel.place sid None
     → OnErr r (HasStopped old new) → OnErr r ((r ≡ Err stops.JournalFull) ⊎ ((r ≡ Err stops.NoMemory) ⊎ (r ≡ Err stops.SwapWriteFault)))
     → ((r ≡ Err stops.JournalFull) ↔ (old.params.journal ≤ length old.kernel.journal)) → OnErr r (SwapBehind r old.kernel pid i j)
-    → IfErr r (λ stop. StopsPutting pid sid old stop new holds i j)
-out_stops pid sid old new holds i j (Ok x) n l s c f b = tt
-out_stops pid sid old new holds i j (Err stop) n l s c f b =
+    → old.before ≡ old.kernel.holdings → IfErr r (λ stop. StopsPutting pid sid old stop new holds i j)
+out_stops pid sid old new holds i j (Ok x) n l s c f b w = tt
+out_stops pid sid old new holds i j (Err stop) n l s c f b w =
     stops_here pid sid old stop new holds i j n s.params s.images (subst (λ (e : Entry). StopsAt e old.kernel i stop new j) (sym (last_unit old.kernel.place pid sid l)) (record {
-      stopped = s.stopped;
       journal = s.journal;
+      held = held_here stop old new s w (λ h. f.0 (ap (λ (t : Stop). let z : Result (Unit {0}) Stop = Err t in z) h));
       full = subst (λ (p : Params). (stop ≡ stops.JournalFull) ↔ ((p.journal ≤ length old.kernel.journal) × (length old.kernel.journal < length (append old.kernel.journal (entries.SwapOut pid))))) (sym s.params)
           (ok_is {A = Unit {0}} (Err stop) old.params.journal old.kernel.journal pid stop stops.JournalFull refl f);
       cause = elim c [

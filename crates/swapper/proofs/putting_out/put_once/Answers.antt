@@ -1,4 +1,4 @@
-use Rattle.std.proofs.Common.{◌≡◌, IfErr, OnOk, Option, List, [], ℕ, sym, subst}
+use Rattle.std.proofs.Common.{IfErr, OnOk, [], sym, subst}
 use Rattle.vm_facts.specs.declared.entry.Entry.{Entry}
 use Rattle.vm_facts.specs.declared.stop.Stop.{Stop}
 use Rattle.paging_units.specs.Made.{ground, MakesUnit}
