@@ -24,6 +24,7 @@ use Rattle.machine_state.specs.Done.{KeepsThrough, CountsPages, CountsReads, Cou
 use Rattle.machine_state.specs.Settled.{IsSameBeside}
 use Rattle.paging_units.specs.Made.{Ground, ground, MadeBy, ImageBy, SameBeside}
 use Rattle.paging_units.specs.Stops.{CauseBy, SpoilsBy}
+use Rattle.paging_units.proofs.Stopping.{held_here}
 use Rattle.paging_units.proofs.Units.{served_place, unit_journal, unit_same, made_append, made_one, made_same, makes_none, makes_both, makes_on}
 use Rattle.paging_units.proofs.Keeping.{made_shaped, keeps_flat, keeps_same, keeps_both}
 use Rattle.clock_hands.proofs.Units.{made_on}
@@ -82,15 +83,15 @@ cause_same {A} stop h = elim h [
 pub plain_stops : {A : Type 0} (q : Page) (e : Entry) (old new : Standing) (stop : Stop) → ((now : Bool) → serve_unit old.kernel.place q now ≡ Some e)
     → ((s : Stop) (ts : List Transfer) → (s ≡ stops.JournalFull) ⊎ (s ≡ stops.NoMemory) → CauseBy e s ts)
     → ((i : Option (List ℕ)) → SpoilsBy e stop old.kernel i i) → append old.kernel.journal e ≡ old.kernel.journal ++ e ∷ []
-    → HasStopped old new
+    → HasStopped old new → old.before ≡ old.kernel.holdings
     → ((let r : Result A Stop = Err stop in r) ≡ Err stops.JournalFull) ⊎ ((let r : Result A Stop = Err stop in r) ≡ Err stops.NoMemory)
     → ((let r : Result A Stop = Err stop in r) ≡ Err stops.JournalFull) ↔ (old.params.journal ≤ length old.kernel.journal) → PlainStop q old new stop
-plain_stops {A} q e old new stop next causes spoils plain has cause full = λ image now. record {
+plain_stops {A} q e old new stop next causes spoils plain has whole cause full = λ image now. record {
   entry = e;
   next = next now;
   at = record {
-    stopped = has.stopped;
     journal = has.journal;
+    held = held_here stop old new has whole (λ h. full.0 (ap (λ (t : Stop). let r : Result A Stop = Err t in r) h));
     full = full_same {A = A} stop new old (length (append old.kernel.journal e)) has.params (plain_longer old.kernel.journal e plain) full;
     cause = causes stop old.kernel.place.transfers (cause_same {A = A} stop cause);
     image = spoils image;
@@ -118,12 +119,12 @@ reclaim_calls q = record { told = λ k i. refl; causes = λ s ts h. h; spoils = 
 pub plain_either : {A S : Type 0} (r : Result A Stop) (q : Page) (e : Entry) (old new : Standing) → CallsNone e → ((now : Bool) → serve_unit old.kernel.place q now ≡ Some e)
     → (S → (g : Ground) (i : Option (List ℕ)) → MadeBy g e old.kernel i new.kernel)
     → OnOk r S → OnOk r (new ≡ record old { kernel = new.kernel; room = None }) → OnOk r (KeepsFlat old.kernel new.kernel)
-    → OnErr r (HasStopped old new) → OnErr r ((r ≡ Err stops.JournalFull) ⊎ (r ≡ Err stops.NoMemory))
+    → OnErr r (HasStopped old new) → old.before ≡ old.kernel.holdings → OnErr r ((r ≡ Err stops.JournalFull) ⊎ (r ≡ Err stops.NoMemory))
     → ((r ≡ Err stops.JournalFull) ↔ (old.params.journal ≤ length old.kernel.journal)) → MatchResult r (λ (u : A). PlainMade q old new) (PlainStop q old new)
-plain_either (Ok x) q e old new calls next made step rest keeps stopped cause full =
+plain_either (Ok x) q e old new calls next made step rest keeps stopped whole cause full =
     plain_made q e old new next (made step) (calls.told old.kernel) rest keeps
-plain_either {A} (Err s) q e old new calls next made step rest keeps stopped cause full =
-    plain_stops {A = A} q e old new s next calls.causes (calls.spoils s old.kernel) (calls.longer old.kernel.journal) stopped cause full
+plain_either {A} (Err s) q e old new calls next made step rest keeps stopped whole cause full =
+    plain_stops {A = A} q e old new s next calls.causes (calls.spoils s old.kernel) (calls.longer old.kernel.journal) stopped whole cause full
 
 -- The end of a transfer, where it is the next unit.
 

@@ -8,3 +8,4 @@ pub mod Leading
 pub mod Bounds
 pub mod Forcing
 pub mod Serving
+pub mod PageStops

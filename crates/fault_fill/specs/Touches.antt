@@ -99,9 +99,10 @@ AccessComes Touched (accesses.Growth sid pages) answer pid old new before after 
 
 -- Stops.
 
--- the machine stopped where growth or its refusal would be the next entry
+-- the machine stopped where growth or its refusal would be the next entry, and no pieces waited there
 pub record StopsGrowing (old new : Standing) (before after : Option (List ℕ)) (stop : Stop) : Type 0 where
   pub stopped : HasStopped old new
+  pub whole : old.before ≡ old.kernel.holdings
   pub cause : (stop ≡ stops.JournalFull) ⊎ (stop ≡ stops.NoMemory)
   pub full : stop ≡ stops.JournalFull → old.params.journal ≤ length old.kernel.journal
   pub image : after ≡ before

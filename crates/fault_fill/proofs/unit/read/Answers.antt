@@ -26,7 +26,7 @@ returns-clause-made c =
     plain_either c.begin_get.result q (entries.Get q lo n) c.args.m.now c.begin_get.new.self (get_calls q lo n)
     (λ now. unit_reads p q now false (not_full p c.requires.few) c.requires.frameless c.requires.filled c.requires.free ∙ ap (λ (r : Run). Some (entries.Get q r.lo r.n)) c.run_of-lo.ensures.run)
     (λ h g i. h)
-    c.begin_get.ensures.step c.begin_get.ensures.rest c.begin_get.ensures.keeps c.begin_get.ensures.stop c.begin_get.ensures.cause c.begin_get.ensures.full
+    c.begin_get.ensures.step c.begin_get.ensures.rest c.begin_get.ensures.keeps c.begin_get.ensures.stop c.requires.whole c.begin_get.ensures.cause c.begin_get.ensures.full
 
 pub returns-clause-page_faults : goal.returns-clause-page_faults
 returns-clause-page_faults c = λ n. pages_stay n c.begin_get.result c.begin_get.ensures.cause
