@@ -41,6 +41,7 @@ use Rattle.proc_calls.specs.Leaving.{HasSettled, HasLeftBy}
 use Rattle.proc_calls.specs.Making.{with_pieces}
 use Rattle.proc_calls.specs.Starting.{image_wanted, image_found, LeavesFor, StaysWithout, FindsBy, Finds, StartsBy, Starts, ExecComes, StopsImage, StopsExec}
 use Rattle.proc_calls.proofs.Callers.{caller_lives}
+use Rattle.proc_calls.proofs.Stopping.{before_found, left_whole}
 use Rattle.proc_calls.proofs.Leaving.{GoesOn, settled_goes, space_stays, lender_lives}
 
 -- Once its space is settled.
@@ -191,10 +192,11 @@ exec_ok (Ok called) old m new pid image regs after top asked holds i j same e re
 same_stop : (s t : Stop) → (let r : Result Called Stop = Err s in r) ≡ Err t → s ≡ t
 same_stop s t e = cc
 
-pub stops_before : (old new : Standing) (stop : Stop) → HasStopped old new → ((let r : Result Called Stop = Err stop in r) ≡ Err stops.JournalFull) ⊎ ((let r : Result Called Stop = Err stop in r) ≡ Err stops.NoMemory)
+pub stops_before : (old new : Standing) (stop : Stop) → HasStopped old new → old.before ≡ old.kernel.holdings → ((let r : Result Called Stop = Err stop in r) ≡ Err stops.JournalFull) ⊎ ((let r : Result Called Stop = Err stop in r) ≡ Err stops.NoMemory)
     → ((let r : Result Called Stop = Err stop in r) ≡ Err stops.JournalFull → old.params.journal ≤ length old.kernel.journal) → StopsBefore old new stop
-stops_before old new stop s c f = record {
+stops_before old new stop s w c f = record {
   stopped = s;
+  whole = w;
   cause = elim c [
     | inl e ↦ inl (same_stop stop stops.JournalFull e)
     | inr e ↦ inr (same_stop stop stops.NoMemory e)
@@ -202,24 +204,20 @@ stops_before old new stop s c f = record {
   full = λ e. f (ap (λ (t : Stop). let r : Result Called Stop = Err t in r) e);
 }
 
--- found pieces change neither the journal nor its bound
-before_found : (b new : Standing) (hs : Holdings) (stop : Stop) → StopsBefore (with_pieces b hs) new stop → StopsBefore b new stop
-before_found b new hs stop s = record {
-  stopped = record { stopped = s.stopped.stopped; journal = s.stopped.journal; params = s.stopped.params; images = s.stopped.images };
-  cause = s.cause;
-  full = s.full;
-}
-
 pub reply_stops : (stop : Stop) (fits : Bool) (m asked new : Standing) (pid image : ℕ) (after : Regs) (top : List ℕ) (holds : Option (List NamedFile)) (i j : Option (List ℕ))
-    → fits ≡ true → Finds (image_found image) fits m asked pid holds i j → StopsBefore asked new stop → StopsImage m new pid after image top holds i j stop
-reply_stops stop fits m asked new pid image after top holds i j e f s =
+    → fits ≡ true → Finds (image_found image) fits m asked pid holds i j → m.before ≡ m.kernel.holdings → HasStopped asked new
+    → ((let r : Result Called Stop = Err stop in r) ≡ Err stops.JournalFull) ⊎ ((let r : Result Called Stop = Err stop in r) ≡ Err stops.NoMemory)
+    → ((let r : Result Called Stop = Err stop in r) ≡ Err stops.JournalFull → asked.params.journal ≤ length asked.kernel.journal) → StopsImage m new pid after image top holds i j stop
+reply_stops stop fits m asked new pid image after top holds i j e f w s cause full =
     let l : LeavesFor (image_found image) m asked pid holds i j = found_of fits true m asked pid image holds i j e f in
     inl (inl (inr (
       sym f.answer ∙ e,
       inr (record {
         between = l.between;
         left = l.left;
-        stops = before_found l.between new l.found stop (subst (λ (x : Standing). StopsBefore x new stop) l.step s);
+        stops = stops_before l.between new stop (before_found l.between new l.found (subst (λ (x : Standing). HasStopped x new) l.step s))
+            (left_whole (has_lender m.kernel.processes pid) m l.between pid holds i j l.left w) cause
+            (λ h. subst (λ (x : Standing). x.params.journal ≤ length x.kernel.journal) l.step (full h));
       }),
     )))
 
@@ -235,15 +233,16 @@ fill_stops stop fits m asked between new pid image after top page holds later i 
     })
 
 pub fail_stops : (r : Result Called Stop) (fits : Bool) (m asked new : Standing) (pid image : ℕ) (after : Regs) (top : List ℕ) (holds : Option (List NamedFile)) (i j : Option (List ℕ))
-    → fits ≡ false → Finds (image_found image) fits m asked pid holds i j → OnErr r (HasStopped asked new)
+    → fits ≡ false → Finds (image_found image) fits m asked pid holds i j → m.before ≡ m.kernel.holdings → OnErr r (HasStopped asked new)
     → OnErr r ((r ≡ Err stops.JournalFull) ⊎ (r ≡ Err stops.NoMemory)) → (r ≡ Err stops.JournalFull → asked.params.journal ≤ length asked.kernel.journal)
     → IfErr r (StopsImage m new pid after image top holds i j)
-fail_stops (Ok called) fits m asked new pid image after top holds i j e f s c full = tt
-fail_stops (Err stop) fits m asked new pid image after top holds i j e f s c full =
+fail_stops (Ok called) fits m asked new pid image after top holds i j e f whole s c full = tt
+fail_stops (Err stop) fits m asked new pid image after top holds i j e f whole s c full =
     let w : StaysWithout m asked pid i j = found_of fits false m asked pid image holds i j e f in
     inl (inr (record {
       none = sym f.answer ∙ e;
-      stops = subst (λ (x : Standing). StopsBefore x new stop) w.step (stops_before asked new stop s c full);
+      stops = subst (λ (x : Standing). StopsBefore x new stop) w.step (stops_before asked new stop s
+          (ap (λ (x : Standing). x.before) w.step ∙ whole ∙ sym (ap (λ (x : Standing). x.kernel.holdings) w.step)) c full);
       image_same = w.image;
     }))
 

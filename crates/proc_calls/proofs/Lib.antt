@@ -6,6 +6,7 @@ pub mod Breaks
 pub mod Starts
 pub mod Spaces
 pub mod StackPages
+pub mod Stopping
 pub mod Begins
 pub mod Execs
 pub mod Fills

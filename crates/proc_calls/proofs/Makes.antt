@@ -234,14 +234,15 @@ same_stop s t e = cc
 
 -- the machine stops behind the entry that says so
 pub stops_refused : (r : Result Called Stop) (old between new : Standing) (pid child : ℕ) (change : ℕ → Change) → between ≡ without_pieces old pid → child ≡ old.kernel.next_pid
-    → is_below_limit old.kernel ≡ true → finds_pieces old pid (change child) ≡ false → OnErr r (HasStopped between new)
+    → is_below_limit old.kernel ≡ true → finds_pieces old pid (change child) ≡ false → old.before ≡ old.kernel.holdings → OnErr r (HasStopped between new)
     → OnErr r ((r ≡ Err stops.JournalFull) ⊎ (r ≡ Err stops.NoMemory)) → ((r ≡ Err stops.JournalFull) ↔ (between.params.journal ≤ length between.kernel.journal))
     → StopsMakingBy old new pid (change old.kernel.next_pid) r
-stops_refused (Ok called) old between new pid child change is named few none stopped cause full = tt
-stops_refused (Err stop) old between new pid child change is named few none stopped cause full = record {
+stops_refused (Ok called) old between new pid child change is named few none whole stopped cause full = tt
+stops_refused (Err stop) old between new pid child change is named few none whole stopped cause full = record {
   between = between;
   reached = inr (record { below = few; none = subst (λ (n : ℕ). finds_pieces old pid (change n) ≡ false) named none; refused = is });
   stopped = stopped;
+  whole = ap (λ (m : Standing). m.before) is ∙ whole ∙ sym (ap (λ (m : Standing). m.kernel.holdings) is);
   cause = elim cause [ inl e ↦ inl (same_stop stop stops.JournalFull e) | inr e ↦ inr (same_stop stop stops.NoMemory e) ];
   full = λ e. full.0 (ap (λ (s : Stop). let r : Result Called Stop = Err s in r) e);
 }

@@ -1,5 +1,5 @@
 -- What becomes of the machine where a process leaves its space, and where it ends.
-use Rattle.std.specs.Prelude.{◌≡◌, ◌⊎◌, ℕ, Bool, true, false, List, Option, Result, Ok, Err}
+use Rattle.std.specs.Prelude.{◌≡◌, ◌⊎◌, ℕ, ◌<◌, Bool, true, false, List, length, Option, Result, Ok, Err}
 use Rattle.io_edge.specs.FileHolding.{NamedFile}
 use Rattle.vm_facts.specs.declared.entry.Entry.TheVariants as entries
 use Rattle.vm_facts.specs.declared.regs.Regs.{Regs}
@@ -26,8 +26,9 @@ pub record HasSettled (old new : Standing) (sid : ℕ) (holds : Option (List Nam
   pub rest : IsSameBeside old new
   pub keeps : KeepsThrough old new holds before after
 
--- a space that was lent goes back to the one that lent it, with no call of a device
+-- a space that was lent goes back to the one that lent it, with no call of a device, where the journal has room for one more entry
 pub record HasReturned (old new : Standing) (pid : ℕ) (before after : Option (List ℕ)) : Type 0 where
+  pub room : length old.kernel.journal < old.params.journal
   pub step : new ≡ record old { kernel = pass_step old.kernel pid (lender_among old.kernel.processes pid) }
   pub image : after ≡ before
 
@@ -58,12 +59,23 @@ ExitComes old new pid regs (Err refused) holds before after called = Comes old n
 
 -- Where the machine stops.
 
--- a process stops as it leaves its space only as a space of its own settles
-pub record StopsLeaving (old new : Standing) (pid : ℕ) (holds : Option (List NamedFile)) (before after : Option (List ℕ)) (stop : Stop) : Type 0 where
+-- as a space of its own settles
+pub record StopsOwn (old new : Standing) (pid : ℕ) (holds : Option (List NamedFile)) (before after : Option (List ℕ)) (stop : Stop) : Type 0 where
   pub own : has_lender old.kernel.processes pid ≡ false
   pub settling : StopsSettling (space_held old.kernel pid) old new holds before after stop
 
--- once the process left its space, before the entry that follows, with the swap image as it was there
+-- before a space that was lent goes back, which it does only where there is room for the entry that follows
+pub record StopsLent (old new : Standing) (pid : ℕ) (before after : Option (List ℕ)) (stop : Stop) : Type 0 where
+  pub lent : has_lender old.kernel.processes pid ≡ true
+  pub stops : StopsBefore old new stop
+  pub image : after ≡ before
+
+-- a process stops so as it leaves its space
+abbrev pub StopsLeaving : Standing → Standing → ℕ → Option (List NamedFile) → Option (List ℕ) → Option (List ℕ) → Stop → Type 0
+StopsLeaving old new pid holds before after stop = StopsOwn old new pid holds before after stop ⊎ StopsLent old new pid before after stop
+
+-- once the process left its space, before the entry that follows, with the swap image as it was there; behind a space that went
+-- back the journal isn't full
 pub record StopsOnceLeft (old new : Standing) (pid : ℕ) (holds : Option (List NamedFile)) (before after : Option (List ℕ)) (stop : Stop) : Type 0 where
   pub between : Standing
   pub left : HasLeft old between pid holds before after

@@ -78,6 +78,7 @@ pub record StopsMaking (old new : Standing) (pid : ℕ) (change : Change) (stop 
   pub between : Standing
   pub reached : (between ≡ old) ⊎ FindsNone old between pid change
   pub stopped : HasStopped between new
+  pub whole : between.before ≡ between.kernel.holdings
   pub cause : (stop ≡ stops.JournalFull) ⊎ (stop ≡ stops.NoMemory)
   pub full : stop ≡ stops.JournalFull → between.params.journal ≤ length between.kernel.journal
 

@@ -29,6 +29,7 @@ pub record StopsWriting (old new : Standing) (pid : ℕ) (bytes : List ℕ) (sto
   pub between : Standing
   pub reached : (between ≡ old) ⊎ GoneOut old between pid bytes
   pub stopped : HasStopped between new
+  pub whole : between.before ≡ between.kernel.holdings
   pub cause : (stop ≡ stops.JournalFull) ⊎ (stop ≡ stops.NoMemory)
   pub full : stop ≡ stops.JournalFull → between.params.journal ≤ length between.kernel.journal
 

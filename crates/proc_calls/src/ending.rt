@@ -44,7 +44,8 @@ pub fn space_held(m: &Machine, pid: u32) -> u32
     }
 }
 
-/// A process leaves its space: one that it borrowed goes back, and one of its own waits for its transfers.
+/// A process leaves its space: one that it borrowed goes back, once there is room for the entry that follows, and one of its own
+/// waits for its transfers.
 pub fn leave_space<F: Files, D: SwapDev>(
     m: &mut Machine,
     files: &mut F,
@@ -67,6 +68,7 @@ pub fn leave_space<F: Files, D: SwapDev>(
     ensures write_faults { CountsWrites result (D.write_faults swap.old) (D.write_faults swap.new) }
 {
     if is_borrower(m, pid) {
+        m.make_room()?;
         give_back(m, pid);
         return Ok(());
     }

@@ -17,7 +17,7 @@ use crate::starting::start_image;
 use flat_model::{Asked, ENOENT, Reply, SystemCall, string_from, three_arguments};
 use flat_state::Change;
 use io_edge::{Files, SwapDev};
-use machine_state::Machine;
+use machine_state::{Machine, or_stop};
 use std::alloc::Global;
 use vm_facts::{Bytes, NoMemory, Regs, Stop};
 
@@ -145,7 +145,7 @@ pub fn execve<F: Files, D: SwapDev>(
     ensures write_faults { CountsWrites result (D.write_faults swap.old) (D.write_faults swap.new) }
 {
     let asked = read_call(alloc, m, pid, regs);
-    match m.or_stop(asked)? {
+    match or_stop(asked)? {
         Err(refused) => refuse(m, pid, SystemCall::Execve, regs, refused),
         Ok(Reply::Fails(error)) => fail(m, pid, SystemCall::Execve, regs, error),
         Ok(Reply::Does(after, Change::Exec { image, top })) => {

@@ -14,7 +14,7 @@ ghost use Rattle.machine_state.specs.Applying.{CanApply};
 ghost use Rattle.machine_state.specs.Done.{CountsPages, CountsReads, CountsWrites};
 ghost use Rattle.machine_state.specs.Files.{AreFiles};
 ghost use Rattle.machine_state.specs.UserMemory.{CanLend, kernel_answers};
-ghost use Rattle.proc_calls.specs.Answered.{Replied, StopsBefore};
+ghost use Rattle.proc_calls.specs.Answered.{Replied, StopsEntering};
 ghost use Rattle.proc_calls.specs.Callers.{space_held, IsCaller};
 ghost use Rattle.proc_calls.specs.Sizing.{data_pages_of, stack_pages_of, pages_to, Grows, CutData, MovesEnd, BreakComes, StopsPlain, StopsCutting, StopsMoving, StopsBreak};
 
@@ -80,7 +80,7 @@ fn resize(m: &mut Machine, pid: u32, regs: &Regs, sizes: Sizes) -> Result<Called
     requires running { m.old.kernel.stopped ≡ false }
     requires can { CanApply m.old pid (call_entry pid Break (replied regs.now false 0)) (Resize sizes.wanted sizes.stack_pages) }
     ensures replied { IfOk result (Replied m.old m.new pid Break regs.now (Does (replied regs.now false 0) (Resize sizes.wanted sizes.stack_pages))) }
-    ensures stops { IfErr result (StopsBefore m.old m.new) }
+    ensures stops { IfErr result (StopsEntering m.old m.new) }
 {
     let change = Change::Resize {
         data_pages: sizes.wanted,

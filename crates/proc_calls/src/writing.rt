@@ -14,7 +14,7 @@ use crate::replying::{Called, fail, process, refuse, replied_one, reply};
 use flat_model::{Asked, Reply, SystemCall, write_reply};
 use flat_state::Change;
 use io_edge::{Files, SwapDev};
-use machine_state::Machine;
+use machine_state::{Machine, or_stop};
 use std::alloc::Global;
 use vm_facts::{Bytes, Entry, NoMemory, Regs, Stop};
 
@@ -109,7 +109,7 @@ pub fn write<F: Files, D: SwapDev>(
     ensures swap { _swap.new ≡ _swap.old }
 {
     let asked = read_bytes(alloc, m, pid, regs);
-    match m.or_stop(asked)? {
+    match or_stop(asked)? {
         Err(refused) => refuse(m, pid, SystemCall::Write, regs, refused),
         Ok(reply) => answer(m, pid, regs, reply),
     }

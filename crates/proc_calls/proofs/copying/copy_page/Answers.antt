@@ -101,7 +101,11 @@ returns-clause-copied g c =
     c.in_ok-serve_page_now.ensures.holds (c.in_ok-serve_page_now.ensures.served.0.serves, c.in_ok-serve_page_now.ensures.served.1)
     c.in_ok-make_room.ensures.forced c.in_ok-make_room.ensures.keeps c.copy.ensures.step c.copy.ensures.rest c.copy.ensures.keeps
     (call_stops c.copy.result (entries.Copy c.args.child) roomy c.copy.new.self j (λ s h. h) (λ s. refl)
-    (plain_full (entries.Copy c.args.child) roomy.kernel.journal roomy.params.journal _ tt c.copy.ensures.full) c.copy.ensures.stop c.copy.ensures.cause)
+    (plain_full (entries.Copy c.args.child) roomy.kernel.journal roomy.params.journal _ tt c.copy.ensures.full) c.copy.ensures.stop c.copy.ensures.cause
+    (forced_on c.args.parent c.serve_page_now.new.m roomy (g.F.Files.holds c.serve_page_now.new.files) (g.D.SwapDev.image c.serve_page_now.new.swap) j
+    (served_on c.args.parent c.args.m.now c.serve_page_now.new.m (g.F.Files.holds c.args.files.now) (g.D.SwapDev.image c.args.swap.now) (g.D.SwapDev.image c.serve_page_now.new.swap)
+    (record { running = c.requires.running; whole = c.requires.whole }) (c.in_ok-serve_page_now.ensures.served.0.serves, c.in_ok-serve_page_now.ensures.served.1))
+    c.in_ok-make_room.ensures.forced).whole)
 
 pub returns-clause-on : goal.returns-clause-on
 returns-clause-on g c =

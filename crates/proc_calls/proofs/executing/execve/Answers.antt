@@ -19,9 +19,9 @@ returns-in-Ok-Does-default-Exec-clause-comes g c = λ known named.
     let asked = run (kernel_answers m.kernel (space_held m.kernel c.args.pid)) (execve_reply known c.args.regs.now) in
     let e : c.in_ok-refused.field-0 ≡ Ok (Does c.in-Ok-Does-default-Exec.after (Exec c.in-Ok-Does-default-Exec.image c.in-Ok-Does-default-Exec.top)) = cc in
     let v = subst (λ (r : Result (Result Reply Refused) NoMemory). IfOk r (λ a. a ≡ asked)) c.in_ok-refused.ensures.made (c.read_call-asked.ensures.value known named) in
-    exec_ok c.start_image.result m c.or_stop.new.self c.start_image.new.m c.args.pid x.image c.args.regs.now x.after x.top asked
+    exec_ok c.start_image.result m c.read_call-asked.new.m c.start_image.new.m c.args.pid x.image c.args.regs.now x.after x.top asked
     (g.F.Files.holds c.args.files.now) (g.D.SwapDev.image c.args.swap.now) (g.D.SwapDev.image c.start_image.new.swap)
-    (c.in_ok-refused.ensures.same ∙ c.read_call-asked.ensures.same) (sym v ∙ e) c.start_image.ensures.ready c.start_image.ensures.starts
+    c.read_call-asked.ensures.same (sym v ∙ e) c.start_image.ensures.ready c.start_image.ensures.starts
 
 pub returns-in-Ok-Does-default-Exec-clause-stops : goal.returns-in-Ok-Does-default-Exec-clause-stops
 returns-in-Ok-Does-default-Exec-clause-stops g c = λ known named.
@@ -30,6 +30,6 @@ returns-in-Ok-Does-default-Exec-clause-stops g c = λ known named.
     let asked = run (kernel_answers m.kernel (space_held m.kernel c.args.pid)) (execve_reply known c.args.regs.now) in
     let e : c.in_ok-refused.field-0 ≡ Ok (Does c.in-Ok-Does-default-Exec.after (Exec c.in-Ok-Does-default-Exec.image c.in-Ok-Does-default-Exec.top)) = cc in
     let v = subst (λ (r : Result (Result Reply Refused) NoMemory). IfOk r (λ a. a ≡ asked)) c.in_ok-refused.ensures.made (c.read_call-asked.ensures.value known named) in
-    exec_stops c.start_image.result m c.or_stop.new.self c.start_image.new.m c.args.pid x.image x.after x.top asked
+    exec_stops c.start_image.result m c.read_call-asked.new.m c.start_image.new.m c.args.pid x.image x.after x.top asked
     (g.F.Files.holds c.args.files.now) (g.D.SwapDev.image c.args.swap.now) (g.D.SwapDev.image c.start_image.new.swap)
-    (c.in_ok-refused.ensures.same ∙ c.read_call-asked.ensures.same) (sym v ∙ e) c.start_image.ensures.stops
+    c.read_call-asked.ensures.same (sym v ∙ e) c.start_image.ensures.stops

@@ -4,6 +4,7 @@ use Rattle.machine_state.specs.Done.{sources}
 use Rattle.proc_calls.specs.Leaving.{HasSettled}
 use Rattle.proc_calls.proofs.Leaving.{settled_runs}
 use Rattle.proc_calls.proofs.Sizes.{can_cut}
+use Rattle.proc_calls.proofs.Stopping.{cut_stops}
 use Rattle.proc_calls.proofs.sizing.cut.Goals as goal
 
 pub sound-requires-2 : goal.sound-requires-2
@@ -28,3 +29,15 @@ resize-requires-clause-can g c =
     (record { settled = c.in_ok-settle.ensures.settled; rest = c.in_ok-settle.ensures.rest; keeps = c.in_ok-settle.ensures.keeps }))
     m.params.swap_blocks n.params.swap_blocks c.sound.ensures.sound c.sound-2.ensures.sound c.args.sizes.wanted c.args.sizes.stack_pages
     c.requires.stack c.requires.few c.requires.most c.requires.fewer
+
+pub returns-clause-stops : goal.returns-clause-stops
+returns-clause-stops g c =
+    let m = c.args.m.now in
+    let n = c.settle.new.self in
+    let holds = g.F.Files.holds c.args.files.now in
+    let i = g.D.SwapDev.image c.args.swap.now in
+    let j = g.D.SwapDev.image c.settle.new.swap in
+    cut_stops c.resize.result m n c.resize.new.m c.args.pid c.args.sizes.wanted holds i j c.requires.fewer
+    (subst (λ (x : ℕ). HasSettled m n x holds i j) c.requires.named
+    (record { settled = c.in_ok-settle.ensures.settled; rest = c.in_ok-settle.ensures.rest; keeps = c.in_ok-settle.ensures.keeps }))
+    c.requires.calls.whole c.resize.ensures.stops

@@ -3,7 +3,9 @@ use Rattle.swap_book.specs.Holdings.{Holdings}
 use Rattle.machine_state.specs.Machine.{Standing}
 use Rattle.machine_state.specs.Wants.{CanAsk}
 use Rattle.proc_calls.specs.Leaving.{HasLeft}
+use Rattle.proc_calls.specs.Starting.{wants_found}
 use Rattle.proc_calls.proofs.Starts.{is_ready, none_found, left_found}
+use Rattle.proc_calls.proofs.Stopping.{once_left, asked_before, asked_alive}
 use Rattle.proc_calls.proofs.starting.find_pieces.Goals as goal
 
 pub returns-then-not-branch-clause-finds : goal.returns-then-not-branch-clause-finds
@@ -49,3 +51,18 @@ returns-clause-finds g c =
     let left = subst (λ (x : Standing). HasLeft x n c.args.pid holds i j) c.in_ok-fits.ensures.same c.in_ok-leave_space.ensures.left in
     left_found c.ask-2.result c.args.m.now n c.ask-2.new.self c.args.pid c.args.wants.now holds i j left (sym c.in_ok-fits.ensures.answer ∙ c.if-not-branch.false)
     c.ask-2.ensures.answer c.ask-2.ensures.found
+
+pub returns-then-not-branch-clause-stops : goal.returns-then-not-branch-clause-stops
+returns-then-not-branch-clause-stops g c =
+    asked_before c.ask.result (wants_found c.args.wants.now) c.args.m.now c.fits.new.self c.ask.new.self c.args.pid (g.F.Files.holds c.args.files.now) (g.D.SwapDev.image c.args.swap.now)
+    c.in_ok-fits.ensures.same c.requires.calls.whole c.ask.ensures.stop c.ask.ensures.cause (λ e. (c.ask.ensures.full e).1)
+
+pub returns-clause-stops : goal.returns-clause-stops
+returns-clause-stops g c =
+    let holds = g.F.Files.holds c.args.files.now in
+    let i = g.D.SwapDev.image c.args.swap.now in
+    let j = g.D.SwapDev.image c.leave_space.new.swap in
+    let n = c.leave_space.new.m in
+    let left = subst (λ (x : Standing). HasLeft x n c.args.pid holds i j) c.in_ok-fits.ensures.same c.in_ok-leave_space.ensures.left in
+    asked_alive c.ask-2.result (wants_found c.args.wants.now) c.args.m.now c.ask-2.new.self c.args.pid holds i j (sym c.in_ok-fits.ensures.answer ∙ c.if-not-branch.false)
+    (once_left c.ask-2.result c.args.m.now n c.ask-2.new.self c.args.pid holds i j c.requires.calls.whole left c.ask-2.ensures.stop c.ask-2.ensures.cause (λ e. (c.ask-2.ensures.full e).1))

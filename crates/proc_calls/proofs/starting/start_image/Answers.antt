@@ -3,7 +3,7 @@ use Rattle.std.specs.Prelude.{Ok}
 use Rattle.std.proofs.lemmas.Result.{err_from_is_err_and}
 use Rattle.vm_facts.specs.declared.page.Page.TheVariants.{Stack}
 use Rattle.proc_calls.specs.Filling.{IsStartFirst}
-use Rattle.proc_calls.proofs.Begins.{found_of, started_runs, can_start, stops_before, reply_stops, fill_stops}
+use Rattle.proc_calls.proofs.Begins.{found_of, started_runs, can_start, reply_stops, fill_stops}
 use Rattle.proc_calls.proofs.StackPages.{is_started, start_first, room_behind}
 use Rattle.proc_calls.proofs.starting.start_image.Goals as goal
 
@@ -72,7 +72,7 @@ returns-in_err-called-clause-stops g c =
     rw (p.1, p.2)
     (reply_stops _ c.in_ok-find_space.field-0 c.args.m.now c.find_space.new.m c.reply.new.m c.args.pid c.args.image c.args.after.now c.args.top
     (g.F.Files.holds c.args.files.now) (g.D.SwapDev.image c.args.swap.now) (g.D.SwapDev.image c.find_space.new.swap) c.if-not-branch.false c.in_ok-find_space.ensures.finds
-    (stops_before c.find_space.new.m c.reply.new.m _ c.in_err-called.ensures.stop c.in_err-called.ensures.cause c.in_err-called.ensures.full.0))
+    c.requires.calls.whole c.in_err-called.ensures.stop c.in_err-called.ensures.cause c.in_err-called.ensures.full.0)
 
 pub returns-in_err-fill_start-clause-stops : goal.returns-in_err-fill_start-clause-stops
 returns-in_err-fill_start-clause-stops g c =

@@ -1,0 +1,169 @@
+-- A call that stops before an entry, where no pieces wait but those that the entry takes.
+use Rattle.std.proofs.Common.{◌≡◌, ◌⊎◌, inl, inr, ℕ, ◌<◌, ◌≤◌, Bool, true, false, List, length, Option, Result, Ok, Err, OnErr, IfErr, is_ok, refl, sym, ap, ◌∙◌, subst}
+use Rattle.io_edge.specs.FileHolding.{NamedFile}
+use Rattle.vm_facts.specs.declared.stop.Stop.{Stop}
+use Rattle.vm_facts.specs.declared.stop.Stop.TheVariants as stops
+use Rattle.user_vax.specs.declared.refused.Refused.{Refused}
+use Rattle.user_vax.specs.declared.refused.Refused.TheVariants.{Miss, Below, Signal}
+use Rattle.flat_model.specs.declared.calls.Reply.{Reply}
+use Rattle.swap_book.specs.Holdings.{Holdings}
+use Rattle.kernel_model.specs.ChangeStep.{pass_step}
+use Rattle.kernel_model.specs.Unit.{has_lender, lender_among}
+use Rattle.machine_state.specs.Machine.{Standing}
+use Rattle.machine_state.specs.Conditions.{HasStopped}
+use Rattle.machine_state.specs.Done.{sources}
+use Rattle.machine_state.specs.Settled.{StopsSettling}
+use Rattle.proc_calls.specs.Answered.{StopsEntering, StopsBefore}
+use Rattle.proc_calls.specs.Callers.{space_held}
+use Rattle.proc_calls.specs.Leaving.{HasSettled, HasLeftBy, HasLeft, StopsLeaving, StopsAlive}
+use Rattle.proc_calls.specs.Making.{with_pieces}
+use Rattle.proc_calls.specs.Starting.{StopsFinding}
+use Rattle.proc_calls.specs.Writing.{StopsOut}
+use Rattle.proc_calls.specs.Sizing.{data_pages_of, StopsPlain, StopsCutting, StopsMoving}
+use Rattle.proc_calls.proofs.Leaving.{settled_goes}
+
+pub whole_stops : (m new : Standing) (stop : Stop) → m.before ≡ m.kernel.holdings → StopsEntering m new stop → StopsBefore m new stop
+whole_stops m new stop w s = record { stopped = s.stopped; whole = w; cause = s.cause; full = s.full }
+
+-- pieces that were found change no more than the holdings
+pub before_found : (b new : Standing) (hs : Holdings) → HasStopped (with_pieces b hs) new → HasStopped b new
+before_found b new hs s = record { journal = s.journal; params = s.params; images = s.images; held = s.held }
+
+pub found_stops : (m asked new : Standing) (hs : Holdings) (stop : Stop) → asked ≡ with_pieces m hs → m.before ≡ m.kernel.holdings → StopsEntering asked new stop → StopsBefore m new stop
+found_stops m asked new hs stop e w s =
+    let t : StopsEntering (with_pieces m hs) new stop = subst (λ (x : Standing). StopsEntering x new stop) e s in
+    record { stopped = before_found m new hs t.stopped; whole = w; cause = t.cause; full = t.full }
+
+pub grown_stops : {A : Type 0} (r : Result A Stop) (m asked new : Standing) (pid pages : ℕ) (hs : Holdings) → asked ≡ with_pieces m hs → m.before ≡ m.kernel.holdings → IfErr r (StopsEntering asked new)
+    → IfErr r (StopsPlain m new pid pages)
+grown_stops (Ok x) m asked new pid pages hs e w s = tt
+grown_stops (Err stop) m asked new pid pages hs e w s = inl (found_stops m asked new hs stop e w s)
+
+-- transfers that end take no pieces
+settled_whole : (m b : Standing) (sid : ℕ) (holds : Option (List NamedFile)) (i j : Option (List ℕ)) → HasSettled m b sid holds i j → m.before ≡ m.kernel.holdings → b.before ≡ b.kernel.holdings
+settled_whole m b sid holds i j h w = h.rest.before ∙ w ∙ sym (settled_goes (sources m holds) sid m.kernel b.kernel i j h.settled).holdings
+
+pub cut_stops : {A : Type 0} (r : Result A Stop) (m b new : Standing) (pid pages : ℕ) (holds : Option (List NamedFile)) (i j : Option (List ℕ)) → pages < data_pages_of m.kernel pid
+    → HasSettled m b (space_held m.kernel pid) holds i j → m.before ≡ m.kernel.holdings → IfErr r (StopsEntering b new) → IfErr r (StopsCutting m new pid pages holds i j)
+cut_stops (Ok x) m b new pid pages holds i j l h w s = tt
+cut_stops (Err stop) m b new pid pages holds i j l h w s = record {
+  fewer = l;
+  stops = inr (record { between = b; settled = h; stops = whole_stops b new stop (settled_whole m b (space_held m.kernel pid) holds i j h w) s });
+}
+
+-- as many pages as before need no pieces
+pub moved_stops : {A : Type 0} (r : Result A Stop) (m new : Standing) (pid pages : ℕ) (holds : Option (List NamedFile)) (i : Option (List ℕ)) → m.before ≡ m.kernel.holdings → IfErr r (StopsEntering m new)
+    → IfErr r (StopsMoving m new pid pages holds i i)
+moved_stops (Ok x) m new pid pages holds i w s = tt
+moved_stops (Err stop) m new pid pages holds i w s = inl (inl (whole_stops m new stop w s), refl)
+
+-- a process that leaves its space takes no pieces
+pub left_whole : (lent : Bool) (m b : Standing) (pid : ℕ) (holds : Option (List NamedFile)) (i j : Option (List ℕ)) → HasLeftBy lent m b pid holds i j → m.before ≡ m.kernel.holdings → b.before ≡ b.kernel.holdings
+left_whole true m b pid holds i j left w = ap (λ (s : Standing). s.before) left.step ∙ w ∙ sym (ap (λ (s : Standing). s.kernel.holdings) left.step)
+left_whole false m b pid holds i j left w = settled_whole m b (space_held m.kernel pid) holds i j left w
+
+same_stop : {A : Type 0} (s t : Stop) → (let r : Result A Stop = Err s in r) ≡ Err t → s ≡ t
+same_stop s t e = cc
+
+-- a call that stops once the process has left its space
+pub once_left : {A : Type 0} (r : Result A Stop) (m b new : Standing) (pid : ℕ) (holds : Option (List NamedFile)) (i j : Option (List ℕ)) → m.before ≡ m.kernel.holdings → HasLeft m b pid holds i j
+    → OnErr r (HasStopped b new) → OnErr r ((r ≡ Err stops.JournalFull) ⊎ (r ≡ Err stops.NoMemory)) → (r ≡ Err stops.JournalFull → b.params.journal ≤ length b.kernel.journal)
+    → IfErr r (StopsAlive m new pid holds i j)
+once_left (Ok x) m b new pid holds i j w left s c f = tt
+once_left {A} (Err stop) m b new pid holds i j w left s c f = inr (record {
+  between = b;
+  left = left;
+  stops = record {
+    stopped = s;
+    whole = left_whole (has_lender m.kernel.processes pid) m b pid holds i j left w;
+    cause = elim c [
+      | inl e ↦ inl (same_stop {A = A} stop stops.JournalFull e)
+      | inr e ↦ inr (same_stop {A = A} stop stops.NoMemory e)
+    ];
+    full = λ e. f (ap (λ (t : Stop). let r : Result A Stop = Err t in r) e);
+  };
+})
+
+-- Where a process leaves its space.
+
+-- a space of its own that doesn't settle
+pub own_stops : {A : Type 0} (r : Result A Stop) (m new : Standing) (pid sid : ℕ) (holds : Option (List NamedFile)) (i j : Option (List ℕ)) → has_lender m.kernel.processes pid ≡ false
+    → sid ≡ space_held m.kernel pid → IfErr r (StopsSettling sid m new holds i j) → IfErr r (StopsLeaving m new pid holds i j)
+own_stops (Ok x) m new pid sid holds i j e held s = tt
+own_stops (Err stop) m new pid sid holds i j e held s = inl (record { own = e; settling = subst (λ (n : ℕ). StopsSettling n m new holds i j stop) held s })
+
+-- a space that it borrowed goes back
+pub lent_left : (m b new : Standing) (pid : ℕ) (holds : Option (List NamedFile)) (i : Option (List ℕ)) → has_lender m.kernel.processes pid ≡ true → b ≡ m
+    → length m.kernel.journal < m.params.journal → new ≡ record b { kernel = pass_step b.kernel pid (lender_among b.kernel.processes pid) } → HasLeft m new pid holds i i
+lent_left m b new pid holds i e same room step =
+    subst (λ (lent : Bool). HasLeftBy lent m new pid holds i i) (sym e) (record {
+      room = room;
+      step = step ∙ ap (λ (x : Standing). record x { kernel = pass_step x.kernel pid (lender_among x.kernel.processes pid) }) same;
+      image = refl;
+    })
+
+-- before a space that it borrowed goes back
+pub lent_stops : (stop : Stop) (m new : Standing) (pid : ℕ) (holds : Option (List NamedFile)) (i : Option (List ℕ)) → has_lender m.kernel.processes pid ≡ true
+    → m.before ≡ m.kernel.holdings → HasStopped m new
+    → (let r : Result (Unit {0}) Stop = Err stop in (r ≡ Err stops.JournalFull) ⊎ (r ≡ Err stops.NoMemory))
+    → (let r : Result (Unit {0}) Stop = Err stop in r ≡ Err stops.JournalFull → m.params.journal ≤ length m.kernel.journal) → StopsLeaving m new pid holds i i stop
+lent_stops stop m new pid holds i e w s c f = inr (record {
+  lent = e;
+  stops = record {
+    stopped = s;
+    whole = w;
+    cause = elim c [
+      | inl e ↦ inl (same_stop {A = Unit {0}} stop stops.JournalFull e)
+      | inr e ↦ inr (same_stop {A = Unit {0}} stop stops.NoMemory e)
+    ];
+    full = λ e. f (ap (λ (t : Stop). let r : Result (Unit {0}) Stop = Err t in r) e);
+  };
+  image = refl;
+})
+
+-- Where memory is wanted before anything is done.
+
+starved : (m new : Standing) → new ≡ m → HasStopped m new
+starved m new e = subst (HasStopped m) (sym e) (record { journal = refl; params = refl; images = refl; held = λ h. refl })
+
+starved_before : (m new : Standing) (stop : Stop) → new ≡ m → m.before ≡ m.kernel.holdings → stop ≡ stops.NoMemory → StopsBefore m new stop
+starved_before m new stop e w c = record {
+  stopped = starved m new e;
+  whole = w;
+  cause = inr c;
+  full = λ h. absurd (let z : stops.NoMemory ≡ stops.JournalFull = sym c ∙ h in cc);
+}
+
+pub out_starved : (m new : Standing) (pid : ℕ) (read : Result Reply Refused) (stop : Stop) → new ≡ m → m.before ≡ m.kernel.holdings → stop ≡ stops.NoMemory → StopsOut m new pid read stop
+out_starved m new pid (Ok reply) stop e w c =
+    let b : StopsBefore m new stop = starved_before m new stop e w c in
+    record { between = m; reached = inl refl; stopped = b.stopped; whole = w; cause = b.cause; full = b.full }
+out_starved m new pid (Err (Miss address write)) stop e w c = (starved m new e, c)
+out_starved m new pid (Err (Below address)) stop e w c = starved_before m new stop e w c
+out_starved m new pid (Err (Signal number)) stop e w c = starved_before m new stop e w c
+
+-- Where pieces are asked for.
+
+-- before the process has left its space
+pub asked_before : {A : Type 0} (r : Result A Stop) (pieces : Standing → Result Holdings ℕ) (m b new : Standing) (pid : ℕ) (holds : Option (List NamedFile)) (i : Option (List ℕ)) → b ≡ m
+    → m.before ≡ m.kernel.holdings → OnErr r (HasStopped b new) → OnErr r ((r ≡ Err stops.JournalFull) ⊎ (r ≡ Err stops.NoMemory)) → (r ≡ Err stops.JournalFull → b.params.journal ≤ length b.kernel.journal)
+    → IfErr r (StopsFinding pieces m new pid holds i i)
+asked_before (Ok x) pieces m b new pid holds i e w s c f = tt
+asked_before {A} (Err stop) pieces m b new pid holds i e w s c f = inl (
+  record {
+    stopped = subst (λ (x : Standing). HasStopped x new) e s;
+    whole = w;
+    cause = elim c [
+      | inl e ↦ inl (same_stop {A = A} stop stops.JournalFull e)
+      | inr e ↦ inr (same_stop {A = A} stop stops.NoMemory e)
+    ];
+    full = λ h. subst (λ (x : Standing). x.params.journal ≤ length x.kernel.journal) e (f (ap (λ (t : Stop). let r : Result A Stop = Err t in r) h));
+  },
+  refl,
+)
+
+-- once it has, since they find their places
+pub asked_alive : {A : Type 0} (r : Result A Stop) (pieces : Standing → Result Holdings ℕ) (m new : Standing) (pid : ℕ) (holds : Option (List NamedFile)) (i j : Option (List ℕ)) → is_ok (pieces m) ≡ true
+    → IfErr r (StopsAlive m new pid holds i j) → IfErr r (StopsFinding pieces m new pid holds i j)
+asked_alive (Ok x) pieces m new pid holds i j fit s = tt
+asked_alive (Err stop) pieces m new pid holds i j fit s = inr (fit, s)
