@@ -11,6 +11,7 @@ use Rattle.page_laws.proofs.Moves.Stays.{done_steady}
 use Rattle.kernel_model.specs.Kernel.{Kernel, note_step}
 use Rattle.machine_state.specs.Machine.{Standing}
 use Rattle.machine_state.specs.Done.{sources, IsDone, ImageAfter, StopsEnding}
+use Rattle.paging_units.proofs.Stopping.{held_here}
 use Rattle.paging_units.specs.Made.{ground}
 use Rattle.paging_units.specs.Stops.{StopsAt}
 use Rattle.clock_hands.specs.Moved.{Moved, StopsMoving}
@@ -71,8 +72,8 @@ interrupt_stops A s old new holds image j stop at c m n x = record {
   kernel = old.kernel;
   behind = image;
   leads = Rattle.run_units.proofs.Units.none_leads A s old.kernel image;
-  stopped = x.stopped.stopped;
   journal = x.stopped.journal;
+  held = held_here stop old new x.stopped x.whole (λ e. (x.full.0 e).1);
   by = stops_by A s old.kernel image stop new j (record {
     entry = entries.Done;
     next = (line_asks A s c.clear).1 (interrupts s m n);

@@ -113,7 +113,7 @@ module _ (A : Inputs) (s : State) (old : Standing) (holds : Option (List NamedFi
 
   pub end_stops : (new : Standing) (j : Option (List ℕ)) (stop : Stop) → StopsAlive old new pid holds (Some image) j stop → StopLeads A s old.kernel image stop new j
   end_stops new j stop h = elim h [
-    | inl y ↦ stops_leaving A s old holds image pid now p x m gives new j stop y
+    | inl y ↦ stops_leaving A s old holds image pid now p x m gives (entries.Ended pid status) new j stop ends.begins first tt y
     | inr y ↦ once y
   ]
     where

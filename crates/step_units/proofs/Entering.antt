@@ -22,7 +22,9 @@ use Rattle.kernel_model.specs.ChangeStep.{change_step}
 use Rattle.machine_state.specs.Machine.{Standing}
 use Rattle.machine_state.specs.Applying.{facts_named}
 use Rattle.machine_state.specs.Conditions.{HasStopped}
+use Rattle.paging_units.proofs.Stopping.{held_here}
 use Rattle.paging_units.specs.Made.{ground}
+use Rattle.paging_units.specs.Stops.{StaysWhereFull}
 use Rattle.proc_calls.specs.Answered.{StopsBefore}
 use Rattle.flat_model.specs.Step.{Step}
 use Rattle.flat_model.specs.Run.{step_at, due_at}
@@ -182,29 +184,46 @@ full_next A s k image (entries.Sleeps q) new n o b = record { entry = entries.Sl
 full_next A s k image (entries.Ended q status) new n o b = record { entry = entries.Ended q status; next = n; full = λ _. (b, longer k.journal (entries.Ended q status)); cause = inl refl; spoils = refl }
 full_next A s k image _ new n o b = absurd o
 
-pub stops_by : (A : Inputs) (s : State) (old new : Standing) (image : List ℕ) (e : Entry) (stop : Stop) → next_unit A s ≡ Some e → IsOwn e → StopsBefore old new stop
-    → StopsBy A s old.kernel image stop new (Some image)
-stops_by A s old new image e stop n o h = go h.cause
+-- a run stops in a kernel, before an entry
+pub record StopsIn (k : Kernel) (new : Standing) (stop : Stop) : Type 0 where
+  pub journal : new.kernel.journal ≡ k.journal
+  pub held : StaysWhereFull k stop new
+  pub cause : (stop ≡ stops.JournalFull) ⊎ (stop ≡ stops.NoMemory)
+  pub full : stop ≡ stops.JournalFull → new.params.journal ≤ length k.journal
+
+stops_in : (old new : Standing) (stop : Stop) → StopsBefore old new stop → StopsIn old.kernel new stop
+stops_in old new stop h = record {
+  journal = h.stopped.journal;
+  held = held_here stop old new h.stopped h.whole h.full;
+  cause = h.cause;
+  full = λ c. subst (λ (y : Params). y.journal ≤ length old.kernel.journal) (sym h.stopped.params) (h.full c);
+}
+
+stops_by : (A : Inputs) (s : State) (k : Kernel) (new : Standing) (image : List ℕ) (e : Entry) (stop : Stop) → next_unit A s ≡ Some e → IsOwn e → StopsIn k new stop
+    → StopsBy A s k image stop new (Some image)
+stops_by A s k new image e stop n o h = go h.cause
   where
-    go : (stop ≡ stops.JournalFull) ⊎ (stop ≡ stops.NoMemory) → StopsBy A s old.kernel image stop new (Some image)
-    go (inl c) =
-        subst (λ (z : Stop). StopsBy A s old.kernel image z new (Some image)) (sym c)
-        (full_next A s old.kernel image e new n o (subst (λ (y : Params). y.journal ≤ length old.kernel.journal) (sym h.stopped.params) (h.full c)))
-    go (inr c) = subst (λ (z : Stop). StopsBy A s old.kernel image z new (Some image)) (sym c) refl
+    go : (stop ≡ stops.JournalFull) ⊎ (stop ≡ stops.NoMemory) → StopsBy A s k image stop new (Some image)
+    go (inl c) = subst (λ (z : Stop). StopsBy A s k image z new (Some image)) (sym c) (full_next A s k image e new n o (h.full c))
+    go (inr c) = subst (λ (z : Stop). StopsBy A s k image z new (Some image)) (sym c) refl
+
+pub stopped_in : (A : Inputs) (s : State) (k : Kernel) (new : Standing) (image : List ℕ) (pid : ℕ) (now : Bool) (e : Entry) (stop : Stop) → Runs A s pid now → wanted A s ≡ None → act A s pid ≡ Some e
+    → IsOwn e → StopsIn k new stop → StopLeads A s k image stop new (Some image)
+stopped_in A s k new image pid now e stop r w a o h = record {
+  units = [];
+  state = s;
+  kernel = k;
+  behind = image;
+  leads = none_leads A s k image;
+  journal = h.journal;
+  held = h.held;
+  by = stops_by A s k new image e stop (runs_next A s pid now e r w a) o h;
+}
 
 -- before an entry of a process the machine stops where that entry is next
 pub stopped_before : (A : Inputs) (s : State) (old new : Standing) (image : List ℕ) (pid : ℕ) (now : Bool) (e : Entry) (stop : Stop) → Runs A s pid now → wanted A s ≡ None → act A s pid ≡ Some e
     → IsOwn e → StopsBefore old new stop → StopLeads A s old.kernel image stop new (Some image)
-stopped_before A s old new image pid now e stop r w a o h = record {
-  units = [];
-  state = s;
-  kernel = old.kernel;
-  behind = image;
-  leads = none_leads A s old.kernel image;
-  stopped = h.stopped.stopped;
-  journal = h.stopped.journal;
-  by = stops_by A s old new image e stop (runs_next A s pid now e r w a) o h;
-}
+stopped_before A s old new image pid now e stop r w a o h = stopped_in A s old.kernel new image pid now e stop r w a o (stops_in old new stop h)
 
 -- for want of memory it stops anywhere
 pub stopped_short : (A : Inputs) (s : State) (old new : Standing) (image : List ℕ) (stop : Stop) → HasStopped old new → stop ≡ stops.NoMemory
@@ -215,8 +234,8 @@ stopped_short A s old new image stop h c = record {
   kernel = old.kernel;
   behind = image;
   leads = none_leads A s old.kernel image;
-  stopped = h.stopped;
   journal = h.journal;
+  held = λ e. absurd (let z : stops.NoMemory ≡ stops.JournalFull = sym c ∙ e in cc);
   by = subst (λ (z : Stop). StopsBy A s old.kernel image z new (Some image)) (sym c) refl;
 }
 
@@ -229,7 +248,7 @@ stops_then A s t k l image mid j us stop new a b = record {
   kernel = b.kernel;
   behind = b.behind;
   leads = leads_both A s t b.state k l b.kernel image mid (Some b.behind) us b.units a b.leads;
-  stopped = b.stopped;
   journal = b.journal;
+  held = b.held;
   by = b.by;
 }

@@ -178,7 +178,7 @@ module _ (A : Inputs) (s : State) (old : Standing) (holds : Option (List NamedFi
 
         alive : is_ok (image_found number old) ≡ true → StopsAlive old new pid holds (Some image) j stop → StopLeads A s old.kernel image stop new j
         alive ok y = elim y [
-          | inl z ↦ stops_leaving A s old holds image pid now p x on.machine (exec_gives A s old holds image pid now p x effect on makes after_regs number top reads ok) new j stop z
+          | inl z ↦ stops_leaving A s old holds image pid now p x on.machine (exec_gives A s old holds image pid now p x effect on makes after_regs number top reads ok) u new j stop (inl on.between) first tt z
           | inr z ↦ once ok z
         ]
 

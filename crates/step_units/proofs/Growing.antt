@@ -31,6 +31,7 @@ use Rattle.kernel_model.specs.Coupled.{Fits}
 use Rattle.kernel_model.specs.Kernel.{Kernel}
 use Rattle.machine_state.specs.Applying.{facts_named}
 use Rattle.machine_state.specs.Machine.{Standing}
+use Rattle.paging_units.proofs.Stopping.{held_here}
 use Rattle.paging_units.specs.Made.{ground}
 use Rattle.fault_fill.specs.Growth.{growth, growth_found, Grown, GrowthRefused}
 use Rattle.fault_fill.specs.Touches.{StopsGrowing}
@@ -303,8 +304,8 @@ grown_stops A s old between new holds image pid now before q stop j b d = record
   kernel = d.kernel;
   behind = d.behind;
   leads = grown_leads A s old between holds image pid now before q d.units d.state d.kernel (Some d.behind) b d.leads;
-  stopped = d.stopped;
   journal = d.journal;
+  held = d.held;
   by = d.by;
 }
 
@@ -340,8 +341,8 @@ growth_stops A s old new holds image j pid now p x address stop r f g = record {
   kernel = old.kernel;
   behind = image;
   leads = none_leads A s old.kernel image;
-  stopped = g.stopped.stopped;
   journal = g.stopped.journal;
+  held = held_here stop old new g.stopped g.whole g.full;
   by = stopped_by stop g.cause g.full;
 }
   where

@@ -13,6 +13,7 @@ use Rattle.flat_state.specs.Flat.{Process, Inputs, can_step}
 use Rattle.page_model.specs.Placement.{Placement, Transfer, image_of, parts_of, sharers}
 use Rattle.page_model.specs.Swapper.{names_page, is_settled}
 use Rattle.machine_state.specs.Machine.{Standing}
+use Rattle.paging_units.proofs.Stopping.{held_here}
 use Rattle.proc_calls.specs.Answered.{StopsBefore}
 use Rattle.flat_model.specs.Run.{due_at, first_if, act as next_of_step}
 use Rattle.run_model.specs.State.{State}
@@ -98,8 +99,8 @@ stopped_here A s old new image pid now p x e es stop at r w d own g = go (must_r
       kernel = old.kernel;
       behind = image;
       leads = none_leads A s old.kernel image;
-      stopped = g.stopped.stopped;
       journal = g.stopped.journal;
+      held = held_here stop old new g.stopped g.whole g.full;
       by = stops_done A s old new image stop (runs_next A s pid now entries.Done r.runs w (acts_as A s pid false true can f t))
           (some_transfer old.kernel.place x.sid old.kernel.place.transfers refl (ap (λ (q : Placement). is_settled q x.sid) at.stands.place ∙ waits_for A s pid now p x r t)) g;
     }

@@ -47,7 +47,7 @@ stop_at A t k image e stop new j n h = record {
   kernel = k;
   behind = image;
   leads = none_leads A t k image;
-  stopped = h.stopped;
   journal = h.journal;
+  held = h.held;
   by = stop_by A t k image e stop new j n h;
 }

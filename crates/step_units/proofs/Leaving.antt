@@ -1,10 +1,12 @@
 -- A process leaves its space: as a run does next, transfers end until the space is settled, or it goes back to its lender with no
 -- unit; then its step comes next.
-use Rattle.std.proofs.Common.{◌≡◌, ℕ, Bool, true, false, List, [], ◌∷◌, Option, Some, None, refl, sym, ap, ◌∙◌, subst, ◌⊎◌, inl, inr, Ok}
+use Rattle.std.proofs.Common.{◌≡◌, ℕ, Bool, true, false, List, [], ◌∷◌, Option, Some, None, refl, sym, ap, ◌∙◌, subst, ◌⊎◌, inl, inr, Ok, arith}
 use Rattle.io_edge.specs.FileHolding.{NamedFile}
 use Rattle.vm_facts.specs.declared.entry.Entry.{Entry}
 use Rattle.vm_facts.specs.declared.entry.Entry.TheVariants as entries
+use Rattle.vm_facts.specs.declared.params.Params.{Params}
 use Rattle.vm_facts.specs.declared.stop.Stop.{Stop}
+use Rattle.vm_facts.specs.declared.stop.Stop.TheVariants as stops
 use Rattle.flat_state.specs.Space.{Space}
 use Rattle.flat_state.specs.Flat.{Process, Inputs, can_step}
 use Rattle.flat_state.specs.Change.{is_borrower}
@@ -17,8 +19,10 @@ use Rattle.kernel_model.specs.Unit.{has_lender}
 use Rattle.machine_state.specs.Machine.{Standing}
 use Rattle.machine_state.specs.Done.{sources}
 use Rattle.machine_state.specs.Settled.{StopsSettling}
+use Rattle.paging_units.proofs.Stopping.{held_here}
+use Rattle.paging_units.specs.Stops.{StaysPut}
 use Rattle.proc_calls.specs.Callers.{space_held}
-use Rattle.proc_calls.specs.Leaving.{HasSettled, HasLeftBy, HasLeft, StopsLeaving}
+use Rattle.proc_calls.specs.Leaving.{HasSettled, HasLeftBy, HasLeft, StopsOwn, StopsLent, StopsLeaving}
 use Rattle.proc_calls.proofs.Leaving.{GoesOn, settled_goes}
 use Rattle.run_model.specs.State.{State}
 use Rattle.run_model.specs.Wanted.{wanted}
@@ -29,7 +33,7 @@ use Rattle.run_units.specs.Settling.{IsLeaving}
 use Rattle.run_units.specs.Stepping.{GivesBack, returned, with_holdings}
 use Rattle.run_units.specs.Touching.{IsRunning}
 use Rattle.run_units.proofs.Units.{none_leads, leads_at}
-use Rattle.std.specs.Prelude.{length, ◌≤◌}
+use Rattle.std.specs.Prelude.{length, ◌<◌, ◌≤◌}
 use Rattle.swap_book.specs.Holdings.{Holdings}
 use Rattle.swap_book.specs.Placing.{place_all}
 use Rattle.page_model.specs.Place.{facts_of}
@@ -45,7 +49,7 @@ use Rattle.step_units.specs.Stepped.{StopLeads}
 use Rattle.step_units.proofs.Begun.{borrows, none_lost, whole_due, refused_due}
 use Rattle.step_units.proofs.Tables.{is_kept, held_is}
 use Rattle.step_units.proofs.Settles.{is_leaving, IsSettled, has_settled, stops_settling}
-use Rattle.step_units.proofs.Entering.{IsOwn, stopped_before, stops_then}
+use Rattle.step_units.proofs.Entering.{IsOwn, stopped_before, stopped_in, stops_then}
 
 -- A process that runs waits for no page, finds the pieces that its step asks for, or the journal says that it doesn't, and its step
 -- gives up its space.
@@ -56,7 +60,7 @@ pub record GivesUp (A : Inputs) (s : State) (pid : ℕ) (now : Bool) (p : Proces
   pub gives : GivesBack (step_at A s.point pid).change
 
 -- units are next units, behind which the process's step comes next; the machine's kernel is the one there, but that a borrowed
--- space is back
+-- space is back, and then the journal has room
 pub record Left (A : Inputs) (s : State) (old between : Standing) (image : List ℕ) (pid : ℕ) (now : Bool) (p : Process) (x : Space) (j : Option (List ℕ)) : Type 0 where
   pub units : List Entry
   pub state : State
@@ -68,6 +72,7 @@ pub record Left (A : Inputs) (s : State) (old between : Standing) (image : List 
   pub gives : GivesUp A state pid now p x
   pub ready : must_settle A state pid ≡ false
   pub back : between.kernel ≡ returned (has_lender kernel.processes pid) kernel pid
+  pub room : has_lender kernel.processes pid ≡ true → length between.kernel.journal < between.params.journal
   pub params : between.params ≡ old.params
   pub images : between.images ≡ old.images
 
@@ -81,6 +86,27 @@ owner_loses : (x : Space) (change : Change) → GivesBack change → loses_pages
 owner_loses x (changes.Exec number top) g = refl
 owner_loses x (changes.End status) g = refl
 owner_loses x _ g = absurd g
+
+-- What comes next.
+
+-- no entry of the process's step is there yet
+abbrev pub Begins : Option Entry → ℕ → Type 0
+Begins o pid = IsBetween o ⊎ (o ≡ Some (entries.Refused pid))
+
+begins_due : (o : Option Entry) (pid : ℕ) (es : List Entry) → Begins o pid → due o pid es ≡ es
+begins_due o pid es b = elim b [
+  | inl i ↦ whole_due o pid es i
+  | inr e ↦ refused_due o pid es e
+]
+
+acts_first : (A : Inputs) (s : State) (pid : ℕ) (e : Entry) (es : List Entry) → can_step s.point.flat pid ≡ true → must_refuse A s pid ≡ false → must_settle A s pid ≡ false
+    → due_at A s.point pid ≡ e ∷ es → act A s pid ≡ Some e
+unfolding act
+acts_first A s pid e es c r t d =
+    ap (λ (b : Bool). act_if b A s pid) c ∙ ap (λ (b : Bool). act_by A s pid b (must_settle A s pid)) r ∙ ap (act_by A s pid false) t
+    ∙ ap (λ (b : Bool). first_if b (due_at A s.point pid)) c ∙ ap (first_if true) d
+
+-- As the space is left.
 
 module _ (A : Inputs) (s : State) (old : Standing) (holds : Option (List NamedFile)) (image : List ℕ) (pid : ℕ) (now : Bool) (p : Process) (x : Space) (m : MachineAt A s old holds image)
     (g : GivesUp A s pid now p x) where
@@ -96,6 +122,12 @@ module _ (A : Inputs) (s : State) (old : Standing) (holds : Option (List NamedFi
       is_leaving A s pid now p x (step_at A s.point pid) g.running g.unwanted g.fits refl
       (ap (λ (b : Bool). loses_pages x b (step_at A s.point pid).change) (lends ∙ e) ∙ owner_loses x (step_at A s.point pid).change g.gives)
 
+  -- a space that it borrowed needs no transfer to end
+  keeps_pages : has_lender old.kernel.processes pid ≡ true → must_settle A s pid ≡ false
+  keeps_pages e =
+      none_lost A s pid now p x (step_at A s.point pid) g.running refl
+      (ap (λ (b : Bool). loses_pages x b (step_at A s.point pid).change) (lends ∙ e) ∙ borrower_keeps x (step_at A s.point pid).change g.gives)
+
   module _ (between : Standing) (j : Option (List ℕ)) where
     by : (b : Bool) → has_lender old.kernel.processes pid ≡ b → HasLeftBy b old between pid holds (Some image) j → Left A s old between image pid now p x j
     by true e h = record {
@@ -107,10 +139,9 @@ module _ (A : Inputs) (s : State) (old : Standing) (holds : Option (List NamedFi
       leads = none_leads A s old.kernel image;
       same = record { point = refl; holdings = refl; count = refl; lines = refl; mark = refl };
       gives = g;
-      ready =
-          none_lost A s pid now p x (step_at A s.point pid) g.running refl
-          (ap (λ (b : Bool). loses_pages x b (step_at A s.point pid).change) (lends ∙ e) ∙ borrower_keeps x (step_at A s.point pid).change g.gives);
+      ready = keeps_pages e;
       back = ap (λ (n : Standing). n.kernel) h.step ∙ sym (ap (λ (b : Bool). returned b old.kernel pid) e);
+      room = λ _. subst (λ (n : Standing). length n.kernel.journal < n.params.journal) (sym h.step) h.room;
       params = ap (λ (n : Standing). n.params) h.step;
       images = ap (λ (n : Standing). n.images) h.step;
     }
@@ -135,6 +166,7 @@ module _ (A : Inputs) (s : State) (old : Standing) (holds : Option (List NamedFi
           };
           ready = led.settles;
           back = sym (ap (λ (b : Bool). returned b between.kernel pid) alone);
+          room = λ t. absurd (let z : true ≡ false = sym t ∙ alone in cc);
           params = h.rest.params;
           images = h.rest.images;
         }
@@ -142,30 +174,21 @@ module _ (A : Inputs) (s : State) (old : Standing) (holds : Option (List NamedFi
     pub has_left : HasLeft old between pid holds (Some image) j → Left A s old between image pid now p x j
     has_left h = by (has_lender old.kernel.processes pid) refl h
 
-  -- The machine stops as transfers of the space end.
-  pub stops_leaving : (new : Standing) (j : Option (List ℕ)) (stop : Stop) → StopsLeaving old new pid holds (Some image) j stop → StopLeads A s old.kernel image stop new j
-  stops_leaving new j stop h =
-      stops_settling A s old holds image pid now p x m g.running (leaving h.own) new j stop
-      (subst (λ (sid : ℕ). StopsSettling sid old new holds (Some image) j stop) held h.settling)
+  -- The machine stops as transfers of the space end, or before the entry of the step.
+  pub stops_leaving : (u : Entry) (new : Standing) (j : Option (List ℕ)) (stop : Stop) → Begins s.point.last pid → (step_at A s.point pid).entries ≡ u ∷ [] → IsOwn u
+      → StopsLeaving old new pid holds (Some image) j stop → StopLeads A s old.kernel image stop new j
+  stops_leaving u new j stop b e own h = elim h [ inl y ↦ settling y | inr y ↦ lent y ]
+    where
+      settling : StopsOwn old new pid holds (Some image) j stop → StopLeads A s old.kernel image stop new j
+      settling y =
+          stops_settling A s old holds image pid now p x m g.running (leaving y.own) new j stop
+          (subst (λ (sid : ℕ). StopsSettling sid old new holds (Some image) j stop) held y.settling)
 
--- What comes next.
-
--- no entry of the process's step is there yet
-abbrev pub Begins : Option Entry → ℕ → Type 0
-Begins o pid = IsBetween o ⊎ (o ≡ Some (entries.Refused pid))
-
-begins_due : (o : Option Entry) (pid : ℕ) (es : List Entry) → Begins o pid → due o pid es ≡ es
-begins_due o pid es b = elim b [
-  | inl i ↦ whole_due o pid es i
-  | inr e ↦ refused_due o pid es e
-]
-
-acts_first : (A : Inputs) (s : State) (pid : ℕ) (e : Entry) (es : List Entry) → can_step s.point.flat pid ≡ true → must_refuse A s pid ≡ false → must_settle A s pid ≡ false
-    → due_at A s.point pid ≡ e ∷ es → act A s pid ≡ Some e
-unfolding act
-acts_first A s pid e es c r t d =
-    ap (λ (b : Bool). act_if b A s pid) c ∙ ap (λ (b : Bool). act_by A s pid b (must_settle A s pid)) r ∙ ap (act_by A s pid false) t
-    ∙ ap (λ (b : Bool). first_if b (due_at A s.point pid)) c ∙ ap (first_if true) d
+      lent : StopsLent old new pid (Some image) j stop → StopLeads A s old.kernel image stop new j
+      lent y =
+          subst (λ (o : Option (List ℕ)). StopLeads A s old.kernel image stop new o) (sym y.image)
+          (stopped_before A s old new image pid now u stop g.running.runs g.unwanted
+          (acts_first A s pid u [] (on_steps A s s.mark pid now g.running.runs.on) g.fits (keeps_pages y.lent) (begins_due s.point.last pid (step_at A s.point pid).entries b ∙ e)) own y.stops)
 
 -- Once the space was left.
 
@@ -196,14 +219,20 @@ module _ (A : Inputs) (s : State) (old between : Standing) (image : List ℕ) (p
       → StopLeads A s old.kernel image stop new j
   left_stops u new stop b e own h =
       let journal : between.kernel.journal ≡ l.kernel.journal = ap (λ (k : Kernel). k.journal) l.back ∙ returned_journal (has_lender l.kernel.processes pid) l.kernel pid in
-      let here : Standing = record between { kernel = l.kernel } in
       subst (λ (o : Option (List ℕ)). StopLeads A s old.kernel image stop new o) (sym l.told)
       (stops_then A s l.state old.kernel l.kernel image l.behind (Some l.behind) l.units stop new l.leads
-      (stopped_before A l.state here new l.behind pid now u stop l.gives.running.runs l.gives.unwanted (left_acts u b e) own (record {
-        stopped = record { stopped = h.stopped.stopped; journal = h.stopped.journal ∙ journal; params = h.stopped.params; images = h.stopped.images };
+      (stopped_in A l.state l.kernel new l.behind pid now u stop l.gives.running.runs l.gives.unwanted (left_acts u b e) own (record {
+        journal = h.stopped.journal ∙ journal;
+        held = λ f. stays (has_lender l.kernel.processes pid) refl f;
         cause = h.cause;
-        full = λ f. subst (λ (js : List Entry). between.params.journal ≤ length js) journal (h.full f);
+        full = λ f. subst (λ (js : List Entry). new.params.journal ≤ length js) journal (subst (λ (y : Params). y.journal ≤ length between.kernel.journal) (sym h.stopped.params) (h.full f));
       })))
+    where
+      -- where the space went back there was room, so the journal isn't full
+      stays : (b : Bool) → has_lender l.kernel.processes pid ≡ b → stop ≡ stops.JournalFull → StaysPut l.kernel new
+      stays true e f = let full = h.full f in let room = l.room e in absurd (omega arith)
+      stays false e f =
+          subst (λ (k : Kernel). StaysPut k new) (l.back ∙ ap (λ (b : Bool). returned b l.kernel pid) e) (held_here stop between new h.stopped h.whole h.full f)
 
   -- The machine made it, with the pieces that were found for its change.
   pub left_made : (new : Kernel) (u : Entry) (step : Step) (found : Holdings) → At A s old.kernel image → Completes pid u → step_at A s.point pid ≡ step → step.writes ≡ [] → GivesBack step.change

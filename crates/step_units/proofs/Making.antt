@@ -181,6 +181,7 @@ making_stops A s old new holds image pid now p x effect call change stop a h = g
     before : (m : Standing) → h.between ≡ m → StopsBefore m new stop
     before m e = record {
       stopped = subst (λ (z : Standing). HasStopped z new) e h.stopped;
+      whole = subst (λ (z : Standing). z.before ≡ z.kernel.holdings) e h.whole;
       cause = h.cause;
       full = λ c. subst (λ (z : Standing). z.params.journal ≤ length z.kernel.journal) e (h.full c);
     }

@@ -146,7 +146,7 @@ stops_writing : (A : Inputs) (s : State) (old new : Standing) (holds : Option (L
 stops_writing A s old new holds image pid now p x effect reply stop h m c q g = go reply refl g.reached
   where
     before : StopsBefore g.between new stop
-    before = record { stopped = g.stopped; cause = g.cause; full = g.full }
+    before = record { stopped = g.stopped; whole = g.whole; cause = g.cause; full = g.full }
 
     first : g.between ≡ old → StopLeads A s old.kernel image stop new (Some image)
     first e = stops_quiet A s old new holds image pid now p x effect system_calls.Write (Ok reply) stop h m c q (subst (λ (n : Standing). StopsBefore n new stop) e before)

@@ -230,7 +230,7 @@ page_stops A s old new holds image j pid now before kept q stop w f c =
       kernel = d.kernel;
       behind = v.leads.behind;
       leads = led;
-      stopped = d.at.stopped;
       journal = d.at.journal;
+      held = d.at.held;
       by = stops_by A v.state d.kernel v.leads.behind stop d.entry new j next (subst (λ (o : Option (List ℕ)). StopsAt d.entry d.kernel o stop new j) v.leads.told d.at);
     }

@@ -9,6 +9,7 @@ use Rattle.flat_state.specs.Journal.{append}
 use Rattle.page_model.specs.Placement.{Transfer}
 use Rattle.kernel_model.specs.Kernel.{Kernel}
 use Rattle.machine_state.specs.Machine.{Standing}
+use Rattle.paging_units.proofs.Stopping.{held_here}
 use Rattle.paging_units.specs.Stops.{CauseBy, SpoilsBy, StopsAt}
 use Rattle.run_model.specs.State.{State}
 use Rattle.run_model.specs.Next.{next_unit}
@@ -38,8 +39,8 @@ stops_behind A s t k l image behind us stop new j e leads n at = record {
   kernel = l;
   behind = behind;
   leads = leads;
-  stopped = at.stopped;
   journal = at.journal;
+  held = at.held;
   by = stops_by A t l behind stop new j (record { entry = e; next = n; full = at.full.0; cause = at.cause; spoils = at.image });
 }
 
@@ -84,8 +85,8 @@ note_stops A s old new image stop e n h x = record {
   kernel = old.kernel;
   behind = image;
   leads = none_leads A s old.kernel image;
-  stopped = x.stopped.stopped;
   journal = x.stopped.journal;
+  held = held_here stop old new x.stopped x.whole x.full;
   by = stops_by A s old.kernel image stop new (Some image) (record {
     entry = e;
     next = n;

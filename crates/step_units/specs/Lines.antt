@@ -70,8 +70,10 @@ LineBegins =
     → slice_get A.lines s.lines ≡ Some e → l ≡ note_step old.kernel (entries.Event (s.lines + 1)) → LineBegun A s old.kernel image e l
 
 -- A machine that stops before an entry that goes into the journal alone: for want of memory, or since the journal is at its bound.
+-- No pieces wait there.
 pub record StopsNoting (old new : Standing) (stop : Stop) : Type 0 where
   pub stopped : HasStopped old new
+  pub whole : old.before ≡ old.kernel.holdings
   pub cause : (stop ≡ stops.JournalFull) ⊎ (stop ≡ stops.NoMemory)
   pub full : stop ≡ stops.JournalFull → old.params.journal ≤ length old.kernel.journal
 

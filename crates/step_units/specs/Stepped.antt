@@ -1,5 +1,5 @@
 -- What a call of a machine leads to in a run.
-use Rattle.std.specs.Prelude.{◌≡◌, ℕ, ◌+◌, ◌<◌, ◌≤◌, true, false, List, [], length, Option, Some, None}
+use Rattle.std.specs.Prelude.{◌≡◌, ℕ, ◌+◌, ◌<◌, ◌≤◌, false, List, [], length, Option, Some, None}
 use Rattle.vm_facts.specs.declared.entry.Entry.{Entry}
 use Rattle.vm_facts.specs.declared.stop.Stop.{Stop}
 use Rattle.vm_facts.specs.declared.stop.Stop.TheVariants as stops
@@ -8,7 +8,7 @@ use Rattle.flat_state.specs.Journal.{append}
 use Rattle.flat_state.specs.Space.{Space}
 use Rattle.kernel_model.specs.Kernel.{Kernel}
 use Rattle.machine_state.specs.Machine.{Standing}
-use Rattle.paging_units.specs.Stops.{CauseBy, SpoilsBy}
+use Rattle.paging_units.specs.Stops.{CauseBy, SpoilsBy, StaysWhereFull}
 use Rattle.proc_calls.specs.declared.replying.Called.{Called}
 use Rattle.proc_calls.specs.declared.replying.Called.TheVariants as calls
 use Rattle.run_model.specs.State.{State}
@@ -44,7 +44,7 @@ CallLeads A s k image x (calls.Miss address) l j = (l ≡ k) × (j ≡ Some imag
 
 -- Stops.
 
--- The machine stopped where this unit of the run comes next: at the bound of the journal only where the unit isn't joined.
+-- The run stopped where this unit comes next: at the bound of the journal only where the unit isn't joined.
 pub record StopsNext (A : Inputs) (t : State) (k : Kernel) (image : List ℕ) (stop : Stop) (new : Standing) (j : Option (List ℕ)) : Type 0 where
   pub entry : Entry
   pub next : next_unit A t ≡ Some entry
@@ -57,13 +57,13 @@ abbrev pub StopsBy : Inputs → State → Kernel → List ℕ → Stop → Stand
 StopsBy A t k image stops.NoMemory new j = j ≡ Some image
 StopsBy A t k image stop new j = StopsNext A t k image stop new j
 
--- Next units lead to a state, and there the machine stopped.
+-- Next units lead to a state, and there the run stopped. Where the journal was full the machine runs on and stands there.
 pub record StopLeads (A : Inputs) (s : State) (k : Kernel) (image : List ℕ) (stop : Stop) (new : Standing) (j : Option (List ℕ)) : Type 0 where
   pub units : List Entry
   pub state : State
   pub kernel : Kernel
   pub behind : List ℕ
   pub leads : Leads A s k image units state kernel (Some behind)
-  pub stopped : new.kernel.stopped ≡ true
   pub journal : new.kernel.journal ≡ kernel.journal
+  pub held : StaysWhereFull kernel stop new
   pub by : StopsBy A state kernel behind stop new j
