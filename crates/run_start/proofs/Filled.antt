@@ -1,5 +1,5 @@
 -- New stack pages that are due are filled one after another.
-use Rattle.std.proofs.Common.{◌≡◌, inl, inr, ℕ, suc, ◌<◌, true, List, [], ◌∷◌, length, Option, Some, sym, ap, subst, arith}
+use Rattle.std.proofs.Common.{◌≡◌, inr, ℕ, suc, ◌<◌, List, [], ◌∷◌, length, Option, Some, sym, ap, subst, arith}
 use Rattle.std.specs.Prelude.{Result, Ok, Err, MatchResult}
 use Rattle.std.proofs.lemmas.Option.{same_Some}
 use Rattle.vm_facts.specs.declared.page.Page.{Page}
@@ -8,7 +8,7 @@ use Rattle.io_edge.specs.FileHolding.{NamedFile}
 use Rattle.page_model.specs.Placement.{Due, Start, CopyOf}
 use Rattle.machine_state.specs.Calls.{first_due}
 use Rattle.machine_state.specs.Machine.{Standing}
-use Rattle.proc_calls.specs.Filling.{FillsStart, StopsStart}
+use Rattle.proc_calls.specs.Filling.{FillsStart}
 use Rattle.holder_laws.specs.Holders.{HoldersStand}
 use Rattle.holder_laws.proofs.Making.{filled_keeps}
 use Rattle.ready_laws.specs.Ready.{IsRunning, RunsDue}
@@ -73,19 +73,3 @@ all_filled (Start q ∷ ds) old new holds i j r d h f =
       holders = more.holders;
     }
 all_filled (CopyOf q parent ∷ ds) old new holds i j r d h f = absurd f
-
--- A stop.
-
-start_stopped : (page : Page) (old new : Standing) (holds : Option (List NamedFile)) (i j : Option (List ℕ)) (stop : Stop) → StopsStart page old new holds i j stop → new.kernel.stopped ≡ true
-start_stopped page old new holds i j stop s = elim s [
-  | inl x ↦ x.stops.stopped
-  | inr x ↦ x.2.stopped
-]
-
-pub filling_stopped : (ds : List Due) (old new : Standing) (holds : Option (List NamedFile)) (i j : Option (List ℕ)) (stop : Stop) → StopsFilling ds old new holds i j stop → new.kernel.stopped ≡ true
-filling_stopped [] old new holds i j stop s = absurd s
-filling_stopped (Start q ∷ ds) old new holds i j stop s = elim s [
-  | inl x ↦ start_stopped q old new holds i j stop x
-  | inr x ↦ filling_stopped ds x.0 new holds x.1 j stop x.3
-]
-filling_stopped (CopyOf q parent ∷ ds) old new holds i j stop s = absurd s

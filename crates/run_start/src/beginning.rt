@@ -1,6 +1,5 @@
 //! The first processes begin one by one.
 ghost use Rattle.std.specs.Prelude.{◌≡◌, ◌≤◌, ◌+◌, true, false, [], length, IfOk, IfErr, OnErr};
-ghost use Rattle.machine_state.specs.Conditions.{HasStopped};
 ghost use Rattle.run_start.specs.Starting.{AreAmong};
 ghost use Rattle.run_start.specs.Beginning.{Begins};
 

@@ -1,5 +1,5 @@
 //! The first processes of a run start.
-ghost use Rattle.std.specs.Prelude.{◌≡◌, ◌≤◌, ℕ, true, List, [], length, Some, IfOk, IfErr, OnErr, Ok};
+ghost use Rattle.std.specs.Prelude.{◌≡◌, ◌≤◌, ℕ, List, [], length, Some, IfOk, IfErr, Ok};
 ghost use Rattle.flat_state.specs.Flat.{Inputs};
 ghost use Rattle.flat_model.specs.Asked.{start_held};
 ghost use Rattle.machine_state.specs.Done.{CountsPages, CountsReads, CountsWrites};
@@ -45,7 +45,6 @@ pub fn start<F: Files, D: SwapDev>(
         → result ≡ Ok Started.Ok → StartLeads A m.new (F.holds files.old) image (D.image swap.new) }
     ensures stops { (A : Inputs) (image : List ℕ) → IsTold A m.old first.now (F.holds files.old) image → D.image swap.old ≡ Some image
         → IfErr result (λ stop. StartStops A m.new image stop (D.image swap.new)) }
-    ensures stopped { OnErr result (m.new.kernel.stopped ≡ true) }
     ensures files_lead { F.leads files.old files.new }
     ensures swap_leads { D.leads swap.old swap.new }
     ensures holds { F.holds files.new ≡ F.holds files.old }

@@ -2,7 +2,6 @@ use Rattle.std.proofs.Common.{refl}
 use Rattle.std.proofs.lemmas.Result.{err_from_is_err_and}
 use Rattle.proc_calls.proofs.CopiedPages.{area_next, files_next}
 use Rattle.run_start.proofs.Begun.{AllBegan, all_began, room_in, never_both, space_kept}
-use Rattle.run_start.proofs.Filled.{filling_stopped}
 use Rattle.run_start.proofs.Going.{goes_on}
 use Rattle.run_start.proofs.Led.{start_leads, start_stops, begin_stops}
 use Rattle.run_start.proofs.Placing.{answers_as}
@@ -61,11 +60,6 @@ returns-in_ok-fill_due-in-Ok-clause-leads g c A image told e _ =
     let b : AllBegan c.args.first.now c.args.m.now c.begin_all.new.m =
     all_began c.in_ok-started.started c.args.first.now c.args.m.now c.begin_all.new.m c.requires.new c.sound.ensures.numbered c.in-Ok.is c.in_ok-started.ensures.began in
     start_leads A c.args.first.now c.args.m.now c.begin_all.new.m (g.F.Files.holds c.args.files.now) image c.requires.new c.requires.frames told b.all b.on c.fill_due.new.m (g.D.SwapDev.image c.args.swap.now) (g.D.SwapDev.image c.fill_due.new.swap) e b.may c.in_ok-fill_due-in-Ok.ensures.filled
-
-pub returns-in_err-fill_due-in-Ok-clause-stopped : goal.returns-in_err-fill_due-in-Ok-clause-stopped
-returns-in_err-fill_due-in-Ok-clause-stopped g c =
-    let p = err_from_is_err_and c.from_residual-in_err-fill_due-in-Ok.result c.from_residual-in_err-fill_due-in-Ok.ensures.1 in
-    rw (p.1) (filling_stopped c.begin_all.new.m.kernel.place.due c.begin_all.new.m c.fill_due.new.m (g.F.Files.holds c.args.files.now) (g.D.SwapDev.image c.args.swap.now) (g.D.SwapDev.image c.fill_due.new.swap) c.in_err-fill_due-in-Ok.field-0.0 c.in_err-fill_due-in-Ok.ensures.filled)
 
 pub returns-in_err-fill_due-in-Ok-clause-stops : goal.returns-in_err-fill_due-in-Ok-clause-stops
 returns-in_err-fill_due-in-Ok-clause-stops g c A image told e =
