@@ -27,6 +27,7 @@ use Rattle.kernel_laws.proofs.Machine.Swaps.{found_at}
 use Rattle.machine_state.specs.Machine.{Standing}
 use Rattle.machine_state.specs.Conditions.{HasStopped}
 use Rattle.machine_state.specs.UserMemory.{kernel_answers, writes_in}
+use Rattle.paging_units.specs.Stops.{StaysWhereFull}
 use Rattle.proc_calls.specs.Callers.{regs_of, space_held}
 use Rattle.proc_calls.specs.Leaving.{HasEnded, StopsAlive}
 use Rattle.run_model.specs.Act.{act}
@@ -138,17 +139,17 @@ module _ (A : Inputs) (s : State) (m : Standing) (holds : Option (List NamedFile
 
   -- where the journal has no room for it the machine stops there
   pub instruction_stops : (mid new : Standing) (stop : Stop) (effect : Effect) → run (own_answers m pid) (instruction before) ≡ Ok effect → effect.call ≡ None
-      → mid.kernel.journal ≡ m.kernel.journal → HasStopped mid new → (stop ≡ stops.JournalFull) ⊎ (stop ≡ stops.NoMemory)
+      → mid.kernel.journal ≡ m.kernel.journal → HasStopped mid new → StaysWhereFull m.kernel stop new → (stop ≡ stops.JournalFull) ⊎ (stop ≡ stops.NoMemory)
       → (stop ≡ stops.JournalFull → (mid.params.journal ≤ length mid.kernel.journal) × (length mid.kernel.journal < length (append mid.kernel.journal (entries.Ran pid 1))))
       → StopLeads A s m.kernel image stop new i
-  instruction_stops mid new stop effect e none journal h cause full = record {
+  instruction_stops mid new stop effect e none journal h held cause full = record {
     units = [];
     state = s;
     kernel = m.kernel;
     behind = image;
     leads = none_leads A s m.kernel image;
-    stopped = h.stopped;
     journal = h.journal ∙ journal;
+    held = held;
     by = elim cause [
       | inl c ↦ subst (λ (z : Stop). StopsBy A s m.kernel image z new i) (sym c) (record {
         entry = entries.Ran pid 1;

@@ -22,6 +22,7 @@ use Rattle.kernel_model.specs.Kernel.{Kernel}
 use Rattle.machine_state.specs.Conditions.{HasStopped}
 use Rattle.machine_state.specs.Machine.{Standing}
 use Rattle.machine_state.specs.UserMemory.{CanLend, Wrote, writes_in}
+use Rattle.paging_units.proofs.Stopping.{held_here}
 use Rattle.proc_calls.specs.Callers.{space_held, regs_of}
 use Rattle.proc_calls.specs.Leaving.{HasEnded, StopsAlive}
 use Rattle.run_model.specs.State.{State}
@@ -137,14 +138,6 @@ module _ (old mid new : Standing) (pid : ℕ) (before : Regs) (o : RoomOnly old 
           ∙ ap (λ (y : Result Effect Refused). ran_by (writes_in mid.kernel (space_held mid.kernel pid) (writes_of y)) pid d.0.regs (Ran pid 1)) d.1
           ∙ ap (λ (k : Kernel). ran_by (writes_in k (space_held k pid) d.0.writes) pid d.0.regs (Ran pid 1)) room)
 
-    pub ran_stops : (last : Standing) (stop : Stop) (now : Bool) (holds : Option (List NamedFile)) (i : Option (List ℕ)) → before ≡ regs_of old.kernel pid → HasStopped new last
-        → (stop ≡ stops.JournalFull) ⊎ (stop ≡ stops.NoMemory)
-        → (stop ≡ stops.JournalFull → (new.params.journal ≤ length new.kernel.journal) × (length new.kernel.journal < length (append new.kernel.journal (Ran pid 1))))
-        → StopsAdvancing old last pid now holds i i stop
-    ran_stops last stop now holds i same h cause full A s image p x r =
-        let d = did_all (run (own_answers mid pid) (instruction before)) a in
-        instruction_stops A s old holds i image pid now p x before r same new last stop d.0 (was (Ok d.0) d.1) d.2 journal_same h cause full
-
 -- A page that it waits for.
 
 module _ (old at last : Standing) (pid : ℕ) (now : Bool) (holds : Option (List NamedFile)) (i j : Option (List ℕ)) (o : RoomOnly old at) (address : ℕ) (write : Bool)
@@ -177,36 +170,16 @@ module _ (old at last : Standing) (pid : ℕ) (now : Bool) (holds : Option (List
       room_stops old at last pid now holds i j o stop
       (λ A s image p x r. signal_stops A s at holds i image pid now p x before r (room_regs old at pid before o same) last j number stop e h)
 
--- As counting says it.
+-- Where the machine stops for want of room.
 
-module _ (old mid new last : Standing) (pid : ℕ) (before after : Regs) (o : RoomOnly old mid) (w : Wrote mid (space_held mid.kernel pid) (writes_of (run (own_answers mid pid) (instruction before))) new)
-    (steady : IsSteady old) (a : answer_of (run (own_answers mid pid) (instruction before)) ≡ steps.Done) (e : after ≡ registers_after before (run (own_answers mid pid) (instruction before)))
-    (now : Bool) (holds : Option (List NamedFile)) (i : Option (List ℕ)) where
-  pub counted_advances : (result : Result Advance Stop) → before ≡ regs_of old.kernel pid → IfOk result (λ advance. advance ≡ advances.Counted) → OnOk result (last.kernel ≡ ran_by new.kernel pid after (Ran pid 1))
-      → IfOk result (Advances old last pid now holds i i)
-  counted_advances (Err stop) same h step = tt
-  counted_advances (Ok advance) same h step =
-      subst (λ (d : Advance). Advances old last pid now holds i i d) (sym h) (ran_advances old mid new pid before o w steady a last after e step now holds i same)
-
-  pub counted_goes_on : (result : Result Advance Stop) → IfOk result (λ advance. advance ≡ advances.Counted) → OnOk result (last.kernel ≡ ran_by new.kernel pid after (Ran pid 1))
-      → OnOk result (last ≡ record new { kernel = last.kernel; room = None }) → IfOk result (λ advance. Continues old last (counts advance))
-  counted_goes_on (Err stop) h step rest = tt
-  counted_goes_on (Ok advance) h step rest =
-      subst (λ (d : Advance). Continues old last (counts d)) (sym h) (ran_goes_on old mid new pid before o w steady a last after e step rest)
-
-  pub counted_holders : (result : Result Advance Stop) → OnOk result (last.kernel ≡ ran_by new.kernel pid after (Ran pid 1)) → OnOk result (HoldersStand last.kernel)
-  counted_holders (Err stop) step = tt
-  counted_holders (Ok advance) step = ran_holders old mid new pid before o w steady a last after e step
-
-  pub counted_stops : (result : Result Advance Stop) → before ≡ regs_of old.kernel pid → OnErr result (HasStopped new last)
-      → OnErr result ((result ≡ Err stops.JournalFull) ⊎ (result ≡ Err stops.NoMemory))
-      → (result ≡ Err stops.JournalFull → (new.params.journal ≤ length new.kernel.journal) × (length new.kernel.journal < length (append new.kernel.journal (Ran pid 1))))
-      → IfErr result (StopsAdvancing old last pid now holds i i)
-  counted_stops (Ok advance) same h cause full = tt
-  counted_stops (Err stop) same h cause full =
-      ran_stops old mid new pid before o w steady a last stop now holds i same h
-      (elim cause [ inl y ↦ inl (stop_is stop stops.JournalFull y) | inr y ↦ inr (stop_is stop stops.NoMemory y) ])
-      (λ z. full (ap (λ (t : Stop). let r : Result Advance Stop = Err t in r) z))
-    where
-      stop_is : (s t : Stop) → (let r : Result Advance Stop = Err s in r ≡ Err t) → s ≡ t
-      stop_is s t y = cc
+pub asked_stops : (old last : Standing) (pid : ℕ) (before : Regs) (stop : Stop) (now : Bool) (holds : Option (List NamedFile)) (i : Option (List ℕ)) → before ≡ regs_of old.kernel pid → HasStopped old last
+    → old.before ≡ old.kernel.holdings → (stop ≡ stops.JournalFull) ⊎ (stop ≡ stops.NoMemory)
+    → (stop ≡ stops.JournalFull → (old.params.journal ≤ length old.kernel.journal) × (length old.kernel.journal < length (append old.kernel.journal (Ran pid 1))))
+    → (stop ≡ stops.JournalFull → answer_of (run (own_answers old pid) (instruction before)) ≡ steps.Done)
+    → StopsAdvancing old last pid now holds i i stop
+asked_stops old last pid before stop now holds i same h whole cause full done A s image p x r = elim cause [
+  | inl c ↦
+      let d = did_all (run (own_answers old pid) (instruction before)) (done c) in
+      instruction_stops A s old holds i image pid now p x before r same old last stop d.0 d.1 d.2 refl h (held_here stop old last h whole (λ e. (full e).0)) (inl c) full
+  | inr c ↦ Rattle.proc_run.proofs.Steps.room_stops A s old holds i image pid now p x before r same last stop h c
+]

@@ -1,8 +1,9 @@
 //! The next instruction of a process, or a page that it waits for.
-ghost use Rattle.std.specs.Prelude.{◌≡◌, ◌⊎◌, ◌+◌, ◌^◌, ◌<◌, ◌≤◌, true, false, length, Some, None, IfOk, OnOk, IfErr, OnErr, Err};
+ghost use Rattle.std.specs.Prelude.{◌≡◌, ◌⊎◌, ◌+◌, ◌^◌, ◌<◌, ◌≤◌, false, length, Some, None, IfOk, OnOk, IfErr, OnErr, Err};
 ghost use Rattle.vm_facts.specs.declared.entry.Entry.TheVariants.{Ran};
+ghost use Rattle.user_vax.specs.Program.{run};
+ghost use Rattle.user_vax.specs.Instruction.{instruction, answer_of};
 ghost use Rattle.flat_state.specs.Journal.{append, instructions_of};
-ghost use Rattle.kernel_model.specs.ChangeStep.{ran_by};
 ghost use Rattle.machine_state.specs.Conditions.{HasStopped};
 ghost use Rattle.machine_state.specs.Done.{CountsPages, CountsReads, CountsWrites};
 ghost use Rattle.machine_state.specs.Files.{AreFiles};
@@ -10,13 +11,14 @@ ghost use Rattle.machine_state.specs.UserMemory.{CanLend};
 ghost use Rattle.proc_calls.specs.Callers.{regs_of};
 ghost use Rattle.holder_laws.specs.Holders.{HoldersStand};
 ghost use Rattle.ready_laws.specs.Ready.{Continues};
+ghost use Rattle.proc_run.specs.Calls.{own_answers};
 ghost use Rattle.proc_run.specs.Runs.{IsSteady, is_now, Advances, StopsAdvancing, counts};
 
-use crate::attempting::{attempt, has_room};
+use crate::attempting::{attempt, completes, has_room};
 use crate::calling::call;
 use crate::serving::serve_access;
 use io_edge::{Files, SwapDev};
-use machine_state::Machine;
+use machine_state::{Machine, or_stop};
 use proc_calls::kill;
 use std::alloc::Global;
 use user_vax::Stepped;
@@ -42,28 +44,31 @@ pub enum Advance {
     Stuck,
 }
 
-// The instruction was carried out, and is counted. Where the journal has no room for it the machine stops.
-fn count(m: &mut Machine, pid: u32, regs: &Regs, has_room: bool) -> Result<Advance, Stop>
+// Makes room in the journal for the next instruction of a process. Where the journal is full the instruction is tried first over
+// a memory that keeps what is written to itself: one that has to wait for a page needs no entry, and where it is carried out the
+// machine stops before anything is written.
+fn make_room(alloc: Global, m: &mut Machine, pid: u32, before: &Regs) -> Result<(), Stop>
     requires running { m.old.kernel.stopped ≡ false }
     requires lends { CanLend m.old.kernel pid }
-    requires room { has_room ≡ true → m.old.room ≡ Some pid }
-    requires fits { instructions_of m.old.kernel.journal + 1 < 2 ^ 32 }
-    ensures counted { IfOk result (λ advance. advance ≡ Advance.Counted) }
-    ensures ran { OnOk result (m.new.kernel ≡ ran_by m.old.kernel pid regs.now (Ran pid 1)) }
-    ensures rest { OnOk result (m.new ≡ record m.old { kernel = m.new.kernel; room = None }) }
+    ensures only { OnOk result (m.new ≡ record m.old { room = m.new.room }) }
+    ensures room { OnOk result (answer_of (run (own_answers m.old pid) (instruction before.now)) ≡ Stepped.Done → m.new.room ≡ Some pid) }
     ensures stop { OnErr result (HasStopped m.old m.new) }
     ensures cause { OnErr result ((result ≡ Err Stop.JournalFull) ⊎ (result ≡ Err Stop.NoMemory)) }
     ensures full { result ≡ Err Stop.JournalFull → (m.old.params.journal ≤ length m.old.kernel.journal) × (length m.old.kernel.journal < length (append m.old.kernel.journal (Ran pid 1))) }
+    ensures done { result ≡ Err Stop.JournalFull → answer_of (run (own_answers m.old pid) (instruction before.now)) ≡ Stepped.Done }
 {
-    if !has_room {
-        m.room(pid)?;
+    if !has_room(m, pid) {
+        let completes = completes(alloc, m, pid, before);
+        if !or_stop(completes)? {
+            return Ok(());
+        }
     }
-    m.ran(pid, regs);
-    Ok(Advance::Counted)
+    m.room(pid)
 }
 
 /// The next instruction of a process, whose registers these are, or a page that it touches. Where the journal is full the
-/// instruction is tried all the same, since a process that has to wait for a page needs no entry.
+/// instruction is tried all the same, since a process that has to wait for a page needs no entry; where it would be carried out the
+/// machine stops, and nothing was written.
 pub fn next_step<F: Files, D: SwapDev>(
     alloc: Global,
     m: &mut Machine,
@@ -92,13 +97,13 @@ pub fn next_step<F: Files, D: SwapDev>(
     ensures read_faults { CountsReads result (D.read_faults swap.old) (D.read_faults swap.new) }
     ensures write_faults { CountsWrites result (D.write_faults swap.old) (D.write_faults swap.new) }
 {
-    let has_room = has_room(m, pid);
-    if has_room {
-        m.room(pid)?;
-    }
+    make_room(alloc, m, pid, before)?;
     let mut regs = *before;
     match attempt(m, pid, &mut regs) {
-        Stepped::Done => count(m, pid, &regs, has_room),
+        Stepped::Done => {
+            m.ran(pid, &regs);
+            Ok(Advance::Counted)
+        }
         Stepped::Call(number) => call(alloc, m, files, swap, pid, number, before, &regs, patience),
         Stepped::Miss { address, write } => {
             serve_access(alloc, m, files, swap, pid, before, address, write, patience)

@@ -1,5 +1,5 @@
 //! One instruction of a process, over the frames of the machine.
-ghost use Rattle.std.specs.Prelude.{◌≡◌, ◌≤◌, ◌<◌, ◌↔◌, false, true, length};
+ghost use Rattle.std.specs.Prelude.{◌≡◌, ◌≤◌, ◌<◌, ◌↔◌, false, true, length, IfOk};
 ghost use Rattle.std.specs.Option.{is_some};
 ghost use Rattle.vm_facts.specs.declared.entry.Entry.TheVariants.{Ran};
 ghost use Rattle.user_vax.specs.Program.{run};
@@ -10,8 +10,9 @@ ghost use Rattle.machine_state.specs.UserMemory.{CanLend, Wrote, kernel_answers}
 ghost use Rattle.proc_calls.specs.Callers.{space_held};
 
 use machine_state::Machine;
+use std::alloc::Global;
 use user_vax::{Stepped, step};
-use vm_facts::{Entry, Regs};
+use vm_facts::{Entry, NoMemory, Regs};
 
 // Whether an entry counts instructions of this process.
 fn counts(e: &Entry, of: u32) -> bool
@@ -39,6 +40,16 @@ pub fn has_room(m: &Machine, pid: u32) -> bool
 {
     let journal = m.journal();
     journal.len() < m.params().journal as usize || last_counts(journal, pid)
+}
+
+/// Whether the next instruction of a process is carried out, and makes no call. Nothing changes.
+pub fn completes(alloc: Global, m: &mut Machine, pid: u32, regs: &Regs) -> Result<bool, NoMemory>
+    requires running { m.old.kernel.stopped ≡ false }
+    requires lends { CanLend m.old.kernel pid }
+    ensures value { IfOk result (λ done. (done ≡ true) ↔ (answer_of (run (kernel_answers m.old.kernel (space_held m.old.kernel pid)) (instruction regs.now)) ≡ Stepped.Done)) }
+    ensures same { m.new ≡ m.old }
+{
+    dry_run::completes(alloc, &m.memory(pid), regs)
 }
 
 /// Carries the next instruction of a process out, or changes nothing.

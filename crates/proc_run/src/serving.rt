@@ -13,7 +13,7 @@ ghost use Rattle.proc_run.specs.Runs.{IsSteady, is_now, AdvancesWaiting, StopsWa
 use crate::advancing::{Advance, Patience};
 use fault_fill::{Served, serve, serve_now};
 use io_edge::{Files, SwapDev};
-use machine_state::Machine;
+use machine_state::{Machine, or_stop};
 use proc_calls::kill;
 use std::alloc::Global;
 use touched_pages::touched_before;
@@ -49,7 +49,7 @@ fn bring_in<F: Files, D: SwapDev>(
     ensures write_faults { CountsWrites result (D.write_faults swap.old) (D.write_faults swap.new) }
 {
     let touched = touched_before(alloc, m, pid, regs);
-    let touched = m.or_stop(touched)?;
+    let touched = or_stop(touched)?;
     serve_now(m, files, swap, pid, address, write, touched.as_slice())
 }
 
