@@ -89,12 +89,12 @@ interrupt_ends old new holds i j stop some x A s image at =
     interrupt_stops A s old new holds image j stop at.machine at.clear at.mark (subst (λ (ts : List Transfer). 0 < length ts) (some_still A s old holds i image at) some)
     (subst (λ (o : Option (List ℕ)). StopsEnding old new o j stop) at.told x)
 
-pub interrupt_halts : (old new : Standing) (holds : Option (List NamedFile)) (i j : Option (List ℕ)) (stop : Stop) → HasStopped old new → (let r : Result Bool Stop = Err stop in StopsFor r old.kernel.place.transfers)
+pub interrupt_halts : (old new : Standing) (holds : Option (List NamedFile)) (i j : Option (List ℕ)) (stop : Stop) → old.before ≡ old.kernel.holdings → HasStopped old new → (let r : Result Bool Stop = Err stop in StopsFor r old.kernel.place.transfers)
     → (let r : Result Bool Stop = Err stop in (r ≡ Err stops.JournalFull) ↔ ((0 < length old.kernel.place.transfers) × (old.params.journal ≤ length old.kernel.journal)))
     → (let r : Result Bool Stop = Err stop in SwapAfter r old.kernel i j) → StopsLine events.Interrupt old new holds i j stop
-interrupt_halts old new holds i j stop h c f x =
+interrupt_halts old new holds i j stop w h c f x =
     interrupt_ends old new holds i j stop (some_flight stop old.kernel.place.transfers c)
-    (record { stopped = h; full = (λ e. f.0 (ap (λ (s : Stop). let r : Result Bool Stop = Err s in r) e), λ e. same_error {T = Bool} stop stops.JournalFull (f.1 e)); cause = c; image = x })
+    (record { stopped = h; whole = w; full = (λ e. f.0 (ap (λ (s : Stop). let r : Result Bool Stop = Err s in r) e), λ e. same_error {T = Bool} stop stops.JournalFull (f.1 e)); cause = c; image = x })
 
 -- Moves of the hands.
 

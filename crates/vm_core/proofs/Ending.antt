@@ -1,5 +1,5 @@
 -- How a whole run ends, from its start on.
-use Rattle.std.proofs.Common.{◌≡◌, inl, inr, ℕ, ◌+◌, ◌≤◌, List, [], ◌∷◌, ◌++◌, length, Option, Some, Ok, Err, refl, sym, ap, ◌∙◌, subst, arith}
+use Rattle.std.proofs.Common.{◌≡◌, inl, inr, ℕ, ◌≤◌, List, [], ◌∷◌, ◌++◌, length, Option, Some, Ok, Err, refl, sym, ap, ◌∙◌, subst, arith}
 use Rattle.std.specs.Prelude.{All, Result}
 use Rattle.std.specs.Result.{IsErrAnd}
 use Rattle.std.proofs.lemmas.List.Elements.{All-head, All-tail}
@@ -22,20 +22,24 @@ use Rattle.step_units.specs.Stepped.{StopLeads}
 use Rattle.run_start.specs.declared.starting.Started.TheVariants as starteds
 use Rattle.run_start.specs.Starting.{AreAmong, StartsFrom, started_by}
 use Rattle.run_start.specs.Leading.{IsTold, machine_at_start}
-use Rattle.vm_core.specs.Cores.{Underway, InputsOf}
+use Rattle.vm_core.specs.Cores.{Underway, GoesOn, InputsOf}
 use Rattle.vm_core.specs.Starting.{CoreStarted, StartsRun, StopsStartingRun}
 use Rattle.vm_core.specs.Schedules.{IsBeforeLines, StopsLines, FinishesLines}
+use Rattle.vm_core.specs.Full.{RunFull, RunOver}
 use Rattle.vm_core.specs.RunEnds.{IsAskedOf, NoneMade, RunStops, RunEnds}
 use Rattle.vm_core.specs.declared.schedule.Unfinished.{Unfinished}
 use Rattle.vm_core.specs.declared.schedule.Unfinished.TheVariants.{NoSpace, Stopped}
 use Rattle.vm_core.proofs.Standing.{leads_to_stop}
-use Rattle.vm_core.proofs.Journals.{finished_run, halted_run, starved_run}
+use Rattle.vm_core.proofs.Journals.{finished_run, over_run, halted_run, full_run, starved_run}
 
 -- what is so of an answer that is this stop
 pub stopped_so : (r : Result (Unit {0}) Unfinished) (stop : Stop) (Q : Result (Unit {0}) Unfinished → Type 0) → IsErrAnd r (λ (e : Unfinished). e ≡ Stopped stop) → Q (Err (Stopped stop)) → Q r
 stopped_so r stop Q h q =
     let p = err_from_is_err_and r h in
     subst Q (sym (p.1 ∙ ap (λ (e : Unfinished). let s : Result (Unit {0}) Unfinished = Err e in s) p.2)) q
+
+pub same_stop : (a b : Stop) → (let r : Result (Unit {0}) Unfinished = Err (Stopped a) in r) ≡ Err (Stopped b) → a ≡ b
+same_stop a b e = cc
 
 pub are_among : (images : List ImageNamed) (ns : List ℕ) → All (λ (n : ℕ). (1 ≤ n) × (n ≤ length images)) ns → AreAmong images ns
 are_among images [] all = tt
@@ -85,6 +89,20 @@ module _ (A : Inputs) (old : Underway) (numbers : List ℕ) (lines : List Event)
       go (inl b) = begun b.cause (b.journal, b.told)
       go (inr (hs, can, x)) = stops_at new.machine stop j hs can x.led
 
+  -- since its journal is full
+  full_at : (new : Standing) (stop : Stop) (j : Option (List ℕ)) (hs : Holdings) (can : CanRun A hs) → stop ≡ stops.JournalFull
+      → (x : StopLeads A (start A hs) (machine_at_start A hs) image stop new j) → RunFull A new
+  full_at new stops.JournalFull j hs can e x = full_run A hs can first_few image is.room new j stops.JournalFull x refl x.by
+  full_at new _ j hs can e x = absurd cc
+
+  pub start_full : (new : Underway) (stop : Stop) (j : Option (List ℕ)) → stop ≡ stops.JournalFull
+      → ((B : Inputs) (b : List ℕ) → IsTold B old.machine numbers holds b → Some image ≡ Some b → StopsStartingRun B new.machine b stop j) → RunFull A new.machine
+  start_full new stop j e f = go (f A image is_told refl)
+    where
+      go : StopsStartingRun A new.machine image stop j → RunFull A new.machine
+      go (inl b) = absurd (let z : stops.JournalFull ≡ stops.NoMemory = sym e ∙ b.cause in cc)
+      go (inr (hs, can, x)) = full_at new.machine stop j hs can e x.led
+
   -- Behind the start.
 
   module _ (mid : Underway) (i h : Option (List ℕ)) (told : i ≡ Some image) (starts : StartsRun old mid numbers holds i h) where
@@ -103,6 +121,12 @@ module _ (A : Inputs) (old : Underway) (numbers : List ℕ) (lines : List Event)
         (leads_to_stop A (start A started.holdings) started.state (machine_at_start A started.holdings) mid.machine.kernel image started.behind started.units stop new.machine j start_told
         (f A started.state started.behind before_lines))
 
+    pub lines_full : (new : Underway) (stop : Stop) (j : Option (List ℕ)) → stop ≡ stops.JournalFull → StopsLines mid new lines holds h j stop → RunFull A new.machine
+    lines_full new stop j e f =
+        full_at new.machine stop j started.holdings started.can e
+        (leads_to_stop A (start A started.holdings) started.state (machine_at_start A started.holdings) mid.machine.kernel image started.behind started.units stop new.machine j start_told
+        (f A started.state started.behind before_lines))
+
     pub lines_finish : (new : Underway) (j : Option (List ℕ)) → FinishesLines mid new lines holds h j → RunEnds A new.machine.kernel.journal image (Ok tt) j
     lines_finish new j f =
         let d = f A started.state started.behind before_lines in
@@ -110,3 +134,12 @@ module _ (A : Inputs) (old : Underway) (numbers : List ℕ) (lines : List Event)
         (both_lead A (start A started.holdings) started.state d.state (machine_at_start A started.holdings) mid.machine.kernel new.machine.kernel image (Some started.behind) j started.units d.units start_told
         (λ between same. subst (λ (y : List ℕ). Leads A started.state mid.machine.kernel y d.units d.state new.machine.kernel j) (same_Some started.behind between same) d.leads))
         d.none
+
+    -- since there is no next unit
+    pub lines_over : (new : Underway) (j : Option (List ℕ)) → FinishesLines mid new lines holds h j → GoesOn new → RunOver A new.machine
+    lines_over new j f on =
+        let d = f A started.state started.behind before_lines in
+        over_run A started.holdings started.can first_few image is.room new j (started.units ++ d.units) d.state
+        (both_lead A (start A started.holdings) started.state d.state (machine_at_start A started.holdings) mid.machine.kernel new.machine.kernel image (Some started.behind) j started.units d.units start_told
+        (λ between same. subst (λ (y : List ℕ). Leads A started.state mid.machine.kernel y d.units d.state new.machine.kernel j) (same_Some started.behind between same) d.leads))
+        d.none on

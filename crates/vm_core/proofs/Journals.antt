@@ -20,13 +20,15 @@ use Rattle.machine_state.specs.Done.{SpoilsAll, SpoilsBy as SpoilsTransfers}
 use Rattle.machine_state.specs.Machine.{Standing}
 use Rattle.paging_units.specs.Stops.{CauseBy, SpoilsBy}
 use Rattle.run_model.specs.State.{State, start}
+use Rattle.run_model.specs.After.{after}
 use Rattle.run_model.specs.Next.{next_unit}
 use Rattle.run_model.specs.Lawful.{Follows, IsLawful}
 use Rattle.run_model.specs.Swapped.{swapped}
-use Rattle.run_laws.specs.Machine.{StandsAt}
+use Rattle.run_laws.specs.Machine.{StandsAt, Makes, unit_step, unit_image}
 use Rattle.run_laws.specs.Images.{AreFlat, WritesFlat, AllFlat as InFlightFlat}
 use Rattle.run_laws.specs.Running.{CanRun}
 use Rattle.run_laws.proofs.Finishing.{finished_ends}
+use Rattle.run_laws.proofs.Going.{unit_goes}
 use Rattle.run_laws.proofs.Machines.{start_keeps, units_keep}
 use Rattle.run_laws.proofs.SwapImages.{writes_flat}
 use Rattle.run_laws.proofs.Wholes.{start_run}
@@ -34,9 +36,10 @@ use Rattle.run_units.specs.Leads.{Leads}
 use Rattle.run_start.specs.Leading.{machine_at_start}
 use Rattle.step_units.specs.Stepped.{StopLeads, StopsNext}
 use Rattle.journal_laws.proofs.Journals.{leads_follow, journal_lawful, journal_accounted, journal_economical, journal_image}
-use Rattle.vm_core.specs.Cores.{Underway}
+use Rattle.vm_core.specs.Cores.{Underway, GoesOn}
 use Rattle.vm_core.specs.Halting.{HaltsFor, SpoilsParts, SpoilsOldest, LeavesImage}
 use Rattle.vm_core.specs.Lawful.{IsJournalOf, RunFinished, RunHalted, RunStarved}
+use Rattle.vm_core.specs.Full.{RunFull, RunOver}
 
 module _ (A : Inputs) (hs : Holdings) (can : CanRun A hs) (few : length A.first ≤ 64) (image : List ℕ) (room : 512 * A.swap_blocks ≤ length image) where
   at_start : StandsAt A (start A hs) (machine_at_start A hs) image
@@ -69,6 +72,12 @@ module _ (A : Inputs) (hs : Holdings) (can : CanRun A hs) (few : length A.first 
         journal_image A hs t (machine_at_start A hs) l image us j can at_start a
         ∙ ap (λ (es : List Entry). Some (swapped A es image)) (sym lawful.0 ∙ sym stands.journal)
 
+-- no unit stops the machine
+makes_run : (A : Inputs) (us : List Entry) (s t : State) (k l : Kernel) (image behind : List ℕ) → Makes A s k image us t l behind → l.stopped ≡ k.stopped
+makes_run A [] s t k l image behind m = sym (ap (λ (x : Kernel). x.stopped) m.1)
+makes_run A (u ∷ us) s t k l image behind m =
+    makes_run A us (after A s u) t (unit_step A s k image m.1.0 u) l (unit_image k image u) behind m.1.2 ∙ unit_goes A s k image m.1.0 u
+
 -- Where it ends.
 
 pub finished_run : (A : Inputs) (hs : Holdings) (can : CanRun A hs) (few : length A.first ≤ 64) (image : List ℕ) (room : 512 * A.swap_blocks ≤ length image) (new : Underway) (j : Option (List ℕ)) (us : List Entry) (t : State)
@@ -81,6 +90,23 @@ finished_run A hs can few image room new j us t a none =
       none = none;
       ends = finished_ends A new.machine.kernel.journal t (record { lawful = m.lawful; none = none });
       left = image_told A hs can few image room us t new.machine.kernel j a;
+    }
+
+-- where it is over the machine stands there
+pub over_run : (A : Inputs) (hs : Holdings) (can : CanRun A hs) (few : length A.first ≤ 64) (image : List ℕ) (room : 512 * A.swap_blocks ≤ length image) (new : Underway) (j : Option (List ℕ)) (us : List Entry) (t : State)
+    → Leads A (start A hs) (machine_at_start A hs) image us t new.machine.kernel j → next_unit A t ≡ None → GoesOn new → RunOver A new.machine
+over_run A hs can few image room new j us t a none on =
+    let at = stands A hs can few image room us t new.machine.kernel j a in
+    record {
+      state = t;
+      made = made A hs can few image room us t new.machine.kernel j a;
+      none = none;
+      stands = record {
+        running = on.steady.running;
+        place = at.place;
+        holdings = on.steady.whole ∙ at.holdings;
+        processes = at.keeps.coupled.tables.processes;
+      };
     }
 
 -- Why it halts.
@@ -194,6 +220,24 @@ module _ (A : Inputs) (hs : Holdings) (can : CanRun A hs) (few : length A.first 
         left = i.left;
         told = i.told;
         image_left = subst (λ (b : List ℕ). LeavesImage stop A x.state y.entry b i.left) behind_is i.is;
+      }
+
+  -- where the journal is full the machine stands there
+  pub full_run : stop ≡ stops.JournalFull → StopsNext A x.state x.kernel x.behind stop new j → RunFull A new
+  full_run e y =
+      let h = x.held e in
+      record {
+        state = x.state;
+        made = made_so;
+        unit = y.entry;
+        next = y.next;
+        longer = subst (λ (es : List Entry). length es < length (append es y.entry)) (sym x.journal) (y.full e).1;
+        stands = record {
+          running = h.stopped ∙ makes_run A x.units (start A hs) x.state (machine_at_start A hs) x.kernel image x.leads.behind x.leads.makes;
+          place = h.place ∙ stands_so.place;
+          holdings = h.holdings ∙ stands_so.holdings;
+          processes = h.processes ∙ stands_so.keeps.coupled.tables.processes;
+        };
       }
 
   pub starved_run : j ≡ Some x.behind → RunStarved A new.kernel.journal image j

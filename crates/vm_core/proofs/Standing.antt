@@ -1,5 +1,5 @@
 -- Where a machine stands behind next units.
-use Rattle.std.proofs.Common.{◌≡◌, ℕ, ◌+◌, ◌≤◌, List, ◌++◌, Option, Some, sym, ap, ◌∙◌, subst, arith}
+use Rattle.std.proofs.Common.{◌≡◌, ℕ, ◌≤◌, List, ◌++◌, Option, Some, sym, ap, ◌∙◌, subst, arith}
 use Rattle.std.proofs.lemmas.Option.{same_Some}
 use Rattle.vm_facts.specs.declared.entry.Entry.{Entry}
 use Rattle.vm_facts.specs.declared.params.Params.{Params}
@@ -54,7 +54,7 @@ leads_to_stop A s t k l image behind us stop new j a x = record {
   behind = x.behind;
   leads = both_lead A s t x.state k l x.kernel image (Some behind) (Some x.behind) us x.units a
       (λ b e. subst (λ (y : List ℕ). Leads A t l y x.units x.state x.kernel (Some x.behind)) (same_Some behind b e) x.leads);
-  stopped = x.stopped;
   journal = x.journal;
+  held = x.held;
   by = x.by;
 }

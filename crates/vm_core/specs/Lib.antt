@@ -8,4 +8,5 @@ pub mod Starting
 pub mod Schedules
 pub mod Halting
 pub mod Lawful
+pub mod Full
 pub mod RunEnds

@@ -54,6 +54,13 @@ impl Core {
         self.counted >= self.machine.params().limit
     }
 
+    /// The machine.
+    pub fn machine(&self) -> &Machine
+        ensures { result.now ≡ self.now.machine }
+    {
+        &self.machine
+    }
+
     /// The entries so far.
     pub fn journal(&self) -> &[Entry]
         ensures { result.now ≡ self.now.machine.kernel.journal }

@@ -6,6 +6,7 @@ ghost use Rattle.machine_state.specs.Files.{AreFiles};
 ghost use Rattle.vm_core.specs.Cores.{GoesOn};
 ghost use Rattle.vm_core.specs.Starting.{IsFresh};
 ghost use Rattle.vm_core.specs.Schedules.{HaveFewMoves, TakesLines, StopsLines, FinishesLines};
+ghost use Rattle.vm_core.specs.Full.{RunFull, RunOver};
 ghost use Rattle.vm_core.specs.RunEnds.{stopped_as, IsAskedOf, RunEnds};
 ghost use Rattle.vm_core.specs.declared.schedule.Unfinished.TheVariants.{Stopped};
 
@@ -83,6 +84,7 @@ fn finish<F: Files, D: SwapDev>(
     requires files { AreFiles core.old.machine.images (F.holds files.old) }
     requires few { HaveFewMoves lines.now }
     requires count { length lines.now < 2 ^ 32 }
+    ensures goes_on { OnOk result (GoesOn core.new) }
     ensures finishes { OnOk result (FinishesLines core.old core.new lines.now (F.holds files.old) (D.image swap.old) (D.image swap.new)) }
     ensures stops { IfErr result (StopsLines core.old core.new lines.now (F.holds files.old) (D.image swap.old) (D.image swap.new)) }
     ensures files_lead { F.leads files.old files.new }
@@ -121,6 +123,10 @@ pub fn run_schedule<F: Files, D: SwapDev>(
     requires files { AreFiles core.old.machine.images (F.holds files.old) }
     ensures ends { (A : Inputs) (image : List ℕ) → IsAskedOf A core.old.machine first.now lines.now (F.holds files.old) image → D.image swap.old ≡ Some image
         → RunEnds A core.new.machine.kernel.journal image result (D.image swap.new) }
+    ensures full { (A : Inputs) (image : List ℕ) → IsAskedOf A core.old.machine first.now lines.now (F.holds files.old) image → D.image swap.old ≡ Some image
+        → result ≡ Err (Unfinished.Stopped Stop.JournalFull) → RunFull A core.new.machine }
+    ensures over { OnOk result ((A : Inputs) (image : List ℕ) → IsAskedOf A core.old.machine first.now lines.now (F.holds files.old) image → D.image swap.old ≡ Some image
+        → RunOver A core.new.machine) }
     ensures none_made { (pid : ℕ) → result ≡ Err (Unfinished.NoSpace pid) → core.new.machine.kernel.journal ≡ [] }
     ensures untouched { (pid : ℕ) → result ≡ Err (Unfinished.NoSpace pid) → swap.new ≡ swap.old }
     ensures files_lead { F.leads files.old files.new }

@@ -1,5 +1,5 @@
 //! The start of a run.
-ghost use Rattle.std.specs.Prelude.{◌≡◌, ◌≤◌, ℕ, true, List, [], length, Some, IfOk, IfErr, OnErr, Ok};
+ghost use Rattle.std.specs.Prelude.{◌≡◌, ◌≤◌, ℕ, List, [], length, Some, IfOk, IfErr, Ok};
 ghost use Rattle.flat_state.specs.Flat.{Inputs};
 ghost use Rattle.flat_model.specs.Asked.{start_held};
 ghost use Rattle.machine_state.specs.Done.{CountsPages, CountsReads, CountsWrites};
@@ -40,7 +40,6 @@ impl Core {
         ensures params { result ≡ Ok Started.Ok → self.new.machine.params ≡ self.old.machine.params }
         ensures images { result ≡ Ok Started.Ok → self.new.machine.images ≡ self.old.machine.images }
         ensures counted { self.new.counted ≡ self.old.counted }
-        ensures stopped { OnErr result (self.new.machine.kernel.stopped ≡ true) }
         ensures files_lead { F.leads files.old files.new }
         ensures swap_leads { D.leads swap.old swap.new }
         ensures holds { F.holds files.new ≡ F.holds files.old }

@@ -14,7 +14,7 @@ returns-in_err-note-clause-stops g c =
     let i = g.D.SwapDev.image c.args.swap.now in
     stops_on c.from_residual.result c.in_err-note.field-0.0 (StopsTurn old c.note.new.self c.args.pid c.args.counted holds i i) c.from_residual.ensures.1
     (turn_noting_stops old c.note.new.self c.args.pid c.args.counted holds i c.in_err-note.field-0.0
-    (noted_stop c.in_err-note.field-0.0 old c.note.new.self c.in_err-note.ensures.stop c.in_err-note.ensures.cause c.in_err-note.ensures.full))
+    (noted_stop c.in_err-note.field-0.0 old c.note.new.self c.requires.steady.whole c.in_err-note.ensures.stop c.in_err-note.ensures.cause c.in_err-note.ensures.full))
 
 pub come_in-requires-clause-steady : goal.come_in-requires-clause-steady
 come_in-requires-clause-steady g c =

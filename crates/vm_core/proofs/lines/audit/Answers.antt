@@ -26,7 +26,7 @@ returns-clause-stops g c =
     let holds = g.F.Files.holds c.args._files.now in
     let i = g.D.SwapDev.image c.args._swap.now in
     stops_weaker c.note.result (λ stop. StopsNoting old c.note.new.self stop) (λ stop. StopsLine events.Audit old c.note.new.self holds i i stop)
-    (λ stop h. audit_halts old c.note.new.self holds i stop h) (stops_noting c.note.result old c.note.new.self c.note.ensures.stop c.note.ensures.cause c.note.ensures.full)
+    (λ stop h. audit_halts old c.note.new.self holds i stop h) (stops_noting c.note.result old c.note.new.self c.requires.steady.whole c.note.ensures.stop c.note.ensures.cause c.note.ensures.full)
 
 pub returns-clause-steady : goal.returns-clause-steady
 returns-clause-steady g c =

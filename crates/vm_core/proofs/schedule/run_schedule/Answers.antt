@@ -1,9 +1,12 @@
-use Rattle.std.proofs.Common.{Result, Ok, ap, ◌∙◌, subst, arith}
+use Rattle.std.proofs.Common.{◌≡◌, Result, Ok, Err, ap, ◌∙◌, subst, arith}
 use Rattle.run_start.specs.declared.starting.Started.{Started}
 use Rattle.vm_facts.specs.declared.stop.Stop.{Stop}
+use Rattle.vm_facts.specs.declared.stop.Stop.TheVariants as stops
 use Rattle.vm_core.specs.Schedules.{StopsLines, FinishesLines}
+use Rattle.vm_core.specs.Full.{RunFull}
 use Rattle.vm_core.specs.RunEnds.{RunEnds}
-use Rattle.vm_core.proofs.Ending.{stopped_so, are_among, start_stops, lines_stop, lines_finish}
+use Rattle.vm_core.specs.declared.schedule.Unfinished.TheVariants.{Stopped}
+use Rattle.vm_core.proofs.Ending.{stopped_so, same_stop, are_among, start_stops, start_full, lines_stop, lines_full, lines_finish, lines_over}
 use Rattle.vm_core.proofs.schedule.run_schedule.Goals as goal
 
 pub start-requires-clause-numbers : goal.start-requires-clause-numbers
@@ -16,6 +19,14 @@ returns-in_err-pid-clause-ends g c A image is told =
     let j = g.D.SwapDev.image c.start.new.swap in
     stopped_so c.from_residual.result stop (λ r. RunEnds A new.machine.kernel.journal image r j) c.from_residual.ensures.1
     (start_stops A c.args.core.now c.args.first.now c.args.lines.now (g.F.Files.holds c.args.files.now) image c.requires.few is new stop j (λ B b t e. c.in_err-pid.ensures.stops B b t (told ∙ e)))
+
+pub returns-in_err-pid-clause-full : goal.returns-in_err-pid-clause-full
+returns-in_err-pid-clause-full g c A image is told =
+    let stop = c.in_err-pid.field-0.0 in
+    let new = c.start.new.self in
+    stopped_so c.from_residual.result stop (λ r. r ≡ Err (Stopped stops.JournalFull) → RunFull A new.machine) c.from_residual.ensures.1
+    (λ full. start_full A c.args.core.now c.args.first.now c.args.lines.now (g.F.Files.holds c.args.files.now) image c.requires.few is new stop (g.D.SwapDev.image c.start.new.swap)
+    (same_stop stop stops.JournalFull full) (λ B b t e. c.in_err-pid.ensures.stops B b t (told ∙ e)))
 
 pub finish-requires-clause-below : goal.finish-requires-clause-below
 finish-requires-clause-below g c =
@@ -39,6 +50,20 @@ returns-in_err-finish-in-Ok-clause-ends g c A image is told =
     (lines_stop A c.args.core.now c.args.first.now c.args.lines.now holds image c.requires.few is mid i h told (c.start.ensures.starts ok) new stop j
     (subst (λ hs. StopsLines mid new c.args.lines.now hs h j stop) c.start.ensures.holds c.in_err-finish-in-Ok.ensures.stops))
 
+pub returns-in_err-finish-in-Ok-clause-full : goal.returns-in_err-finish-in-Ok-clause-full
+returns-in_err-finish-in-Ok-clause-full g c A image is told =
+    let ok = c.in_ok-pid.was ∙ ap (λ (s : Started). let r : Result Started Stop = Ok s in r) c.in-Ok.is in
+    let stop = c.in_err-finish-in-Ok.field-0.0 in
+    let mid = c.start.new.self in
+    let new = c.finish.new.core in
+    let holds = g.F.Files.holds c.args.files.now in
+    let i = g.D.SwapDev.image c.args.swap.now in
+    let h = g.D.SwapDev.image c.start.new.swap in
+    let j = g.D.SwapDev.image c.finish.new.swap in
+    stopped_so c.from_residual-in_err-finish-in-Ok.result stop (λ r. r ≡ Err (Stopped stops.JournalFull) → RunFull A new.machine) c.from_residual-in_err-finish-in-Ok.ensures.1
+    (λ full. lines_full A c.args.core.now c.args.first.now c.args.lines.now holds image c.requires.few is mid i h told (c.start.ensures.starts ok) new stop j (same_stop stop stops.JournalFull full)
+    (subst (λ hs. StopsLines mid new c.args.lines.now hs h j stop) c.start.ensures.holds c.in_err-finish-in-Ok.ensures.stops))
+
 pub returns-in_ok-finish-in-Ok-clause-ends : goal.returns-in_ok-finish-in-Ok-clause-ends
 returns-in_ok-finish-in-Ok-clause-ends g c A image is told =
     let ok = c.in_ok-pid.was ∙ ap (λ (s : Started). let r : Result Started Stop = Ok s in r) c.in-Ok.is in
@@ -50,3 +75,15 @@ returns-in_ok-finish-in-Ok-clause-ends g c A image is told =
     let j = g.D.SwapDev.image c.finish.new.swap in
     lines_finish A c.args.core.now c.args.first.now c.args.lines.now holds image c.requires.few is mid i h told (c.start.ensures.starts ok) new j
     (subst (λ hs. FinishesLines mid new c.args.lines.now hs h j) c.start.ensures.holds c.in_ok-finish-in-Ok.ensures.finishes)
+
+pub returns-in_ok-finish-in-Ok-clause-over : goal.returns-in_ok-finish-in-Ok-clause-over
+returns-in_ok-finish-in-Ok-clause-over g c A image is told =
+    let ok = c.in_ok-pid.was ∙ ap (λ (s : Started). let r : Result Started Stop = Ok s in r) c.in-Ok.is in
+    let mid = c.start.new.self in
+    let new = c.finish.new.core in
+    let holds = g.F.Files.holds c.args.files.now in
+    let i = g.D.SwapDev.image c.args.swap.now in
+    let h = g.D.SwapDev.image c.start.new.swap in
+    let j = g.D.SwapDev.image c.finish.new.swap in
+    lines_over A c.args.core.now c.args.first.now c.args.lines.now holds image c.requires.few is mid i h told (c.start.ensures.starts ok) new j
+    (subst (λ hs. FinishesLines mid new c.args.lines.now hs h j) c.start.ensures.holds c.in_ok-finish-in-Ok.ensures.finishes) c.in_ok-finish-in-Ok.ensures.goes_on
