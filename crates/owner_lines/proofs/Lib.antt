@@ -1,0 +1,6 @@
+pub mod Progress
+pub mod Counting
+pub mod Owning
+pub mod Flights
+pub mod Pids
+pub mod Rising

@@ -1,0 +1,4 @@
+pub mod Owners
+pub mod Carried
+pub mod Recorded
+pub mod Pieces

@@ -1,0 +1,217 @@
+-- Who owns what, line by line: frames, transfers in flight, processes, pages that are due, and the swap area.
+use Rattle.std.specs.Prelude.{ℕ, zero, suc, ◌+◌, ◌-◌, ◌==◌, nat_lt, Bool, true, false, if◌then◌else◌, List, [], ◌∷◌, ◌++◌, length, map, Option, Some, None, codes}
+use Rattle.std.specs.List.{flat_map, list_any}
+use Rattle.vm_facts.specs.declared.page.Page.{Page}
+use Rattle.vm_facts.specs.declared.page.PageState.{PageState}
+use Rattle.vm_facts.specs.declared.page.PageState.TheVariants.{Unfilled, Valid, Invalid, Coming, Going, OnSwap}
+use Rattle.core_map.specs.Order.{place_from}
+use Rattle.swap_book.specs.declared.Owner.{Owner}
+use Rattle.swap_book.specs.declared.Owner.TheVariants as owners
+use Rattle.swap_book.specs.declared.Held.{Held}
+use Rattle.swap_book.specs.Holdings.{Holdings}
+use Rattle.page_model.specs.Frames.{count_up}
+use Rattle.page_model.specs.Swapper.{is_out}
+use Rattle.page_model.specs.Placement.{Source, FromSwap, FromFile, Errand, Writes, Reads, Part, Transfer, Due, Start, CopyOf, Placement, state_of, mark_of, page_of}
+use Rattle.page_model.specs.Ownership.{is_marked_dirty, block_of}
+use Rattle.kernel_model.specs.Kernel.{Life, New, HoldsSpace, LendsSpace, Ended}
+use Rattle.kernel_model.specs.Coupled.{Outline, outline_kept}
+use Rattle.machine_state.specs.Machine.{Standing}
+use Rattle.run_text.specs.Text.{parts, rest_of_line, page_text}
+
+-- a word where something is so
+abbrev pub word_if : Bool → List ℕ → List ℕ
+word_if true word = word
+word_if false word = []
+
+-- a page behind a space, where there is one
+abbrev pub page_if : Option Page → List ℕ
+page_if None = []
+page_if (Some q) = page_text q
+
+-- The journal's length, and the hands.
+
+abbrev pub entries_line : ℕ → Bool → List ℕ
+entries_line entries over = codes "entries" ++ parts (entries ∷ []) ++ word_if over (codes " end") ++ codes "\n"
+
+abbrev pub hands_line : Placement → List ℕ
+hands_line p = codes "hands" ++ rest_of_line (p.front ∷ p.back ∷ [])
+
+-- Frames.
+
+-- the place of a frame on the free list, 1 for its head; 0 where it isn't free
+abbrev pub free_place : Placement → ℕ → ℕ
+free_place p f = place_from 1 f p.free
+
+-- a page of the transfer is in the frame
+abbrev pub has_frame : ℕ → Transfer → Bool
+has_frame f t = list_any (λ (x : Part). x.frame == f) t.parts
+
+-- the number of the transfer that has a frame, where the first has this number; 0 where none has it
+abbrev pub carrier_from : ℕ → ℕ → List Transfer → ℕ
+carrier_from n f [] = 0
+carrier_from n f (t ∷ ts) = if has_frame f t then n else carrier_from (n + 1) f ts
+
+-- the number of the transfer that has a frame, 1 for the oldest
+abbrev pub carrier : Placement → ℕ → ℕ
+carrier p f = carrier_from 1 f p.transfers
+
+-- a data or stack page that swap hasn't
+abbrev pub is_unsaved : Placement → Page → Bool
+is_unsaved p q = is_marked_dirty q (mark_of p q)
+
+-- a page with the word for its state, and whether it is dirty
+abbrev pub kept_text : List ℕ → Page → Bool → List ℕ
+kept_text word q dirty = word ++ page_text q ++ word_if dirty (codes " dirty")
+
+-- a page with the word for its state, and the number of its transfer
+abbrev pub moved_text : List ℕ → ℕ → Page → List ℕ
+moved_text word n q = word ++ parts (n ∷ []) ++ page_text q
+
+-- the page of a frame off the free list, by its state
+abbrev pub used_by : Placement → Page → PageState → List ℕ
+used_by p q Unfilled = []
+used_by p q (Valid f) = kept_text (codes " valid") q (is_unsaved p q)
+used_by p q (Invalid f) = kept_text (codes " invalid") q (is_unsaved p q)
+used_by p q (Coming f) = moved_text (codes " read") (carrier p f) q
+used_by p q (Going f) = moved_text (codes " write") (carrier p f) q
+used_by p q OnSwap = []
+
+-- the page in a frame off the free list
+abbrev pub used_text : Placement → Option Page → List ℕ
+used_text p None = []
+used_text p (Some q) = used_by p q (state_of p q)
+
+-- the page that a frame on the free list still holds, if any, behind the frame's place
+abbrev pub free_text : ℕ → Option Page → List ℕ
+free_text n page = codes " free" ++ parts (n ∷ []) ++ page_if page
+
+-- what is said of a frame, by its place on the free list
+abbrev pub owner_text : Placement → ℕ → ℕ → List ℕ
+owner_text p f zero = used_text p (page_of p f)
+owner_text p f (suc n) = free_text (suc n) (page_of p f)
+
+abbrev pub frame_line : Placement → ℕ → List ℕ
+frame_line p f = codes "frame" ++ parts (f ∷ []) ++ owner_text p f (free_place p f) ++ codes "\n"
+
+abbrev pub frame_lines : Placement → List ℕ
+frame_lines p = flat_map (frame_line p) (count_up 1 (length p.holds))
+
+-- Transfers.
+
+abbrev pub source_word : Source → List ℕ
+source_word FromSwap = codes " swap"
+source_word FromFile = codes " file"
+
+abbrev pub errand_text : Errand → List ℕ
+errand_text Writes = codes " write"
+errand_text (Reads source demanded) = source_word source ++ page_text demanded
+
+-- a block behind a space, where there is one
+abbrev pub block_if : Option ℕ → List ℕ
+block_if None = []
+block_if (Some b) = parts (b ∷ [])
+
+-- the first of the two blocks of swap from which a page is read, or to which it is written
+abbrev pub block_moved : Holdings → Errand → Page → Option ℕ
+block_moved hs Writes q = block_of hs q
+block_moved hs (Reads FromSwap demanded) q = block_of hs q
+block_moved hs (Reads FromFile demanded) q = None
+
+-- a page in a frame, with its block
+abbrev pub moved_line : Page → ℕ → Option ℕ → List ℕ
+moved_line q f block = codes "part" ++ page_text q ++ parts (f ∷ []) ++ block_if block ++ codes "\n"
+
+-- a page of a transfer, with its block as these pieces are held
+abbrev pub part_line : Holdings → Errand → Part → List ℕ
+part_line hs e x = moved_line x.page x.frame (block_moved hs e x.page)
+
+-- a transfer by its number, and its pages
+abbrev pub transfer_lines : Holdings → ℕ → Transfer → List ℕ
+transfer_lines hs n t = codes "transfer" ++ parts (n ∷ []) ++ errand_text t.errand ++ codes "\n" ++ flat_map (part_line hs t.errand) t.parts
+
+-- the transfers, of which the first has this number
+abbrev pub transfers_from : Holdings → ℕ → List Transfer → List ℕ
+transfers_from hs n [] = []
+transfers_from hs n (t ∷ ts) = transfer_lines hs n t ++ transfers_from hs (n + 1) ts
+
+-- Processes.
+
+abbrev pub in_or_out : Bool → List ℕ
+in_or_out true = codes " out"
+in_or_out false = codes " in"
+
+-- the space that a process holds, whether the process is out, and whether it is asleep
+abbrev pub holder_text : Bool → ℕ → Bool → List ℕ
+holder_text out sid asleep = in_or_out out ++ parts (sid ∷ []) ++ word_if asleep (codes " asleep")
+
+-- what a process has; between two entries none is new
+abbrev pub life_text : Bool → Bool → Life → List ℕ
+life_text out asleep New = []
+life_text out asleep (HoldsSpace sid) = holder_text out sid asleep
+life_text out asleep (LendsSpace sid child) = codes " lent" ++ parts (sid ∷ child ∷ [])
+life_text out asleep (Ended status) = codes " ended" ++ parts (status ∷ [])
+
+abbrev pub process_line : Placement → Outline → List ℕ
+process_line p q = codes "process" ++ parts (q.pid ∷ []) ++ life_text (is_out p q.pid) q.asleep q.life ++ codes "\n"
+
+-- What is due.
+
+-- the parent's page, where a page is copied from it
+abbrev pub from_text : Option Page → List ℕ
+from_text None = []
+from_text (Some parent) = codes " from" ++ page_text parent
+
+abbrev pub fill_line : Page → Option Page → List ℕ
+fill_line q parent = codes "due" ++ page_text q ++ from_text parent ++ codes "\n"
+
+abbrev pub due_line : Due → List ℕ
+due_line (Start q) = fill_line q None
+due_line (CopyOf q parent) = fill_line q (Some parent)
+
+-- The swap area.
+
+-- who holds a piece
+abbrev pub owner_of_piece : Owner → List ℕ
+owner_of_piece (owners.Data sid) = codes " d" ++ parts (sid ∷ [])
+owner_of_piece (owners.Stack sid) = codes " s" ++ parts (sid ∷ [])
+owner_of_piece (owners.U pid) = codes " u" ++ parts (pid ∷ [])
+owner_of_piece (owners.Text image) = codes " x" ++ parts (image ∷ [])
+
+-- a row of blocks, by its first one and its length, with what is said of it
+abbrev pub swap_line : ℕ → ℕ → List ℕ → List ℕ
+swap_line start blocks said = codes "swap" ++ parts (start ∷ blocks ∷ []) ++ said ++ codes "\n"
+
+abbrev pub piece_line : Held → List ℕ
+piece_line h = swap_line h.start h.length (owner_of_piece h.owner)
+
+-- the blocks from one on to another, which nobody holds, where there are any
+abbrev pub gap_line : ℕ → ℕ → List ℕ
+gap_line b end = word_if (nat_lt b end) (swap_line b (end - b) (codes " free"))
+
+-- a piece among pieces whose first blocks rise
+abbrev pub placed : Held → Holdings → Holdings
+placed h [] = h ∷ []
+placed h (g ∷ gs) = if nat_lt g.start h.start then g ∷ placed h gs else h ∷ g ∷ gs
+
+-- the pieces by their first blocks
+abbrev pub rising : Holdings → Holdings
+rising [] = []
+rising (h ∷ hs) = placed h (rising hs)
+
+-- the pieces, whose first blocks rise, and what is free between them, from a block on to the area's end
+abbrev pub blocks_from : ℕ → ℕ → Holdings → List ℕ
+blocks_from size b [] = gap_line b size
+blocks_from size b (h ∷ hs) = gap_line b h.start ++ piece_line h ++ blocks_from size (h.start + h.length) hs
+
+abbrev pub swap_lines : ℕ → Holdings → List ℕ
+swap_lines size hs = blocks_from size 0 (rising hs)
+
+-- All lines: how long the journal is and whether the run is over, where all pages are, who holds which blocks of an area of
+-- this size, and the processes.
+unfoldable pub owners_text : ℕ → Bool → Placement → Holdings → ℕ → List Outline → List ℕ
+owners_text entries over p hs size processes = entries_line entries over ++ hands_line p ++ frame_lines p ++ transfers_from hs 1 p.transfers
+    ++ flat_map (process_line p) processes ++ flat_map due_line p.due ++ swap_lines size hs
+
+-- the lines of a machine, whose holdings are those before the pieces that were found for an entry to come
+abbrev pub owners_of : Standing → Bool → List ℕ
+owners_of m over = owners_text (length m.kernel.journal) over m.kernel.place m.before m.params.swap_blocks (map outline_kept m.kernel.processes)

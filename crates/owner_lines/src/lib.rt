@@ -1,0 +1,16 @@
+//! Who owns what in a machine, as lines of text: its frames, its transfers in flight, its processes, the pages that are
+//! due, and the pieces of its swap (this project's profile).
+#![tactic(auto, using(run_text::proofs::Passing::puts_then, run_text::proofs::Passing::puts_failed, run_text::proofs::Passing::passes_none))]
+
+mod due;
+mod frames;
+mod processes;
+mod swap;
+mod transfers;
+mod words;
+mod writing;
+
+pub use writing::write_owners;
+
+#[cfg(test)]
+mod tests;

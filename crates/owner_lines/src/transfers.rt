@@ -1,0 +1,232 @@
+// The lines of the transfers in flight.
+
+ghost use Rattle.std.specs.Prelude.{◌≡◌, ◌+◌, ◌<◌, ◌^◌, [], ◌∷◌, ◌++◌, false, slice_get, codes};
+ghost use Rattle.std.specs.List.{flat_map};
+ghost use Rattle.io_edge.specs.Transfer.{CountsErr};
+ghost use Rattle.machine_state.specs.View.{source_shown};
+ghost use Rattle.run_text.specs.Buffered.{Puts};
+ghost use Rattle.run_text.specs.Text.{parts, page_text};
+ghost use Rattle.owner_lines.specs.Owners.{source_word, block_if, moved_line, transfers_from};
+ghost use Rattle.owner_lines.specs.Carried.{transfer_if, block_read, inbound_line, outbound_line, flight_text};
+
+use io_edge::{Failed, Sink};
+use machine_state::Machine;
+use run_text::{OutputBuffer, put_named, put_page};
+use transfer_ring::{Inbound, Outbound, Source, Transfer};
+use vm_facts::Page;
+
+// The block that a page is read from, where it comes from swap.
+fn block_read(source: Source) -> Option<u32>
+    ensures { result ≡ block_read source }
+{
+    match source {
+        Source::Swap(block) => Some(block),
+        Source::File { .. } => None,
+    }
+}
+
+// Puts a block behind a space, where there is one.
+fn put_block_if<S: Sink>(
+    out: &mut OutputBuffer,
+    sink: &mut S,
+    block: Option<u32>,
+) -> Result<(), Failed>
+    ensures leads { S.leads sink.old sink.new }
+    ensures puts { Puts result (S.written sink.old) out.old (block_if block) (S.written sink.new) out.new }
+    ensures faults { CountsErr result (S.faults sink.old) (S.faults sink.new) }
+{
+    match block {
+        Some(block) => put_named(out, sink, b"", &[block]),
+        None => Ok(()),
+    }
+}
+
+// Puts the line of a page in a transfer.
+fn put_moved_line<S: Sink>(
+    out: &mut OutputBuffer,
+    sink: &mut S,
+    page: &Page,
+    frame: u32,
+    block: Option<u32>,
+) -> Result<(), Failed>
+    ensures leads { S.leads sink.old sink.new }
+    ensures puts { Puts result (S.written sink.old) out.old (moved_line page.now frame block) (S.written sink.new) out.new }
+    ensures faults { CountsErr result (S.faults sink.old) (S.faults sink.new) }
+{
+    out.put(sink, b"part")?;
+    put_page(out, sink, page)?;
+    put_named(out, sink, b"", &[frame])?;
+    put_block_if(out, sink, block)?;
+    out.put(sink, b"\n")
+}
+
+// Puts the line of a page that is read.
+fn put_inbound<S: Sink>(out: &mut OutputBuffer, sink: &mut S, part: &Inbound) -> Result<(), Failed>
+    ensures leads { S.leads sink.old sink.new }
+    ensures puts { Puts result (S.written sink.old) out.old (inbound_line part.now) (S.written sink.new) out.new }
+    ensures faults { CountsErr result (S.faults sink.old) (S.faults sink.new) }
+{
+    put_moved_line(
+        out,
+        sink,
+        &part.page,
+        part.token.number(),
+        block_read(part.source),
+    )
+}
+
+// Puts the line of a page that is written.
+fn put_outbound<S: Sink>(
+    out: &mut OutputBuffer,
+    sink: &mut S,
+    part: &Outbound,
+) -> Result<(), Failed>
+    ensures leads { S.leads sink.old sink.new }
+    ensures puts { Puts result (S.written sink.old) out.old (outbound_line part.now) (S.written sink.new) out.new }
+    ensures faults { CountsErr result (S.faults sink.old) (S.faults sink.new) }
+{
+    put_moved_line(out, sink, &part.page, part.token.number(), Some(part.block))
+}
+
+// Puts the lines of the pages that are read.
+fn put_all_inbound<S: Sink>(
+    out: &mut OutputBuffer,
+    sink: &mut S,
+    parts: &[Inbound],
+) -> Result<(), Failed>
+    ensures leads { S.leads sink.old sink.new }
+    ensures puts { Puts result (S.written sink.old) out.old (flat_map inbound_line parts.now) (S.written sink.new) out.new }
+    ensures faults { CountsErr result (S.faults sink.old) (S.faults sink.new) }
+{
+    for part in parts {
+        put_inbound(out, sink, part)?;
+    }
+    Ok(())
+}
+
+// Puts the lines of the pages that are written.
+fn put_all_outbound<S: Sink>(
+    out: &mut OutputBuffer,
+    sink: &mut S,
+    parts: &[Outbound],
+) -> Result<(), Failed>
+    ensures leads { S.leads sink.old sink.new }
+    ensures puts { Puts result (S.written sink.old) out.old (flat_map outbound_line parts.now) (S.written sink.new) out.new }
+    ensures faults { CountsErr result (S.faults sink.old) (S.faults sink.new) }
+{
+    for part in parts {
+        put_outbound(out, sink, part)?;
+    }
+    Ok(())
+}
+
+// Where the pages of a read come from.
+fn source_word(parts: &[Inbound]) -> &'static [u8]
+    ensures { result.now ≡ source_word (source_shown parts.now) }
+{
+    match parts {
+        [] => b" swap",
+        [first, ..] => match first.source {
+            Source::Swap(_) => b" swap",
+            Source::File { .. } => b" file",
+        },
+    }
+}
+
+// Puts what stands behind the number of a read, and the lines of its pages.
+fn put_read<S: Sink>(
+    out: &mut OutputBuffer,
+    sink: &mut S,
+    demanded: &Page,
+    parts: &[Inbound],
+) -> Result<(), Failed>
+    ensures leads { S.leads sink.old sink.new }
+    ensures puts { Puts result (S.written sink.old) out.old (source_word (source_shown parts.now) ++ page_text demanded.now ++ codes "\n" ++ flat_map inbound_line parts.now) (S.written sink.new) out.new }
+    ensures faults { CountsErr result (S.faults sink.old) (S.faults sink.new) }
+{
+    out.put(sink, source_word(parts))?;
+    put_page(out, sink, demanded)?;
+    out.put(sink, b"\n")?;
+    put_all_inbound(out, sink, parts)
+}
+
+// Puts what stands behind the number of a write, and the lines of its pages.
+fn put_write<S: Sink>(
+    out: &mut OutputBuffer,
+    sink: &mut S,
+    parts: &[Outbound],
+) -> Result<(), Failed>
+    ensures leads { S.leads sink.old sink.new }
+    ensures puts { Puts result (S.written sink.old) out.old (codes " write\n" ++ flat_map outbound_line parts.now) (S.written sink.new) out.new }
+    ensures faults { CountsErr result (S.faults sink.old) (S.faults sink.new) }
+{
+    out.put(sink, b" write\n")?;
+    put_all_outbound(out, sink, parts)
+}
+
+// Puts what stands behind the number of a transfer, and the lines of its pages.
+fn put_flight<S: Sink>(
+    out: &mut OutputBuffer,
+    sink: &mut S,
+    transfer: &Transfer,
+) -> Result<(), Failed>
+    ensures leads { S.leads sink.old sink.new }
+    ensures puts { Puts result (S.written sink.old) out.old (flight_text transfer.now) (S.written sink.new) out.new }
+    ensures faults { CountsErr result (S.faults sink.old) (S.faults sink.new) }
+{
+    match transfer {
+        Transfer::Read { demanded, parts } => put_read(out, sink, demanded, parts.as_slice()),
+        Transfer::Write { parts } => put_write(out, sink, parts.as_slice()),
+    }
+}
+
+// Puts the lines of a transfer.
+fn put_transfer<S: Sink>(
+    out: &mut OutputBuffer,
+    sink: &mut S,
+    number: u32,
+    transfer: &Transfer,
+) -> Result<(), Failed>
+    ensures leads { S.leads sink.old sink.new }
+    ensures puts { Puts result (S.written sink.old) out.old (codes "transfer" ++ parts (number ∷ []) ++ flight_text transfer.now) (S.written sink.new) out.new }
+    ensures faults { CountsErr result (S.faults sink.old) (S.faults sink.new) }
+{
+    put_named(out, sink, b"transfer", &[number])?;
+    put_flight(out, sink, transfer)
+}
+
+// Puts the lines of the transfer at a place, where there is one.
+fn put_transfer_at<S: Sink>(
+    out: &mut OutputBuffer,
+    sink: &mut S,
+    machine: &Machine,
+    place: u32,
+) -> Result<(), Failed>
+    requires running { machine.now.kernel.stopped ≡ false }
+    requires few { place + 1 < 2 ^ 32 }
+    ensures leads { S.leads sink.old sink.new }
+    ensures puts { Puts result (S.written sink.old) out.old (transfer_if machine.now.before (place + 1) (slice_get machine.now.kernel.place.transfers place)) (S.written sink.new) out.new }
+    ensures faults { CountsErr result (S.faults sink.old) (S.faults sink.new) }
+{
+    match machine.transfer(place) {
+        Some(transfer) => put_transfer(out, sink, place + 1, transfer),
+        None => Ok(()),
+    }
+}
+
+/// Puts the lines of the transfers in flight, the oldest first.
+pub(crate) fn put_transfers<S: Sink>(
+    out: &mut OutputBuffer,
+    sink: &mut S,
+    machine: &Machine,
+) -> Result<(), Failed>
+    requires { machine.now.kernel.stopped ≡ false }
+    ensures leads { S.leads sink.old sink.new }
+    ensures puts { Puts result (S.written sink.old) out.old (transfers_from machine.now.before 1 machine.now.kernel.place.transfers) (S.written sink.new) out.new }
+    ensures faults { CountsErr result (S.faults sink.old) (S.faults sink.new) }
+{
+    for place in 0..machine.in_flight() {
+        put_transfer_at(out, sink, machine, place)?;
+    }
+    Ok(())
+}
