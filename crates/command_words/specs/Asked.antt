@@ -15,6 +15,7 @@ pub data Asked : Type 0 where
   Show : (image : List ℕ) → Asked
   Optimum : (size : ℕ) → Numbers → (schedule : List ℕ) → (images : List (List ℕ)) → Asked
   Curve : Numbers → (schedule : List ℕ) → (images : List (List ℕ)) → Asked
+  Owners : (entries : ℕ) → Numbers → (schedule : List ℕ) → (images : List (List ℕ)) → Asked
 
 -- the three numbers, where each is one
 unfoldable pub all_numbers : Option ℕ → Option ℕ → Option ℕ → Option Numbers
@@ -57,6 +58,11 @@ unfoldable pub asked_optimum : List (List ℕ) → Option Asked
 asked_optimum (size ∷ words) = option_and_then (λ n. asked_with_run 100000 (Optimum n) words) (number_in 1 4096 size)
 asked_optimum [] = None
 
+-- `N FRAMES SWAP LIMIT SCHED IMAGE..`
+unfoldable pub asked_owners : List (List ℕ) → Option Asked
+asked_owners (entries ∷ words) = option_and_then (λ n. asked_with_run 1000000 (Owners n) words) (number_in 0 16777216 entries)
+asked_owners [] = None
+
 -- the words behind `run`: one of them may be `--trace`; of the others none is empty or begins with a hyphen
 unfoldable pub asked_run : List (List ℕ) → Option Asked
 asked_run words =
@@ -72,7 +78,8 @@ asked_other name words =
     else (if bytes_eq name (codes "dis") then asked_show words
     else (if bytes_eq name (codes "opt") then asked_optimum words
     else (if bytes_eq name (codes "curve") then asked_with_run 100000 Curve words
-    else None))))))
+    else (if bytes_eq name (codes "owners") then asked_owners words
+    else None)))))))
 
 -- what the words behind the program's name ask for, and `None` where they are no command's
 unfoldable pub asked_of : List (List ℕ) → Option Asked

@@ -6,7 +6,7 @@ use Rattle.command_words.specs.declared.command.Numbers.{Numbers}
 use Rattle.command_words.specs.declared.command.Command.{Command}
 use Rattle.command_words.specs.declared.command.Command.TheVariants as commands
 use Rattle.command_words.specs.declared.image_words.ImageWords.{ImageWords}
-use Rattle.command_words.specs.Asked.{Asked, Run, Load, Replay, Assemble, Show, Optimum, Curve}
+use Rattle.command_words.specs.Asked.{Asked, Run, Load, Replay, Assemble, Show, Optimum, Curve, Owners}
 use denote.Ref.{Bor}
 
 -- the words, as one list
@@ -22,6 +22,7 @@ asked_by (commands.Assemble source) = Assemble source.now
 asked_by (commands.Show image) = Show image.now
 asked_by (commands.Optimum size numbers schedule images) = Optimum size numbers schedule.now (map (λ word. word.now) images.now)
 asked_by (commands.Curve numbers schedule images) = Curve numbers schedule.now (map (λ word. word.now) images.now)
+asked_by (commands.Owners entries numbers schedule images) = Owners entries numbers schedule.now (map (λ word. word.now) images.now)
 
 -- each number is in its range
 pub record AreAllowed (numbers : Numbers) : Type 0 where
@@ -56,3 +57,4 @@ IsFitting (commands.Assemble source) = IsShortName source.now
 IsFitting (commands.Show image) = IsShortName image.now × IsTrue (starts image.now)
 IsFitting (commands.Optimum size numbers schedule images) = ((1 ≤ size) × (size ≤ 4096)) × IsFittingRun 100000 numbers schedule images.now
 IsFitting (commands.Curve numbers schedule images) = IsFittingRun 100000 numbers schedule images.now
+IsFitting (commands.Owners entries numbers schedule images) = (entries ≤ 16777216) × IsFittingRun 1000000 numbers schedule images.now

@@ -2,7 +2,7 @@
 ghost use Rattle.std.specs.Prelude.{◌≡◌, ◌≤◌, ℕ, List, drop, map, IsSome, IfSome};
 ghost use Rattle.std.specs.Option.{option_map};
 ghost use Rattle.run_files.specs.ImageWords.{IsShortName};
-ghost use Rattle.command_words.specs.Asked.{Asked, asked_of, asked_run, asked_other, asked_load, asked_replay, asked_assemble, asked_show, asked_optimum, asked_with_run, run_numbers, Curve};
+ghost use Rattle.command_words.specs.Asked.{Asked, asked_of, asked_run, asked_other, asked_load, asked_replay, asked_assemble, asked_show, asked_optimum, asked_owners, asked_with_run, run_numbers, Curve};
 ghost use Rattle.command_words.specs.Command.{word_list, asked_by, AreAllowed, AreImageWords, IsFitting};
 
 use crate::image_words::{ImageWords, from_place, has_trace};
@@ -64,6 +64,14 @@ pub enum Command<'a> {
         schedule: &'a str,
         images: &'a [&'a str],
     },
+    /// `owners N FRAMES SWAP LIMIT SCHED IMAGE..`: what each frame, page, transfer and piece of swap belongs to behind
+    /// the first 0 to 16,777,216 entries of a run's journal.
+    Owners {
+        entries: u32,
+        numbers: Numbers,
+        schedule: &'a str,
+        images: &'a [&'a str],
+    },
 }
 
 /// Reads the words behind the program's name. They are one of
@@ -71,12 +79,13 @@ pub enum Command<'a> {
 /// - `run [--trace] FRAMES SWAP LIMIT SCHED IMAGE..`, where `--trace` may stand at any place behind `run`
 /// - `load NUMBER`, `replay TRANSCRIPT IMAGE..`, `as SOURCE`, `dis IMAGE`
 /// - `opt N FRAMES SWAP LIMIT SCHED IMAGE..`, `curve FRAMES SWAP LIMIT SCHED IMAGE..`
+/// - `owners N FRAMES SWAP LIMIT SCHED IMAGE..`
 ///
 /// and it is `None` where they are any others. No other word begins with `-` or is empty. A number has 1 to 8 ASCII
 /// digits, leading zeros among them: FRAMES is 64 to 4,096, SWAP 256 to 131,072, LIMIT 1 to 1,000,000 but at most
-/// 100,000 for `opt` and `curve`, N 1 to 4,096 and NUMBER 0 to 9,999. A name has 1 to 63 bytes. There are 1 to 16
-/// words of images: a name starts a process, and one behind a `=` only makes the image known; at least one starts. The
-/// image of `dis` has no `=`. It takes no memory. Source: this project's profile.
+/// 100,000 for `opt` and `curve`, NUMBER 0 to 9,999, and N 1 to 4,096 for `opt` and 0 to 16,777,216 for `owners`. A name
+/// has 1 to 63 bytes. There are 1 to 16 words of images: a name starts a process, and one behind a `=` only makes the
+/// image known; at least one starts. The image of `dis` has no `=`. It takes no memory. Source: this project's profile.
 #[tactic(auto, unfolding(crate::specs::Asked::asked_of))]
 pub fn read_words<'a>(words: &'a [&'a str]) -> Option<Command<'a>>
     ensures exact { option_map asked_by result ≡ asked_of (map (λ word. word.now) words.now) }
@@ -127,6 +136,7 @@ fn read_other<'a>(name: &str, words: &'a [&'a str]) -> Option<Command<'a>>
         "dis" => read_show(words),
         "opt" => read_optimum(words),
         "curve" => read_curve(words),
+        "owners" => read_owners(words),
         _ => None,
     }
 }
@@ -213,6 +223,24 @@ fn read_curve<'a>(words: &'a [&'a str]) -> Option<Command<'a>>
 {
     let head = RunHead::of(ImageWords::all(words), 100_000)?;
     Some(Command::Curve {
+        numbers: head.numbers,
+        schedule: head.schedule,
+        images: from_place(words, 4),
+    })
+}
+
+#[tactic(auto, unfolding(crate::specs::Asked::asked_owners))]
+fn read_owners<'a>(words: &'a [&'a str]) -> Option<Command<'a>>
+    ensures exact { option_map asked_by result ≡ asked_owners (map (λ word. word.now) words.now) }
+    ensures fits { IfSome result IsFitting }
+{
+    let [entries, words @ ..] = words else {
+        return None;
+    };
+    let entries = read_number(entries, 0, 16_777_216)?;
+    let head = RunHead::of(ImageWords::all(words), 1_000_000)?;
+    Some(Command::Owners {
+        entries,
         numbers: head.numbers,
         schedule: head.schedule,
         images: from_place(words, 4),

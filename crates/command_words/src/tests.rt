@@ -58,6 +58,10 @@ fn takes_numbers_in_their_ranges(rt: HostRuntime) {
     assert!(rt; are_good(&["opt", "4096", "64", "256", "100000", "s", "hi"]));
     assert!(rt; !are_good(&["opt", "0", "64", "256", "100", "s", "hi"]));
     assert!(rt; !are_good(&["opt", "1", "64", "256", "100001", "s", "hi"]));
+    assert!(rt; are_good(&["owners", "0", "64", "256", "1000000", "s", "hi"]));
+    assert!(rt; are_good(&["owners", "16777216", "64", "256", "100", "s", "hi"]));
+    assert!(rt; !are_good(&["owners", "16777217", "64", "256", "100", "s", "hi"]));
+    assert!(rt; !are_good(&["owners", "64", "256", "100", "s", "hi"]));
 }
 
 #[test]
