@@ -26,7 +26,7 @@ use Rattle.run_opening.specs.Devices.{device_fault}
 use Rattle.run_opening.specs.Opening.{FoundFiles, found_told, EndsOpening, CountsAt}
 use Rattle.run_command.specs.Asking.{Request}
 use Rattle.run_command.specs.Naming.{shown_as}
-use Rattle.run_command.specs.Machines.{params_of, machine_of, IsOfOpening}
+use Rattle.run_command.specs.Machines.{params_up_to, machine_up_to, IsOfOpening}
 use Rattle.run_command.specs.Seen.{Seen, NoneFailed}
 use Rattle.run_command.specs.Paired.{image_together, unfinished_of, IsRunFault, ReadsFail, WritesFail}
 use Rattle.run_command.specs.Ends.{Ending, NothingDone, Unbegun, RunCaused, IsCaused, AllGood, IsJudged, RunEnded, RunOfWords, EndsTold, WritesSome, RunsOpened, Runs}
@@ -36,11 +36,11 @@ use Rattle.run_command.proofs.Endings.{lost_ended}
 
 -- The machine of what was opened.
 
-pub fresh_machine : (numbers : Numbers) (facts : List Image) (shown : List ImageNamed) (images : List OpenedImage) → facts ≡ map (λ (o : OpenedImage). o.facts) images → shown ≡ map shown_as images
-    → (let m : Standing = record { kernel = fresh_kernel facts numbers.frames; params = params_of numbers; images = shown; before = []; room = None } in m) ≡ machine_of numbers (map shown_as images)
-fresh_machine numbers facts shown images same_facts same_images =
-    ap (λ (fs : List Image). let m : Standing = record { kernel = fresh_kernel fs numbers.frames; params = params_of numbers; images = shown; before = []; room = None } in m) (same_facts ∙ sym (shown_facts images))
-    ∙ ap (λ (ns : List ImageNamed). let m : Standing = record { kernel = fresh_kernel (facts_named (map shown_as images)) numbers.frames; params = params_of numbers; images = ns; before = []; room = None } in m) same_images
+pub fresh_machine : (entries : ℕ) (numbers : Numbers) (facts : List Image) (shown : List ImageNamed) (images : List OpenedImage) → facts ≡ map (λ (o : OpenedImage). o.facts) images → shown ≡ map shown_as images
+    → (let m : Standing = record { kernel = fresh_kernel facts numbers.frames; params = params_up_to entries numbers; images = shown; before = []; room = None } in m) ≡ machine_up_to entries numbers (map shown_as images)
+fresh_machine entries numbers facts shown images same_facts same_images =
+    ap (λ (fs : List Image). let m : Standing = record { kernel = fresh_kernel fs numbers.frames; params = params_up_to entries numbers; images = shown; before = []; room = None } in m) (same_facts ∙ sym (shown_facts images))
+    ∙ ap (λ (ns : List ImageNamed). let m : Standing = record { kernel = fresh_kernel (facts_named (map shown_as images)) numbers.frames; params = params_up_to entries numbers; images = ns; before = []; room = None } in m) same_images
 
 pub if_ok : {T E : Type 0} (r : Result T E) (P Q : T → Type 0) → ((x : T) → P x → Q x) → IfOk r P → IfOk r Q
 if_ok (Ok x) P Q f p = f x p

@@ -18,18 +18,23 @@ use Rattle.run_command.specs.Naming.{shown_as}
 abbrev pub journal_entries : ℕ
 journal_entries = 16777216
 
-abbrev pub params_of : Numbers → Params
-params_of numbers = record { frames = numbers.frames; swap_blocks = numbers.swap; limit = numbers.limit; journal = journal_entries }
+-- the sizes of a machine whose journal has at most so many
+abbrev pub params_up_to : ℕ → Numbers → Params
+params_up_to entries numbers = record { frames = numbers.frames; swap_blocks = numbers.swap; limit = numbers.limit; journal = entries }
 
--- a machine with no process yet
-abbrev pub machine_of : Numbers → List ImageNamed → Standing
-machine_of numbers images = record {
+-- a machine with no process yet, whose journal has at most so many
+abbrev pub machine_up_to : ℕ → Numbers → List ImageNamed → Standing
+machine_up_to entries numbers images = record {
   kernel = fresh_kernel (facts_named images) numbers.frames;
-  params = params_of numbers;
+  params = params_up_to entries numbers;
   images = images;
   before = [];
   room = None;
 }
+
+-- a machine with no process yet
+abbrev pub machine_of : Numbers → List ImageNamed → Standing
+machine_of numbers images = machine_up_to journal_entries numbers images
 
 -- what was opened is as a machine asks
 pub record SuitsMachine (opening : Opening) (holds : Option (List NamedFile)) : Type 0 where

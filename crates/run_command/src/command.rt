@@ -6,7 +6,7 @@ ghost use Rattle.machine_state.specs.Sourced.{AreNames};
 ghost use Rattle.machine_state.specs.Applying.{facts_named};
 ghost use Rattle.command_words.specs.Command.{word_list, AreAllowed, AreImageWords, IsFittingRun};
 ghost use Rattle.run_command.specs.Naming.{shown_as};
-ghost use Rattle.run_command.specs.Machines.{machine_of, SuitsMachine, IsOfOpening};
+ghost use Rattle.run_command.specs.Machines.{machine_up_to, machine_of, SuitsMachine, IsOfOpening};
 ghost use Rattle.run_command.specs.Paired.{image_together};
 ghost use Rattle.run_command.specs.Ends.{Runs, RunsOpened};
 
@@ -20,6 +20,33 @@ use run_opening::{OpenedImage, Opening, open_run};
 use std::alloc::Global;
 use vm_core::Core;
 use vm_facts::{NoMemory, Params};
+
+/// The core of a run, with no process yet, whose journal has at most so many entries.
+pub fn core_up_to(
+    alloc: Global,
+    numbers: Numbers,
+    entries: u32,
+    images: &[OpenedImage<'_>],
+) -> Result<Core, NoMemory>
+    requires some { 0 < numbers.frames }
+    requires most { numbers.frames ≤ 4096 }
+    requires few { length images.now ≤ 16 }
+    requires sound { AreSound (facts_named (map shown_as images.now)) }
+    requires names { AreNames (map shown_as images.now) }
+    ensures machine { IfOk result (λ core. core.machine ≡ machine_up_to entries numbers (map shown_as images.now)) }
+    ensures counted { IfOk result (λ core. core.counted ≡ 0) }
+{
+    let Ok(named) = name_images(alloc, images) else {
+        return Err(NoMemory);
+    };
+    let params = Params {
+        frames: numbers.frames,
+        swap_blocks: numbers.swap,
+        limit: numbers.limit,
+        journal: entries,
+    };
+    Core::new(alloc, params, named)
+}
 
 /// The core of a run, with no process yet.
 pub fn core_of(
@@ -35,16 +62,7 @@ pub fn core_of(
     ensures machine { IfOk result (λ core. core.machine ≡ machine_of numbers (map shown_as images.now)) }
     ensures counted { IfOk result (λ core. core.counted ≡ 0) }
 {
-    let Ok(named) = name_images(alloc, images) else {
-        return Err(NoMemory);
-    };
-    let params = Params {
-        frames: numbers.frames,
-        swap_blocks: numbers.swap,
-        limit: numbers.limit,
-        journal: JOURNAL_ENTRIES,
-    };
-    Core::new(alloc, params, named)
+    core_up_to(alloc, numbers, JOURNAL_ENTRIES, images)
 }
 
 // Runs what was opened, and writes the run.

@@ -8,7 +8,7 @@ mod naming;
 mod paired;
 mod writing;
 
-pub use command::{core_of, run_command};
+pub use command::{core_up_to, run_command};
 pub use loading::load_command;
 pub use paired::{JOURNAL_ENTRIES, run_paired};
 
