@@ -17,10 +17,11 @@ use Rattle.command_ending.proofs.Makings.{made_where, made_nothing}
 use Rattle.run_opening.specs.Schedules.{schedule_found, HasEvents, EndsSchedule}
 use Rattle.replay_command.specs.Reading.{FaultsBy, images_told}
 use Rattle.reference_commands.specs.declared.question.Question.{Question}
+use Rattle.reference_commands.specs.declared.question.Question.TheVariants as questions
 use Rattle.reference_commands.specs.Reading.{Read, read_told}
 use Rattle.reference_commands.specs.Asking.{Subject, AreInputsOf}
-use Rattle.reference_commands.specs.Ends.{EndsQuestion}
-use Rattle.reference_commands.specs.InMemory.{inputs_with, EndsAnswer}
+use Rattle.reference_commands.specs.Ends.{IsFilled, EndsQuestion}
+use Rattle.reference_commands.specs.InMemory.{inputs_with, HaltsAnswer, EndsAnswer}
 
 -- two counts of faults over two calls
 pub record Counts : Type 0 where
@@ -120,13 +121,20 @@ are_inputs : (subject : Subject) (lines : List Event) (images : List FlatFile) (
 are_inputs subject lines images read has =
     record { images = images; are = has.images_are; images_are = refl; first = refl; lines = has.has; frames = refl; blocks = refl; limit = refl }
 
+halts_filled : (question : Question) (subject : Subject) (lines : List Event) (images : List FlatFile) (read : Read)
+    → HasRead lines (Ok images) read → HaltsAnswer question (over subject images lines) → IsFilled question subject read
+halts_filled (questions.Optimum frames) subject lines images read has x =
+    record { inputs = over subject images lines; are = are_inputs subject lines images read has; journal = x.journal; left = x.left; halted = x.halted; full = x.full }
+halts_filled questions.Curve subject lines images read has x =
+    record { inputs = over subject images lines; are = are_inputs subject lines images read has; journal = x.journal; left = x.left; halted = x.halted; full = x.full }
+halts_filled (questions.Owners entries) subject lines images read has x = absurd x
+
 answer_ends : (question : Question) (subject : Subject) (f : Faults) (lines : List Event) (images : List FlatFile) (ending : Ending) (read : Read)
     → NoFaults f → EndsAnswer question (over subject images lines) ending → HasRead lines (Ok images) read → EndsQuestion question subject read f ending
 answer_ends question subject f lines images (Ok text) read none x has =
-    (none, record { inputs = over subject images lines; are = are_inputs subject lines images read has; journal = x.journal; left = x.left; finished = x.finished; answer = x.answer })
+    (none, record { inputs = over subject images lines; are = are_inputs subject lines images read has; answer = x })
 answer_ends question subject f lines images (Err faults.NoMemory) read none x has = tt
-answer_ends question subject f lines images (Err faults.JournalFull) read none x has =
-    (none, record { inputs = over subject images lines; are = are_inputs subject lines images read has; journal = x.journal; left = x.left; halted = x.halted; full = x.full })
+answer_ends question subject f lines images (Err faults.JournalFull) read none x has = (none, halts_filled question subject lines images read has x)
 answer_ends question subject f lines images (Err (faults.NoSpace pid)) read none x has =
     (none, record { inputs = over subject images lines; are = are_inputs subject lines images read has; refused = x })
 answer_ends question subject f lines images (Err _) read none x has = absurd x

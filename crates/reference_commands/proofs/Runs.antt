@@ -1,5 +1,5 @@
 -- A run in memory, and its references.
-use Rattle.std.proofs.Common.{◌≡◌, ℕ, ◌*◌, ◌≤◌, List, [], ◌∷◌, length, map, Option, Some, None, Result, Ok, Bor, refl, sym, ap, ◌∙◌, subst, arith}
+use Rattle.std.proofs.Common.{OnOk, ◌≡◌, ℕ, ◌*◌, ◌≤◌, List, [], ◌∷◌, length, map, Option, Some, None, Result, Ok, Err, Bor, refl, sym, ap, ◌∙◌, subst, arith}
 use Rattle.std.specs.Prelude.{All}
 use Rattle.std.proofs.lemmas.List.{length-map, length-replicate}
 use Rattle.std.proofs.lemmas.List.Elements.{All-nil, All-cons, All-head, All-tail, All-weaker}
@@ -27,9 +27,9 @@ use Rattle.run_opening.specs.declared.images.OpenedImage.{OpenedImage}
 use Rattle.run_opening.specs.Images.{images_found, images_in, IsIn}
 use Rattle.run_command.specs.Asking.{AreOctetFiles}
 use Rattle.run_command.specs.Naming.{shown_as}
-use Rattle.run_command.specs.Machines.{machine_of}
+use Rattle.run_command.specs.Machines.{machine_up_to}
 use Rattle.run_command.proofs.Openings.{are_files, named_images, loaded_images, filed_at, are_numbers, images_length, all_images}
-use Rattle.reference_commands.specs.Ends.{blank_swap}
+use Rattle.reference_commands.specs.Answering.{blank_swap}
 use Rattle.reference_commands.specs.InMemory.{file_of, inputs_with, AreOpened, IsRunnable, HasReferences, AllDiffer}
 use Rattle.reference_commands.proofs.Counts.{references_few}
 use Rattle.reference_commands.proofs.Names.{all_found}
@@ -93,7 +93,7 @@ are_opened images opened names holds told found are_in sound ranges are named di
 
 -- The inputs of their run.
 
-module _ (numbers : Numbers) (images : List FlatFile) (opened : List OpenedImage) (first : List ℕ) (lines : List Event)
+module _ (entries : ℕ) (numbers : Numbers) (images : List FlatFile) (opened : List OpenedImage) (first : List ℕ) (lines : List Event)
     (o : AreOpened images opened) (r : IsRunnable numbers (length images) first lines) (octets : AreOctetFiles (map file_of images)) where
   abbrev files : List NamedFile
   files = map file_of images
@@ -111,7 +111,7 @@ module _ (numbers : Numbers) (images : List FlatFile) (opened : List OpenedImage
     frames = let least = r.allowed.least_frames in omega arith;
   }
 
-  asked_in : (image : List ℕ) → 512 * numbers.swap ≤ length image → IsAskedOf (over (images_in files opened)) (machine_of numbers (map shown_as opened)) first lines (Some files) image
+  asked_in : (image : List ℕ) → 512 * numbers.swap ≤ length image → IsAskedOf (over (images_in files opened)) (machine_up_to entries numbers (map shown_as opened)) first lines (Some files) image
   asked_in image room = record {
     named = named_images files opened;
     first = refl;
@@ -127,12 +127,16 @@ module _ (numbers : Numbers) (images : List FlatFile) (opened : List OpenedImage
   }
 
   pub asked : (holds : Option (List NamedFile)) → holds ≡ Some (map file_of images)
-      → IsAskedOf (inputs_with numbers images first lines) (machine_of numbers (map shown_as opened)) first lines holds (blank_swap numbers.swap)
+      → IsAskedOf (inputs_with numbers images first lines) (machine_up_to entries numbers (map shown_as opened)) first lines holds (blank_swap numbers.swap)
   asked holds held =
-      subst (λ (h : Option (List NamedFile)). IsAskedOf (over (images_of images)) (machine_of numbers (map shown_as opened)) first lines h (blank_swap numbers.swap)) (sym held)
-      (subst (λ (xs : List NamedImage). IsAskedOf (over xs) (machine_of numbers (map shown_as opened)) first lines (Some files) (blank_swap numbers.swap)) o.are
+      subst (λ (h : Option (List NamedFile)). IsAskedOf (over (images_of images)) (machine_up_to entries numbers (map shown_as opened)) first lines h (blank_swap numbers.swap)) (sym held)
+      (subst (λ (xs : List NamedImage). IsAskedOf (over xs) (machine_up_to entries numbers (map shown_as opened)) first lines (Some files) (blank_swap numbers.swap)) o.are
       (asked_in (blank_swap numbers.swap) (let e = length-replicate {A = ℕ} (512 * numbers.swap) 0 in omega arith)))
 
   pub opened_files : (holds : Option (List NamedFile)) → holds ≡ Some (map file_of images) → AreFiles (map shown_as opened) holds
   opened_files holds held =
       subst (λ (h : Option (List NamedFile)). AreFiles (map shown_as opened) h) (sym held) (are_files (Some files) opened o.ranges)
+
+pub on_ok_so : {T E : Type 0} (r : Result T E) (P Q : Type 0) → (P → Q) → OnOk r P → OnOk r Q
+on_ok_so (Ok x) P Q f h = f h
+on_ok_so (Err e) P Q f h = tt

@@ -1,15 +1,12 @@
 -- What is asked, and of which run.
 use Rattle.std.specs.Prelude.{◌≡◌, ◌≤◌, ℕ, List, Ok}
-use Rattle.vm_facts.specs.declared.page.Page.{Page}
 use Rattle.flat_state.specs.Flat.{Inputs}
 use Rattle.run_files.specs.ImageWords.{image_names, first_images}
 use Rattle.replay_check.specs.Images.{FlatFile, images_of}
 use Rattle.command_words.specs.declared.command.Numbers.{Numbers}
 use Rattle.run_opening.specs.Schedules.{HasEvents}
-use Rattle.reference_answers.specs.Texts.{curve_text}
-use Rattle.reference_answers.specs.Answers.{IsOptimumText}
 use Rattle.reference_commands.specs.declared.question.Question.{Question}
-use Rattle.reference_commands.specs.declared.question.Question.TheVariants.{Optimum, Curve}
+use Rattle.reference_commands.specs.declared.question.Question.TheVariants.{Optimum, Curve, Owners}
 use Rattle.reference_commands.specs.Reading.{Read}
 
 -- the run that is asked about: its numbers, the name of its schedule, and the words of its images
@@ -29,13 +26,14 @@ pub record AreInputsOf (A : Inputs) (subject : Subject) (read : Read) : Type 0 w
   pub blocks : A.swap_blocks ≡ subject.numbers.swap
   pub limit : A.limit ≡ subject.numbers.limit
 
--- The answer about references: the fewest faults that any replacement in so many frames has, with the victims by which it has them; or
--- the faults of least-recently-used replacement in each number of frames.
-abbrev pub IsAnswer : Question → List Page → List ℕ → Type 0
-IsAnswer (Optimum frames) refs text = IsOptimumText refs frames text
-IsAnswer Curve refs text = text ≡ curve_text refs
-
 -- the frames that are asked about are in their range
 abbrev pub IsQuestion : Question → Type 0
 IsQuestion (Optimum frames) = (1 ≤ frames) × (frames ≤ 4096)
 IsQuestion Curve = Unit {0}
+IsQuestion (Owners entries) = Unit {0}
+
+-- the most instructions of a run that may be asked about
+abbrev pub limit_of : Question → ℕ
+limit_of (Optimum frames) = 100000
+limit_of Curve = 100000
+limit_of (Owners entries) = 1000000

@@ -1,35 +1,28 @@
 -- How a question about a run ends, by what is read.
-use Rattle.std.specs.Prelude.{◌≡◌, ◌⊎◌, ◌*◌, ◌≤◌, ℕ, List, length, replicate, Option, Ok, Err}
+use Rattle.std.specs.Prelude.{◌≡◌, ◌⊎◌, ◌≤◌, ℕ, List, length, Option, Ok, Err}
 use Rattle.vm_facts.specs.declared.entry.Entry.{Entry}
 use Rattle.vm_facts.specs.declared.stop.Stop.TheVariants as stops
 use Rattle.io_edge.specs.FileHolding.{NamedFile}
 use Rattle.flat_state.specs.Flat.{Inputs}
 use Rattle.flat_model.specs.Asked.{start_held}
-use Rattle.vm_core.specs.Lawful.{RunFinished, RunHalted}
+use Rattle.vm_core.specs.Lawful.{RunHalted}
 use Rattle.run_files.specs.declared.answers.Unread.TheVariants as unreads
-use Rattle.replay_check.specs.Verdicts.{references_of}
 use Rattle.command_ending.specs.declared.fault.Fault.TheVariants.{Absent, NotImage, BadSchedule, FileFault, NoMemory, JournalFull, NoSpace}
 use Rattle.command_ending.specs.Ending.{Ending}
 use Rattle.command_ending.specs.Command.{Faults, NoFaults, FailedBehind, Completes}
 use Rattle.run_opening.specs.Schedules.{HasBadEvent}
 use Rattle.run_command.specs.Machines.{journal_entries}
 use Rattle.reference_commands.specs.declared.question.Question.{Question}
+use Rattle.reference_commands.specs.declared.question.Question.TheVariants.{Optimum, Curve, Owners}
 use Rattle.reference_commands.specs.Reading.{Read, read_told, HasSchedule, LacksImage}
-use Rattle.reference_commands.specs.Asking.{Subject, AreInputsOf, IsAnswer}
+use Rattle.reference_commands.specs.Asking.{Subject, AreInputsOf}
+use Rattle.reference_commands.specs.Answering.{blank_swap, IsAnswer}
 
--- a swap of so many blocks to which nothing was written
-abbrev pub blank_swap : ℕ → List ℕ
-blank_swap blocks = replicate (512 * blocks) 0
-
--- The text is the answer about the references of the run, which is finished: its journal is lawful, there is no next unit, and it was made over
--- a swap of its own that was blank.
+-- the text is the answer about the run
 pub record IsAnswered (question : Question) (subject : Subject) (read : Read) (text : List ℕ) : Type 0 where
   pub inputs : Inputs
   pub are : AreInputsOf inputs subject read
-  pub journal : List Entry
-  pub left : Option (List ℕ)
-  pub finished : RunFinished inputs journal (blank_swap inputs.swap_blocks) left
-  pub answer : IsAnswer question (references_of inputs journal) text
+  pub answer : IsAnswer question inputs text
 
 -- the run has a next unit, but its journal has all entries that it may have
 pub record HasFilled (subject : Subject) (read : Read) : Type 0 where
@@ -39,6 +32,12 @@ pub record HasFilled (subject : Subject) (read : Read) : Type 0 where
   pub left : Option (List ℕ)
   pub halted : RunHalted inputs journal stops.JournalFull (blank_swap inputs.swap_blocks) left
   pub full : journal_entries ≤ length journal
+
+-- so a run ends that is to be finished for the question; one that is asked about so many entries isn't
+abbrev pub IsFilled : Question → Subject → Read → Type 0
+IsFilled (Optimum frames) subject read = HasFilled subject read
+IsFilled Curve subject read = HasFilled subject read
+IsFilled (Owners entries) subject read = ⊥
 
 -- this is the first of the first processes whose pieces of swap find no place
 pub record LacksSpace (subject : Subject) (read : Read) (pid : ℕ) : Type 0 where
@@ -55,7 +54,7 @@ EndsQuestion question subject read f (Err (NotImage name reason)) = LacksImage r
 EndsQuestion question subject read f (Err (BadSchedule line)) = HasBadEvent read.schedule line
 EndsQuestion question subject read f (Err FileFault) = FailedBehind (HasSchedule read) f
 EndsQuestion question subject read f (Err NoMemory) = Unit {0}
-EndsQuestion question subject read f (Err JournalFull) = NoFaults f × HasFilled subject read
+EndsQuestion question subject read f (Err JournalFull) = NoFaults f × IsFilled question subject read
 EndsQuestion question subject read f (Err (NoSpace pid)) = NoFaults f × LacksSpace subject read pid
 EndsQuestion question subject read f (Err _) = ⊥
 

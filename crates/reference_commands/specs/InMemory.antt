@@ -1,5 +1,5 @@
 -- A run over images that are held in memory, and over a swap of its own.
-use Rattle.std.specs.Prelude.{◌≡◌, ◌≤◌, ℕ, false, bytes_eq, List, [], ◌∷◌, map, length, All, Option, Some, Result, Ok, Err}
+use Rattle.std.specs.Prelude.{◌≡◌, ◌≤◌, ℕ, false, bytes_eq, List, [], ◌∷◌, map, length, All, Option, Some, Result, Ok, Err, OnOk}
 use Rattle.aout_image.specs.Image.{IsSound, file_length_of}
 use Rattle.vm_facts.specs.declared.entry.Entry.{Entry}
 use Rattle.vm_facts.specs.declared.event.Event.{Event}
@@ -8,7 +8,12 @@ use Rattle.vm_facts.specs.declared.stop.Stop.TheVariants as stops
 use Rattle.io_edge.specs.FileHolding.{NamedFile, HasRange}
 use Rattle.flat_state.specs.Flat.{Inputs}
 use Rattle.flat_model.specs.Asked.{start_held}
+use Rattle.machine_state.specs.Machine.{Standing}
+use Rattle.vm_core.specs.declared.schedule.Unfinished.{Unfinished}
+use Rattle.vm_core.specs.declared.schedule.Unfinished.TheVariants.{Stopped}
 use Rattle.vm_core.specs.Lawful.{RunFinished, RunHalted}
+use Rattle.vm_core.specs.Full.{RunFull, RunOver}
+use Rattle.vm_core.specs.RunEnds.{RunEnds}
 use Rattle.run_files.specs.ImageWords.{IsShortName}
 use Rattle.run_text.specs.Schedule.{IsInRanges}
 use Rattle.replay_check.specs.Images.{FlatFile, AreNumbers, images_of}
@@ -22,8 +27,8 @@ use Rattle.run_opening.specs.Images.{images_in, IsIn}
 use Rattle.run_command.specs.Machines.{journal_entries}
 use Rattle.command_ending.specs.Ending.{Ending}
 use Rattle.reference_commands.specs.declared.question.Question.{Question}
-use Rattle.reference_commands.specs.Asking.{IsAnswer}
-use Rattle.reference_commands.specs.Ends.{blank_swap}
+use Rattle.reference_commands.specs.declared.question.Question.TheVariants.{Optimum, Curve, Owners}
+use Rattle.reference_commands.specs.Answering.{blank_swap, IsAnswer}
 
 -- the files of images
 abbrev pub file_of : FlatFile → NamedFile
@@ -50,14 +55,26 @@ pub record AreOpened (images : List FlatFile) (opened : List OpenedImage) : Type
   pub count : length opened ≡ length images
   pub few : length opened ≤ 16
 
--- What a run in memory needs: numbers in their ranges, and at most 100,000 instructions; first processes with images; and lines in their ranges.
+-- What a run in memory needs: numbers in their ranges; first processes with images; and lines in their ranges.
 pub record IsRunnable (numbers : Numbers) (images : ℕ) (first : List ℕ) (lines : List Event) : Type 0 where
   pub allowed : AreAllowed numbers
-  pub limit : numbers.limit ≤ 100000
   pub numbers_are : AreNumbers images first
   pub few_first : length first ≤ 16
   pub ranges : All IsInRanges lines
   pub few_lines : length lines ≤ 65536
+
+-- The run ended so, with a machine; where it is over, or halted since its journal is full, that stands where the journal leads to.
+pub record HasRun (A : Inputs) (m : Standing) (ran : Result (Unit {0}) Unfinished) : Type 0 where
+  pub left : Option (List ℕ)
+  pub ends : RunEnds A m.kernel.journal (blank_swap A.swap_blocks) ran left
+  pub full : ran ≡ Err (Stopped stops.JournalFull) → RunFull A m
+  pub over : OnOk ran (RunOver A m)
+
+-- there the machine runs on
+abbrev pub RunsOn : Standing → Result (Unit {0}) Unfinished → Type 0
+RunsOn m (Ok done) = m.kernel.stopped ≡ false
+RunsOn m (Err (Stopped stops.JournalFull)) = m.kernel.stopped ≡ false
+RunsOn m (Err _) = Unit {0}
 
 -- the run is finished, and these are its references, which are few enough to be asked about
 pub record HasReferences (A : Inputs) (pages : List Page) : Type 0 where
@@ -82,17 +99,17 @@ EndsRun A (Err JournalFull) = HasHalted A
 EndsRun A (Err (NoSpace pid)) = start_held A ≡ Err pid
 EndsRun A (Err _) = ⊥
 
--- how answering the question about it ends
-pub record HasAnswer (question : Question) (A : Inputs) (text : List ℕ) : Type 0 where
-  pub journal : List Entry
-  pub left : Option (List ℕ)
-  pub finished : RunFinished A journal (blank_swap A.swap_blocks) left
-  pub answer : IsAnswer question (references_of A journal) text
+-- so a run halts that is to be finished for the question
+abbrev pub HaltsAnswer : Question → Inputs → Type 0
+HaltsAnswer (Optimum frames) A = HasHalted A
+HaltsAnswer Curve A = HasHalted A
+HaltsAnswer (Owners entries) A = ⊥
 
+-- how answering the question about it ends
 abbrev pub EndsAnswer : Question → Inputs → Ending → Type 0
-EndsAnswer question A (Ok text) = HasAnswer question A text
+EndsAnswer question A (Ok text) = IsAnswer question A text
 EndsAnswer question A (Err NoMemory) = Unit {0}
-EndsAnswer question A (Err JournalFull) = HasHalted A
+EndsAnswer question A (Err JournalFull) = HaltsAnswer question A
 EndsAnswer question A (Err (NoSpace pid)) = start_held A ≡ Err pid
 EndsAnswer question A (Err _) = ⊥
 

@@ -6,12 +6,13 @@ ghost use Rattle.command_words.specs.Command.{AreImageWords, IsFittingRun};
 ghost use Rattle.command_ending.specs.Ending.{ending_of};
 ghost use Rattle.command_ending.specs.Command.{Made};
 ghost use Rattle.reference_commands.specs.Reading.{read_told};
-ghost use Rattle.reference_commands.specs.Asking.{IsQuestion};
+ghost use Rattle.reference_commands.specs.Asking.{IsQuestion, limit_of};
 ghost use Rattle.reference_commands.specs.Ends.{EndsQuestion, Answers};
+ghost use Rattle.reference_commands.specs.declared.question.Question.TheVariants as questions;
 ghost use Rattle.reference_commands.specs.InMemory.{inputs_with, IsRunnable, EndsAnswer, AllDiffer};
 
 use crate::question::Question;
-use crate::running::run_references;
+use crate::running::{run_owners, run_references};
 use command_ending::{Fault, write_ending};
 use command_words::Numbers;
 use io_edge::{Files, Sink};
@@ -22,7 +23,60 @@ use run_opening::open_schedule;
 use std::alloc::Global;
 use vm_facts::Event;
 
-// The answer about the references of the run over these images.
+// The fewest faults of any replacement in so many frames on the references of the run over these images.
+fn optimum_over<'a>(
+    alloc: Global,
+    frames: u32,
+    numbers: Numbers,
+    images: &[Flat],
+    names: &[&str],
+    first: &[u32],
+    lines: &[Event],
+) -> Result<Vec<u8>, Fault<'a>>
+    requires least { 1 ≤ frames }
+    requires most { frames ≤ 4096 }
+    requires images { AreImageFiles images.now }
+    requires few { length names.now ≤ 16 }
+    requires named { map (λ image. image.name) images.now ≡ map (λ name. name.now) names.now }
+    requires short { All (λ name. IsShortName name.now) names.now }
+    requires differ { AllDiffer (map (λ name. name.now) names.now) }
+    requires runnable { IsRunnable numbers (length images.now) first.now lines.now }
+    requires limit { numbers.limit ≤ 100000 }
+    ensures { EndsAnswer (questions.Optimum frames) (inputs_with numbers images.now first.now lines.now) (ending_of result) }
+{
+    let pages = run_references(alloc, numbers, images, names, first, lines)?;
+    match optimum_text(alloc, pages.as_slice(), frames) {
+        Ok(text) => Ok(text),
+        Err(_) => Err(Fault::NoMemory),
+    }
+}
+
+// The faults of least-recently-used replacement on the references of the run over these images.
+fn curve_over<'a>(
+    alloc: Global,
+    numbers: Numbers,
+    images: &[Flat],
+    names: &[&str],
+    first: &[u32],
+    lines: &[Event],
+) -> Result<Vec<u8>, Fault<'a>>
+    requires images { AreImageFiles images.now }
+    requires few { length names.now ≤ 16 }
+    requires named { map (λ image. image.name) images.now ≡ map (λ name. name.now) names.now }
+    requires short { All (λ name. IsShortName name.now) names.now }
+    requires differ { AllDiffer (map (λ name. name.now) names.now) }
+    requires runnable { IsRunnable numbers (length images.now) first.now lines.now }
+    requires limit { numbers.limit ≤ 100000 }
+    ensures { EndsAnswer questions.Curve (inputs_with numbers images.now first.now lines.now) (ending_of result) }
+{
+    let pages = run_references(alloc, numbers, images, names, first, lines)?;
+    match curve_text(alloc, pages.as_slice()) {
+        Ok(text) => Ok(text),
+        Err(_) => Err(Fault::NoMemory),
+    }
+}
+
+// The answer about the run over these images.
 fn answer_over<'a>(
     alloc: Global,
     question: Question,
@@ -39,16 +93,17 @@ fn answer_over<'a>(
     requires short { All (λ name. IsShortName name.now) names.now }
     requires differ { AllDiffer (map (λ name. name.now) names.now) }
     requires runnable { IsRunnable numbers (length images.now) first.now lines.now }
+    requires limit { numbers.limit ≤ limit_of question }
     ensures { EndsAnswer question (inputs_with numbers images.now first.now lines.now) (ending_of result) }
 {
-    let pages = run_references(alloc, numbers, images, names, first, lines)?;
-    let made = match question {
-        Question::Optimum(frames) => optimum_text(alloc, pages.as_slice(), frames),
-        Question::Curve => curve_text(alloc, pages.as_slice()),
-    };
-    match made {
-        Ok(text) => Ok(text),
-        Err(_) => Err(Fault::NoMemory),
+    match question {
+        Question::Optimum(frames) => {
+            optimum_over(alloc, frames, numbers, images, names, first, lines)
+        }
+        Question::Curve => curve_over(alloc, numbers, images, names, first, lines),
+        Question::Owners(entries) => {
+            run_owners(alloc, entries, numbers, images, names, first, lines)
+        }
     }
 }
 
@@ -62,7 +117,7 @@ fn answer_from<'a, F: Files>(
     words: &[&'a str],
 ) -> Result<Vec<u8>, Fault<'a>>
     requires question { IsQuestion question }
-    requires fits { IsFittingRun 100000 numbers schedule words.now }
+    requires fits { IsFittingRun (limit_of question) numbers schedule words.now }
     ensures { Made (EndsQuestion question (record { numbers = numbers; schedule = schedule.now; words = map (λ word. word.now) words.now }))
         (read_told schedule.now (map (λ word. word.now) words.now)) (F.holds files.old)
         (record { open_before = F.open_faults files.old; open_after = F.open_faults files.new; page_before = F.page_faults files.old; page_after = F.page_faults files.new }) (ending_of result) }
@@ -82,11 +137,12 @@ fn answer_from<'a, F: Files>(
 }
 
 /// Reads the schedule and the images that words name, runs them over files in memory and a blank swap of its own, writes the answer to a
-/// question about the references of the run, and answers the exit status: 0 where the run is finished and the answer was written; 2 an
-/// absent file; 3 no image; 4 a bad schedule; 5 a file fault, before the run; 8 a fault of the output; 9 want of memory; 10 a journal with
-/// no room for a further entry, of 16,777,216; 11 no swap for a first process. At any other status than 0 and 8 the line of the fault is
-/// written instead. The first thing met decides, in the order schedule, images, run; but an output that fails gives 8 whatever came before
-/// (this project's profile).
+/// question about the run, and answers the exit status: 0 where the answer was written; 2 an absent file; 3 no image; 4 a bad schedule; 5 a
+/// file fault, before the run; 8 a fault of the output; 9 want of memory; 10 a journal with no room for a further entry, of 16,777,216,
+/// where the run is to be finished; 11 no swap for a first process. At any other status than 0 and 8 the line of the fault is written
+/// instead. The first thing met decides, in the order schedule, images, run; but an output that fails gives 8 whatever came before. The
+/// run is to be finished for a question about its references, but for one about so many entries it goes up to these (this project's
+/// profile).
 pub fn ask_command<F: Files, S: Sink>(
     alloc: Global,
     files: &mut F,
@@ -97,7 +153,7 @@ pub fn ask_command<F: Files, S: Sink>(
     words: &[&str],
 ) -> u8
     requires question { IsQuestion question }
-    requires fits { IsFittingRun 100000 numbers schedule words.now }
+    requires fits { IsFittingRun (limit_of question) numbers schedule words.now }
     ensures { Answers question (record { numbers = numbers; schedule = schedule.now; words = map (λ word. word.now) words.now }) (F.holds files.old)
         (record { open_before = F.open_faults files.old; open_after = F.open_faults files.new; page_before = F.page_faults files.old; page_after = F.page_faults files.new })
         (S.written sink.old) (S.written sink.new) (S.faults sink.old) (S.faults sink.new) result }

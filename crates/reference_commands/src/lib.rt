@@ -1,9 +1,10 @@
-//! The commands `opt` and `curve`: a schedule and images that words name are run in memory, and a question about the
-//! references of the run is answered.
+//! The commands `opt`, `curve` and `owners`: a schedule and images that words name are run in memory, and a question
+//! about the run is answered.
 #![tactic(auto)]
 
 mod command;
 mod copying;
+mod growing;
 mod octets;
 mod question;
 mod running;

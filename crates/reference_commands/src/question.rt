@@ -1,8 +1,10 @@
-/// What is asked about the references of a run (this project's profile).
+/// What is asked about a run (this project's profile).
 #[derive(Clone, Copy, Debug, PartialEq, Eq, Drop)]
 pub enum Question {
-    /// The fewest faults that any replacement in so many frames has, 1 to 4,096.
+    /// The fewest faults on its references that any replacement in so many frames has, 1 to 4,096.
     Optimum(u32),
-    /// The faults of least-recently-used replacement in each number of frames.
+    /// The faults on its references of least-recently-used replacement in each number of frames.
     Curve,
+    /// Who owns what behind so many entries of the journal, or where the run is over before.
+    Owners(u32),
 }

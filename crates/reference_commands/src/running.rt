@@ -1,24 +1,31 @@
-// A run in memory, and its references.
-ghost use Rattle.std.specs.Prelude.{◌≡◌, ◌≤◌, ℕ, List, Option, Some, map, length, All};
+// A run in memory, its references, and who owns what where it ends.
+ghost use Rattle.std.specs.Prelude.{◌≡◌, ◌≤◌, ℕ, false, List, Option, Some, map, length, All, IsTrue, IfOk};
 ghost use Rattle.flat_state.specs.Flat.{Inputs};
 ghost use Rattle.run_files.specs.ImageWords.{IsShortName};
 ghost use Rattle.replay_check.specs.Images.{AreImageFiles, AreNumbers, images_of};
+ghost use Rattle.vm_core.specs.Full.{RunFull, RunOver};
 ghost use Rattle.vm_core.specs.RunEnds.{RunEnds};
 ghost use Rattle.replay_command.specs.Reading.{items_of};
+ghost use Rattle.command_ending.specs.Ending.{ending_of};
 ghost use Rattle.run_command.specs.Asking.{AreOctetFiles};
-ghost use Rattle.reference_commands.specs.Ends.{blank_swap};
-ghost use Rattle.reference_commands.specs.InMemory.{file_of, inputs_with, AreOpened, IsRunnable, EndsRun, AllDiffer};
+ghost use Rattle.owner_lines.specs.Owners.{owners_of};
+ghost use Rattle.reference_commands.specs.Answering.{blank_swap};
+ghost use Rattle.reference_commands.specs.InMemory.{file_of, inputs_with, AreOpened, IsRunnable, HasRun, RunsOn, EndsRun, EndsAnswer, AllDiffer};
+ghost use Rattle.reference_commands.specs.declared.question.Question.TheVariants as questions;
 
 use crate::copying::files_of;
+use crate::growing::GrowingText;
 use command_ending::Fault;
 use command_words::Numbers;
-use io_edge::{Files, SureFiles, SureSwap};
+use io_edge::{Files, Moved, SureFiles, SureSwap};
+use machine_state::Machine;
+use owner_lines::write_owners;
 use replay_check::{Flat, references};
-use run_command::{JOURNAL_ENTRIES, core_of};
+use run_command::{JOURNAL_ENTRIES, core_up_to};
 use run_opening::{OpenedImage, open_images};
 use std::alloc::Global;
-use vm_core::{Unfinished, run_schedule};
-use vm_facts::{Entry, Event, Page, Stop};
+use vm_core::{Core, Unfinished, run_schedule};
+use vm_facts::{Entry, Event, NoMemory, Page, Stop};
 
 // The references of a run that ended so. Nothing in memory fails, so a run that stops has a full journal, or found no memory.
 fn references_at_end<'a>(
@@ -45,33 +52,145 @@ fn references_at_end<'a>(
     }
 }
 
-// Runs images that were opened from these files in memory.
-fn run_opened<'a>(
+// The lines of a machine that runs.
+fn lines_of(alloc: Global, machine: &Machine, over: bool) -> Result<Vec<u8>, NoMemory>
+    requires running { machine.now.kernel.stopped ≡ false }
+    ensures { IfOk result (λ text. text.items ≡ owners_of machine.now over) }
+{
+    let mut text = GrowingText::new(alloc);
+    match write_owners(&mut text, machine, over) {
+        Moved::Done => Ok(text.into_bytes()),
+        Moved::Failed => Err(NoMemory),
+    }
+}
+
+// Whether a machine has a journal of up to so many entries, and a swap area of so many blocks. It has those with which it was made, but
+// no clause of its run says so.
+fn has_sizes(machine: &Machine, entries: u32, blocks: u32) -> bool
+    ensures journal { IsTrue result → machine.now.params.journal ≡ entries }
+    ensures blocks { IsTrue result → machine.now.params.swap_blocks ≡ blocks }
+{
+    let params = machine.params();
+    params.journal == entries && params.swap_blocks == blocks
+}
+
+// The lines of a machine with these sizes, whose run is over.
+fn lines_over<'a>(alloc: Global, machine: &Machine) -> Result<Vec<u8>, Fault<'a>>
+    requires running { machine.now.kernel.stopped ≡ false }
+    ensures { (A : Inputs) (entries : ℕ) → machine.now.params.journal ≡ entries → machine.now.params.swap_blocks ≡ A.swap_blocks
+        → RunOver A machine.now → EndsAnswer (questions.Owners entries) A (ending_of result) }
+{
+    machine.sound();
+    match lines_of(alloc, machine, true) {
+        Ok(text) => Ok(text),
+        Err(_) => Err(Fault::NoMemory),
+    }
+}
+
+// The lines of a machine with these sizes, whose journal is full: at its bound, though no clause of its run says so.
+fn lines_full<'a>(alloc: Global, machine: &Machine) -> Result<Vec<u8>, Fault<'a>>
+    requires running { machine.now.kernel.stopped ≡ false }
+    ensures { (A : Inputs) (entries : ℕ) → machine.now.params.journal ≡ entries → machine.now.params.swap_blocks ≡ A.swap_blocks
+        → RunFull A machine.now → EndsAnswer (questions.Owners entries) A (ending_of result) }
+{
+    machine.sound();
+    if machine.journal().len() < machine.params().journal as usize {
+        return Err(Fault::NoMemory);
+    }
+    match lines_of(alloc, machine, false) {
+        Ok(text) => Ok(text),
+        Err(_) => Err(Fault::NoMemory),
+    }
+}
+
+// Who owns what in a machine whose run ended so. Nothing in memory fails, so a run that stops has a full journal, or found no memory.
+fn owners_at_end<'a>(
+    alloc: Global,
+    machine: &Machine,
+    entries: u32,
+    blocks: u32,
+    ran: Result<(), Unfinished>,
+) -> Result<Vec<u8>, Fault<'a>>
+    requires running { RunsOn machine.now ran }
+    ensures ends { (A : Inputs) → A.swap_blocks ≡ blocks → HasRun A machine.now ran → EndsAnswer (questions.Owners entries) A (ending_of result) }
+{
+    if !has_sizes(machine, entries, blocks) {
+        return Err(Fault::NoMemory);
+    }
+    match ran {
+        Ok(()) => lines_over(alloc, machine),
+        Err(Unfinished::NoSpace(pid)) => Err(Fault::NoSpace(pid)),
+        Err(Unfinished::Stopped(Stop::JournalFull)) => lines_full(alloc, machine),
+        Err(Unfinished::Stopped(_)) => Err(Fault::NoMemory),
+    }
+}
+
+// A core that ran, and how its run ended. The core must be ended.
+struct Ran {
+    core: Core,
+    end: Result<(), Unfinished>,
+}
+
+// Runs images that were opened from these files in memory, over a blank swap, with a journal of at most so many entries.
+fn run_opened(
     alloc: Global,
     files: &mut SureFiles,
     numbers: Numbers,
+    entries: u32,
     images: &[Flat],
     opened: &[OpenedImage<'_>],
     first: &[u32],
     lines: &[Event],
-) -> Result<Vec<Page>, Fault<'a>>
+) -> Result<Ran, NoMemory>
     requires held { ⟦<SureFiles as Files>⟧.holds files.old ≡ Some (map file_of images.now) }
     requires octets { AreOctetFiles (map file_of images.now) }
     requires images { AreImageFiles images.now }
     requires opened { AreOpened images.now opened.now }
     requires runnable { IsRunnable numbers (length images.now) first.now lines.now }
-    ensures { EndsRun (inputs_with numbers images.now first.now lines.now) (items_of result) }
+    ensures { IfOk result (λ ran. HasRun (inputs_with numbers images.now first.now lines.now) ran.core.machine ran.end) }
 {
-    let Ok(mut swap) = SureSwap::new(alloc, numbers.swap) else {
-        return Err(Fault::NoMemory);
+    let mut swap = SureSwap::new(alloc, numbers.swap)?;
+    let mut core = core_up_to(alloc, numbers, entries, opened)?;
+    let end = run_schedule(&mut core, files, &mut swap, first, lines);
+    Ok(Ran { core, end })
+}
+
+// Runs a schedule over images of these names, begun with first processes in images of these numbers, over files in memory and a blank
+// swap, with a journal of at most so many entries.
+fn run_images(
+    alloc: Global,
+    numbers: Numbers,
+    entries: u32,
+    images: &[Flat],
+    names: &[&str],
+    first: &[u32],
+    lines: &[Event],
+) -> Result<Ran, NoMemory>
+    requires images { AreImageFiles images.now }
+    requires few { length names.now ≤ 16 }
+    requires named { map (λ image. image.name) images.now ≡ map (λ name. name.now) names.now }
+    requires short { All (λ name. IsShortName name.now) names.now }
+    requires differ { AllDiffer (map (λ name. name.now) names.now) }
+    requires runnable { IsRunnable numbers (length images.now) first.now lines.now }
+    ensures { IfOk result (λ ran. HasRun (inputs_with numbers images.now first.now lines.now) ran.core.machine ran.end) }
+{
+    let Ok(held) = files_of(alloc, images) else {
+        return Err(NoMemory);
     };
-    let Ok(mut core) = core_of(alloc, numbers, opened) else {
-        return Err(Fault::NoMemory);
+    let mut files = SureFiles::new(held);
+    let Ok(opened) = open_images(alloc, &mut files, names) else {
+        return Err(NoMemory);
     };
-    let ran = run_schedule(&mut core, files, &mut swap, first, lines);
-    let pages = references_at_end(alloc, images, first, core.journal(), ran);
-    core.end();
-    pages
+    run_opened(
+        alloc,
+        &mut files,
+        numbers,
+        entries,
+        images,
+        opened.as_slice(),
+        first,
+        lines,
+    )
 }
 
 /// Runs a schedule over images of these names, begun with first processes in images of these numbers, over files in memory and a blank
@@ -90,19 +209,41 @@ pub fn run_references<'a>(
     requires short { All (λ name. IsShortName name.now) names.now }
     requires differ { AllDiffer (map (λ name. name.now) names.now) }
     requires runnable { IsRunnable numbers (length images.now) first.now lines.now }
+    requires limit { numbers.limit ≤ 100000 }
     ensures { EndsRun (inputs_with numbers images.now first.now lines.now) (items_of result) }
 {
-    let mut files = SureFiles::new(files_of(alloc, images)?);
-    let Ok(opened) = open_images(alloc, &mut files, names) else {
+    let Ok(ran) = run_images(alloc, numbers, JOURNAL_ENTRIES, images, names, first, lines) else {
         return Err(Fault::NoMemory);
     };
-    run_opened(
-        alloc,
-        &mut files,
-        numbers,
-        images,
-        opened.as_slice(),
-        first,
-        lines,
-    )
+    let Ran { core, end } = ran;
+    let pages = references_at_end(alloc, images, first, core.journal(), end);
+    core.end();
+    pages
+}
+
+/// Runs it in the same way up to so many entries of its journal, and answers who owns what then, or where the run is over before.
+pub fn run_owners<'a>(
+    alloc: Global,
+    entries: u32,
+    numbers: Numbers,
+    images: &[Flat],
+    names: &[&str],
+    first: &[u32],
+    lines: &[Event],
+) -> Result<Vec<u8>, Fault<'a>>
+    requires images { AreImageFiles images.now }
+    requires few { length names.now ≤ 16 }
+    requires named { map (λ image. image.name) images.now ≡ map (λ name. name.now) names.now }
+    requires short { All (λ name. IsShortName name.now) names.now }
+    requires differ { AllDiffer (map (λ name. name.now) names.now) }
+    requires runnable { IsRunnable numbers (length images.now) first.now lines.now }
+    ensures { EndsAnswer (questions.Owners entries) (inputs_with numbers images.now first.now lines.now) (ending_of result) }
+{
+    let Ok(ran) = run_images(alloc, numbers, entries, images, names, first, lines) else {
+        return Err(Fault::NoMemory);
+    };
+    let Ran { core, end } = ran;
+    let text = owners_at_end(alloc, core.machine(), entries, numbers.swap, end);
+    core.end();
+    text
 }

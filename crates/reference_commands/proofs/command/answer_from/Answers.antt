@@ -96,7 +96,6 @@ answer_over-requires-clause-runnable g c =
     (subst (λ (fs : List ℕ). IsRunnable c.args.numbers (length c.as_slice-2.result.now) fs c.in_ok-lines.lines.items) (sym c.as_slice-4.ensures.value)
     (record {
       allowed = c.requires.fits.allowed;
-      limit = c.requires.fits.limit;
       numbers_are = subst (λ (n : ℕ). AreNumbers n first) count c.in_ok-naming.ensures.range;
       few_first = let few = few_started first (image_names (now_of c.args.words.now)) c.args.words.now c.in_ok-naming.ensures.first in let most = c.requires.fits.images_are.few in omega arith;
       ranges = c.in_ok-lines.ensures.ranges;

@@ -1,15 +1,12 @@
-use Rattle.std.proofs.Common.{◌≡◌, List, Option, Some, map, sym, ap, ◌∙◌, subst}
-use Rattle.io_edge.specs.FileHolding.{NamedFile, named_file}
-use Rattle.run_opening.specs.declared.images.OpenedImage.{OpenedImage}
-use Rattle.reference_commands.specs.InMemory.{file_of, AreOpened}
-use Rattle.reference_commands.proofs.Runs.{are_opened}
+use Rattle.std.proofs.Common.{List, refl, sym, subst}
+use Rattle.vm_facts.specs.declared.entry.Entry.{Entry}
+use Rattle.vm_core.specs.RunEnds.{RunEnds}
+use Rattle.reference_commands.specs.Answering.{blank_swap}
+use Rattle.reference_commands.specs.InMemory.{inputs_with}
 use Rattle.reference_commands.proofs.running.run_references.Goals as goal
 
-pub run_opened-requires-clause-opened : goal.run_opened-requires-clause-opened
-run_opened-requires-clause-opened c =
-    let holds : Option (List NamedFile) = Some (map named_file c.new-files.result.files.items) in
-    let told : holds ≡ Some (map file_of c.args.images.now) = c.new-files.ensures ∙ ap (λ (files : List NamedFile). Some files) c.in_ok-files_of.ensures.files in
-    subst (λ (opened : List OpenedImage). AreOpened c.args.images.now opened) (sym c.as_slice.ensures.value)
-    (are_opened c.args.images.now c.in-Ok.opened.items c.args.names.now holds told
-    (c.in-Ok.ensures.answers (map file_of c.args.images.now) told) (c.in-Ok.ensures.are_in (map file_of c.args.images.now) told) c.in-Ok.ensures.sound c.in-Ok.ensures.ranges
-    c.in-Ok.ensures.names c.requires.named c.requires.differ c.requires.images.images c.requires.short c.requires.few)
+pub returns : goal.returns
+returns c =
+    let A = inputs_with c.args.numbers c.args.images.now c.args.first.now c.args.lines.now in
+    c.references_at_end-pages.ensures.ends A c.in-Ok.ensures.left refl refl c.requires.limit
+    (subst (λ (journal : List Entry). RunEnds A journal (blank_swap c.args.numbers.swap) c.in-Ok.ran.end c.in-Ok.ensures.left) (sym c.journal.ensures) c.in-Ok.ensures.ends)
