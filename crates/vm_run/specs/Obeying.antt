@@ -1,6 +1,6 @@
 -- What the words of a command line ask for is done.
 use Rattle.std.specs.Prelude.{ℕ, Option, Some, None, Err}
-use Rattle.command_words.specs.Asked.{Asked, Run, Load, Replay, Assemble, Show, Optimum, Curve}
+use Rattle.command_words.specs.Asked.{Asked, Run, Load, Replay, Assemble, Show, Optimum, Curve, Owners}
 use Rattle.command_ending.specs.declared.fault.Fault.TheVariants.{BadWords}
 use Rattle.command_ending.specs.Command.{WritesEnding}
 use Rattle.source_commands.specs.Command.{Assembles, Lists}
@@ -25,6 +25,9 @@ Obeys (Some (Optimum size numbers schedule images)) seen status =
     seen.files seen.faults seen.written_before seen.written_after seen.sink_faults_before seen.sink_faults_after status
 Obeys (Some (Curve numbers schedule images)) seen status =
     Answers questions.Curve (record { numbers = numbers; schedule = schedule; words = images })
+    seen.files seen.faults seen.written_before seen.written_after seen.sink_faults_before seen.sink_faults_after status
+Obeys (Some (Owners entries numbers schedule images)) seen status =
+    Answers (questions.Owners entries) (record { numbers = numbers; schedule = schedule; words = images })
     seen.files seen.faults seen.written_before seen.written_after seen.sink_faults_before seen.sink_faults_after status
 
 -- a command that touches no swap device leaves them

@@ -20,7 +20,7 @@ use std::alloc::Global;
 /// whatever came before (this project's profile).
 ///
 /// A run reads its pages from the files, and a load from files of its own in memory; both write to the swap devices and read from
-/// them. Other commands leave the devices as they are: the runs of `opt` and `curve` have a swap of their own in memory.
+/// them. Other commands leave the devices as they are: the runs of `opt`, `curve` and `owners` have a swap of their own in memory.
 pub fn vmrun<F: Files, D: SwapDev, E: SwapDev, S: Sink>(
     alloc: Global,
     words: &[&str],
@@ -90,6 +90,22 @@ pub fn vmrun<F: Files, D: SwapDev, E: SwapDev, S: Sink>(
             files,
             sink,
             Question::Curve,
+            numbers,
+            schedule,
+            images,
+        ),
+        Some(
+            Command::Owners {
+                entries,
+                numbers,
+                schedule,
+                images,
+            },
+        ) => ask_command(
+            alloc,
+            files,
+            sink,
+            Question::Owners(entries),
             numbers,
             schedule,
             images,
