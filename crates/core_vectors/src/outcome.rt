@@ -9,7 +9,7 @@ pub enum Outcome {
     Ended,
     /// The pieces of this first process find no place.
     NoSpace(u32),
-    /// The machine stopped.
+    /// The run stopped.
     Stopped(Stop),
 }
 

@@ -1,4 +1,4 @@
--- Where the machine stops as the page of an access is served.
+-- Where the run stops as the page of an access is served.
 use Rattle.std.proofs.Common.{◌≡◌, ◌≤◌, ◌+◌, ℕ, Bool, List, length, Option, Result, Ok, inr, subst}
 use Rattle.vm_facts.specs.declared.page.Page.{Page}
 use Rattle.vm_facts.specs.declared.stop.Stop.{Stop}

@@ -33,7 +33,7 @@ pub record UnitMade (now : Bool) (locked : List Page) (q : Page) (old new : Stan
   pub rest : IsSameBeside old new
   pub keeps : KeepsThrough old new holds before after
 
--- the machine stopped where that unit comes next
+-- the run stopped where that unit comes next
 pub record UnitStops (now : Bool) (q : Page) (old new : Standing) (before after : Option (List ℕ)) (stop : Stop) : Type 0 where
   pub entry : Entry
   pub next : serve_unit old.kernel.place q now ≡ Some entry
@@ -49,7 +49,7 @@ pub record ServesTo (now : Bool) (locked : List Page) (q : Page) (old new : Stan
   pub makes : Makes (ground old holds locked) units old new before after
   pub keeps : KeepsThrough old new holds before after
 
--- Units of serving the page lead to a kernel and a swap image, and there the machine stopped where the next one comes.
+-- Units of serving the page lead to a kernel and a swap image, and there the run stopped where the next one comes.
 pub record StopsServing (now : Bool) (locked : List Page) (q : Page) (old new : Standing) (holds : Option (List NamedFile)) (before after : Option (List ℕ)) (stop : Stop) : Type 0 where
   pub units : List Entry
   pub kernel : Kernel

@@ -99,7 +99,7 @@ AccessComes Touched (accesses.Growth sid pages) answer pid old new before after 
 
 -- Stops.
 
--- the machine stopped where growth or its refusal would be the next entry, and no pieces waited there
+-- the run stopped where growth or its refusal would be the next entry, and no pieces waited there
 pub record StopsGrowing (old new : Standing) (before after : Option (List ℕ)) (stop : Stop) : Type 0 where
   pub stopped : HasStopped old new
   pub whole : old.before ≡ old.kernel.holdings
@@ -107,12 +107,12 @@ pub record StopsGrowing (old new : Standing) (before after : Option (List ℕ)) 
   pub full : stop ≡ stops.JournalFull → old.params.journal ≤ length old.kernel.journal
   pub image : after ≡ before
 
--- the machine stopped while the page was served, after few entries
+-- the run stopped while the page was served, after few entries
 pub record StopsAtPage (now : Bool) (locked : List Page) (q : Page) (old new : Standing) (holds : Option (List NamedFile)) (before after : Option (List ℕ)) (stop : Stop) : Type 0 where
   pub serving : StopsServing now locked q old new holds before after stop
   pub few : length new.kernel.journal ≤ length old.kernel.journal + length old.kernel.place.transfers + 5
 
--- A refused access never stops the machine.
+-- A refused access never stops the run.
 abbrev pub AccessStops : Bool → List Page → Access → ℕ → Standing → Standing → Option (List NamedFile) → Option (List ℕ) → Option (List ℕ) → Stop → Type 0
 AccessStops now locked (accesses.Page q) pid old new holds before after stop = StopsAtPage now locked q old new holds before after stop
 AccessStops now locked (accesses.Refused signal) pid old new holds before after stop = ⊥

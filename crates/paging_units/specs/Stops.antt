@@ -12,7 +12,7 @@ use Rattle.machine_state.specs.Machine.{Standing}
 use Rattle.machine_state.specs.Done.{StopsFor, SwapAfter}
 use Rattle.machine_state.specs.Swapping.{SwapBehind}
 
--- why a unit stops the machine: a fault of a device comes only of the end of a transfer, and of one of its own kind, and of a
+-- why a unit stops the run: a fault of a device comes only of the end of a transfer, and of one of its own kind, and of a
 -- u page that is written or read
 abbrev pub CauseBy : Entry → Stop → List Transfer → Type 0
 CauseBy entries.Done stop ts = StopsFor (Err stop) ts
@@ -20,7 +20,7 @@ CauseBy (entries.SwapOut pid) stop ts = (stop ≡ stops.JournalFull) ⊎ ((stop 
 CauseBy (entries.SwapIn pid) stop ts = (stop ≡ stops.JournalFull) ⊎ ((stop ≡ stops.NoMemory) ⊎ (stop ≡ stops.SwapReadFault))
 CauseBy _ stop ts = (stop ≡ stops.JournalFull) ⊎ (stop ≡ stops.NoMemory)
 
--- the swap image behind a unit that stops the machine: only a write that failed changes it
+-- the swap image behind a unit that stops the run: only a write that failed changes it
 abbrev pub SpoilsBy : Entry → Stop → Kernel → Option (List ℕ) → Option (List ℕ) → Type 0
 SpoilsBy entries.Done stop k i j = SwapAfter (Err stop) k i j
 SpoilsBy (entries.SwapOut pid) stop k i j = let r : Result Bool Stop = Err stop in SwapBehind r k pid i j

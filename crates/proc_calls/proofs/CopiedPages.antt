@@ -68,7 +68,7 @@ pub copied_as : (roomy new : Standing) (child : Page) → new.kernel ≡ copy_st
     → new ≡ copied_from roomy child
 copied_as roomy new child step rest = rest ∙ ap (λ (k : Kernel). let s : Standing = record roomy { kernel = k; room = None } in s) step
 
--- A frame is forced, or the machine stops at that, over the files as they were before.
+-- A frame is forced, or the run stops at that, over the files as they were before.
 
 same_files : (parent : Page) (served roomy : Standing) (holds later : Option (List NamedFile)) (h j : Option (List ℕ)) → later ≡ holds
     → Forced (parent ∷ []) served roomy later h j → Forced (parent ∷ []) served roomy holds h j

@@ -232,7 +232,7 @@ refused_ok (Err stop) old between new pid child regs is keeps named few none h =
 same_stop : (s t : Stop) → (let r : Result Called Stop = Err s in r) ≡ Err t → s ≡ t
 same_stop s t e = cc
 
--- the machine stops behind the entry that says so
+-- the run stops behind the entry that says so
 pub stops_refused : (r : Result Called Stop) (old between new : Standing) (pid child : ℕ) (change : ℕ → Change) → between ≡ without_pieces old pid → child ≡ old.kernel.next_pid
     → is_below_limit old.kernel ≡ true → finds_pieces old pid (change child) ≡ false → old.before ≡ old.kernel.holdings → OnErr r (HasStopped between new)
     → OnErr r ((r ≡ Err stops.JournalFull) ⊎ (r ≡ Err stops.NoMemory)) → ((r ≡ Err stops.JournalFull) ↔ (between.params.journal ≤ length between.kernel.journal))

@@ -268,7 +268,7 @@ finds (Ok fits) m n pid image ws holds before after e f = record {
   finds = by_wants fits m n pid image ws holds before after e f.finds;
 }
 
--- where the machine stops as they are looked for, it stops as those of the image are
+-- where the run stops as they are looked for, it stops as those of the image are
 pub finding_stops : (r : Result Bool Stop) (m n : Standing) (pid image : ℕ) (ws : List Want) (holds : Option (List NamedFile)) (before after : Option (List ℕ))
     → wanted_of m.kernel.holdings ws ≡ image_wanted m image → IfErr r (StopsFinding (wants_found ws) m n pid holds before after)
     → IfErr r (StopsFinding (image_found image) m n pid holds before after)

@@ -63,14 +63,14 @@ Comes old new pid call regs (Err (Miss address write)) called = (called ≡ call
 Comes old new pid call regs (Err (Below address)) called = Replied old new pid call regs (Fails fault) called
 Comes old new pid call regs (Err (Signal number)) called = Replied old new pid call regs (Fails fault) called
 
--- The machine stops before an entry, whatever pieces wait for it: for want of memory, or since the journal is full, which it is
+-- The run stops before an entry, whatever pieces wait for it: for want of memory, or since the journal is full, which it is
 -- only at its bound.
 pub record StopsEntering (old new : Standing) (stop : Stop) : Type 0 where
   pub stopped : HasStopped old new
   pub cause : (stop ≡ stops.JournalFull) ⊎ (stop ≡ stops.NoMemory)
   pub full : stop ≡ stops.JournalFull → old.params.journal ≤ length old.kernel.journal
 
--- The machine stops before an entry: for want of memory, or since the journal is full, which it is only at its bound. No pieces
+-- The run stops before an entry: for want of memory, or since the journal is full, which it is only at its bound. No pieces
 -- wait where it stops, but those that the entry itself takes.
 pub record StopsBefore (old new : Standing) (stop : Stop) : Type 0 where
   pub stopped : HasStopped old new

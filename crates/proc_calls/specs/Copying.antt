@@ -44,7 +44,7 @@ pub record CopiesPage (child parent : Page) (old new : Standing) (holds : Option
   pub copies : new ≡ record roomy { kernel = copy_step roomy.kernel child; room = None }
   pub keeps : KeepsThrough old new holds before after
 
--- the machine stops once the parent's page was served, as a frame is forced, or at the copy
+-- the run stops once the parent's page was served, as a frame is forced, or at the copy
 pub record StopsBehind (child parent : Page) (old new : Standing) (holds : Option (List NamedFile)) (before after : Option (List ℕ)) (stop : Stop) : Type 0 where
   pub served : Standing
   pub behind : Option (List ℕ)
@@ -85,7 +85,7 @@ pub record HasCopied (old new : Standing) : Type 0 where
   pub frames : length new.kernel.place.holds ≡ length old.kernel.place.holds
   pub low : last_moves new.kernel.journal ≤ last_moves old.kernel.journal
 
--- the machine stops at one of them
+-- the run stops at one of them
 abbrev pub StopsCopying : List Due → Standing → Standing → Option (List NamedFile) → Option (List ℕ) → Option (List ℕ) → Stop → Type 0
 StopsCopying [] old new holds before after stop = ⊥
 StopsCopying (Start q ∷ ds) old new holds before after stop = ⊥

@@ -57,7 +57,7 @@ ExitComes old new pid regs (Ok (Exits status)) holds before after called = (call
 ExitComes old new pid regs (Ok reply) holds before after called = ⊥
 ExitComes old new pid regs (Err refused) holds before after called = Comes old new pid Exit regs (Err refused) called × (after ≡ before)
 
--- Where the machine stops.
+-- Where the run stops.
 
 -- as a space of its own settles
 pub record StopsOwn (old new : Standing) (pid : ℕ) (holds : Option (List NamedFile)) (before after : Option (List ℕ)) (stop : Stop) : Type 0 where
@@ -81,7 +81,7 @@ pub record StopsOnceLeft (old new : Standing) (pid : ℕ) (holds : Option (List 
   pub left : HasLeft old between pid holds before after
   pub stops : StopsBefore between new stop
 
--- a machine stops before a process has ended or has its image: as the process leaves its space, or behind that
+-- a run stops before a process has ended or has its image: as the process leaves its space, or behind that
 abbrev pub StopsAlive : Standing → Standing → ℕ → Option (List NamedFile) → Option (List ℕ) → Option (List ℕ) → Stop → Type 0
 StopsAlive old new pid holds before after stop = StopsLeaving old new pid holds before after stop ⊎ StopsOnceLeft old new pid holds before after stop
 

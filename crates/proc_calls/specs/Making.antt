@@ -73,7 +73,7 @@ pub record FindsNone (old between : Standing) (pid : ℕ) (change : Change) : Ty
   pub none : finds_pieces old pid change ≡ false
   pub refused : between ≡ without_pieces old pid
 
--- The machine stops as it was, or behind that entry. The journal was full only where it was at its bound there.
+-- The run stops as it was, or behind that entry. The journal was full only where it was at its bound there.
 pub record StopsMaking (old new : Standing) (pid : ℕ) (change : Change) (stop : Stop) : Type 0 where
   pub between : Standing
   pub reached : (between ≡ old) ⊎ FindsNone old between pid change

@@ -112,7 +112,7 @@ abbrev pub BreakComes : Standing → Standing → ℕ → Regs → Result ℕ Re
 BreakComes old new pid regs (Ok address) holds before after called = MovesEnd old new pid regs (pages_to old.kernel pid address) holds before after called
 BreakComes old new pid regs (Err refused) holds before after called = Comes old new pid Break regs (Err refused) called × (after ≡ before)
 
--- Where the machine stops.
+-- Where the run stops.
 
 -- behind the entry that says that the pieces of more pages find no place
 pub record StopsRefused (old new : Standing) (pid pages : ℕ) (stop : Stop) : Type 0 where

@@ -128,7 +128,7 @@ ExecComes old new pid regs (Ok (Does after (Exec image top))) holds before behin
 ExecComes old new pid regs (Ok reply) holds before behind called = Comes old new pid Execve regs (Ok reply) called × (behind ≡ before)
 ExecComes old new pid regs (Err refused) holds before behind called = Comes old new pid Execve regs (Err refused) called × (behind ≡ before)
 
--- Where the machine stops.
+-- Where the run stops.
 
 -- as it was, or where the pieces find their places: as the process leaves its space, or behind that
 abbrev pub StopsFinding : (Standing → Result Holdings ℕ) → Standing → Standing → ℕ → Option (List NamedFile) → Option (List ℕ) → Option (List ℕ) → Stop → Type 0

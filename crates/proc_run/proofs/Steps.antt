@@ -137,7 +137,7 @@ module _ (A : Inputs) (s : State) (m : Standing) (holds : Option (List NamedFile
             (none_lost A s pid now p x step r.on.running is refl),
       )
 
-  -- where the journal has no room for it the machine stops there
+  -- where the journal has no room for it the run stops there
   pub instruction_stops : (mid new : Standing) (stop : Stop) (effect : Effect) → run (own_answers m pid) (instruction before) ≡ Ok effect → effect.call ≡ None
       → mid.kernel.journal ≡ m.kernel.journal → HasStopped mid new → StaysWhereFull m.kernel stop new → (stop ≡ stops.JournalFull) ⊎ (stop ≡ stops.NoMemory)
       → (stop ≡ stops.JournalFull → (mid.params.journal ≤ length mid.kernel.journal) × (length mid.kernel.journal < length (append mid.kernel.journal (entries.Ran pid 1))))

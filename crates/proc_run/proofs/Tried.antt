@@ -170,7 +170,7 @@ module _ (old at last : Standing) (pid : ℕ) (now : Bool) (holds : Option (List
       room_stops old at last pid now holds i j o stop
       (λ A s image p x r. signal_stops A s at holds i image pid now p x before r (room_regs old at pid before o same) last j number stop e h)
 
--- Where the machine stops for want of room.
+-- Where the run stops for want of room.
 
 pub asked_stops : (old last : Standing) (pid : ℕ) (before : Regs) (stop : Stop) (now : Bool) (holds : Option (List NamedFile)) (i : Option (List ℕ)) → before ≡ regs_of old.kernel pid → HasStopped old last
     → old.before ≡ old.kernel.holdings → (stop ≡ stops.JournalFull) ⊎ (stop ≡ stops.NoMemory)

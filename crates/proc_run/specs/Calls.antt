@@ -1,4 +1,4 @@
--- What the call that an instruction makes comes to, whichever it is, and where the machine stops in it.
+-- What the call that an instruction makes comes to, whichever it is, and where the run stops in it.
 use Rattle.std.specs.Prelude.{◌≡◌, ℕ, ℤ, List, Option, Some, Ok}
 use Rattle.io_edge.specs.FileHolding.{NamedFile}
 use Rattle.vm_facts.specs.Answers.{Answers}

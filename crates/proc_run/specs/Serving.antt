@@ -1,4 +1,4 @@
--- What serving an access of a process comes to, and where the machine stops in it.
+-- What serving an access of a process comes to, and where the run stops in it.
 use Rattle.std.specs.Prelude.{◌≡◌, ◌⊎◌, ℕ, Bool, true, false, List, [], Option}
 use Rattle.io_edge.specs.FileHolding.{NamedFile}
 use Rattle.vm_facts.specs.declared.page.Page.{Page}

@@ -46,7 +46,7 @@ pub enum Advance {
 
 // Makes room in the journal for the next instruction of a process. Where the journal is full the instruction is tried first over
 // a memory that keeps what is written to itself: one that has to wait for a page needs no entry, and where it is carried out the
-// machine stops before anything is written.
+// run stops before anything is written.
 fn make_room(alloc: Global, m: &mut Machine, pid: u32, before: &Regs) -> Result<(), Stop>
     requires running { m.old.kernel.stopped ≡ false }
     requires lends { CanLend m.old.kernel pid }
@@ -68,7 +68,7 @@ fn make_room(alloc: Global, m: &mut Machine, pid: u32, before: &Regs) -> Result<
 
 /// The next instruction of a process, whose registers these are, or a page that it touches. Where the journal is full the
 /// instruction is tried all the same, since a process that has to wait for a page needs no entry; where it would be carried out the
-/// machine stops, and nothing was written.
+/// run stops, and nothing was written.
 pub fn next_step<F: Files, D: SwapDev>(
     alloc: Global,
     m: &mut Machine,

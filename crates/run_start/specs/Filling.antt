@@ -19,7 +19,7 @@ FillsAll (Start q ∷ ds) old new holds before after =
     (next : Standing) × (between : Option (List ℕ)) × FillsStart q old next holds before between × FillsAll ds next new holds between after
 FillsAll (CopyOf q parent ∷ ds) old new holds before after = ⊥
 
--- the machine stops at one of them
+-- the run stops at one of them
 abbrev pub StopsFilling : List Due → Standing → Standing → Option (List NamedFile) → Option (List ℕ) → Option (List ℕ) → Stop → Type 0
 StopsFilling [] old new holds before after stop = ⊥
 StopsFilling (Start q ∷ ds) old new holds before after stop =

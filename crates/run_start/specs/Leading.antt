@@ -42,7 +42,7 @@ pub record StartLeads (A : Inputs) (new : Standing) (holds : Option (List NamedF
   pub clear : state.place.due ≡ []
   pub machine : MachineAt A state new holds leads.behind
 
--- The machine stops as the processes begin, for want of memory: no unit was made.
+-- The run stops as the processes begin, for want of memory: no unit was made.
 pub record StopsBeginning (new : Standing) (image : List ℕ) (stop : Stop) (j : Option (List ℕ)) : Type 0 where
   pub cause : stop ≡ stops.NoMemory
   pub stopped : new.kernel.stopped ≡ true

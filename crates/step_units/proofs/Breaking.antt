@@ -252,7 +252,7 @@ module _ (A : Inputs) (s : State) (old : Standing) (holds : Option (List NamedFi
     moves_made new j c (inl g) = subst (λ (o : Option (List ℕ)). CallLeads A s k image x c new.kernel o) (sym g.1) (plain_made new c g.0)
     moves_made new j c (inr g) = cut_made new j c g
 
-    -- Where the machine stops.
+    -- Where the run stops.
 
     left_at : (t : State) (on : t.point ≡ s.point) → (e : Entry) × (due_at A t.point pid ≡ e ∷ []) × IsOwn e
     left_at t on =

@@ -220,7 +220,7 @@ stopped_in A s k new image pid now e stop r w a o h = record {
   by = stops_by A s k new image e stop (runs_next A s pid now e r w a) o h;
 }
 
--- before an entry of a process the machine stops where that entry is next
+-- before an entry of a process the run stops where that entry is next
 pub stopped_before : (A : Inputs) (s : State) (old new : Standing) (image : List ℕ) (pid : ℕ) (now : Bool) (e : Entry) (stop : Stop) → Runs A s pid now → wanted A s ≡ None → act A s pid ≡ Some e
     → IsOwn e → StopsBefore old new stop → StopLeads A s old.kernel image stop new (Some image)
 stopped_before A s old new image pid now e stop r w a o h = stopped_in A s old.kernel new image pid now e stop r w a o (stops_in old new stop h)

@@ -63,7 +63,7 @@ module _ (A : Inputs) (s : State) (m : Standing) (holds : Option (List NamedFile
       subst (λ (k : Kernel). LeadsTo A s m.kernel image [] k j) (sym (ap (λ (n : Standing). n.kernel) h.fills))
       (forced_fill A s m h.roomy holds image j (Start page) [] [] at images first (start_first s page first) h.forces)
 
-  -- the machine stops as a frame is forced, or at the fill
+  -- the run stops as a frame is forced, or at the fill
   pub start_stops : (new : Standing) (j : Option (List ℕ)) (stop : Stop) → StopsStart page m new holds (Some image) j stop → StopLeads A s m.kernel image stop new j
   start_stops new j stop h = elim h [
     | inl x ↦ forcing_stops A s m new holds image j (entries.Zero page) [] stop at images (start_first s page first) x

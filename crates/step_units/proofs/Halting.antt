@@ -1,4 +1,4 @@
--- The machine stops before a process's step, whatever comes of it next: the end of a transfer, the entry that says that its pieces find
+-- The run stops before a process's step, whatever comes of it next: the end of a transfer, the entry that says that its pieces find
 -- no place, or its first entry.
 use Rattle.std.proofs.Common.{◌≡◌, ◌⊎◌, inl, inr, ℕ, ◌<◌, ◌≤◌, ◌==◌, not, ◌&&◌, Bool, true, false, List, [], ◌∷◌, ◌++◌, length, Some, None, refl, sym, ap, ◌∙◌, subst, arith}
 use Rattle.std.proofs.lemmas.List.{length-append}

@@ -174,7 +174,7 @@ module _ (A : Inputs) (s : State) (old : Standing) (holds : Option (List NamedFi
     pub has_left : HasLeft old between pid holds (Some image) j → Left A s old between image pid now p x j
     has_left h = by (has_lender old.kernel.processes pid) refl h
 
-  -- The machine stops as transfers of the space end, or before the entry of the step.
+  -- The run stops as transfers of the space end, or before the entry of the step.
   pub stops_leaving : (u : Entry) (new : Standing) (j : Option (List ℕ)) (stop : Stop) → Begins s.point.last pid → (step_at A s.point pid).entries ≡ u ∷ [] → IsOwn u
       → StopsLeaving old new pid holds (Some image) j stop → StopLeads A s old.kernel image stop new j
   stops_leaving u new j stop b e own h = elim h [ inl y ↦ settling y | inr y ↦ lent y ]
@@ -214,7 +214,7 @@ module _ (A : Inputs) (s : State) (old between : Standing) (image : List ℕ) (p
   pub left_acts : (u : Entry) → Begins s.point.last pid → (step_at A s.point pid).entries ≡ u ∷ [] → act A l.state pid ≡ Some u
   left_acts u b e = acts_first A l.state pid u [] (on_steps A l.state l.state.mark pid now l.gives.running.runs.on) l.gives.fits l.ready (due_left u b e)
 
-  -- The machine stops before it.
+  -- The run stops before it.
   pub left_stops : (u : Entry) (new : Standing) (stop : Stop) → Begins s.point.last pid → (step_at A s.point pid).entries ≡ u ∷ [] → IsOwn u → StopsBefore between new stop
       → StopLeads A s old.kernel image stop new j
   left_stops u new stop b e own h =

@@ -155,7 +155,7 @@ some_found : (r : Result Holdings ℕ) → is_ok r ≡ true → (found : Holding
 some_found (Ok found) h = (found, refl)
 some_found (Err n) h = absurd cc
 
--- the machine stopped as it was
+-- the run stopped as it was
 stops_first : (A : Inputs) (s : State) (old new : Standing) (holds : Option (List NamedFile)) (image : List ℕ) (pid : ℕ) (now : Bool) (p : Process) (x : Space) (effect : Effect) (call : SystemCall)
     (change : ℕ → Change)
     (stop : Stop) → Asking A s old holds image pid now p x effect call change → StopsBefore old new stop → StopLeads A s old.kernel image stop new (Some image)

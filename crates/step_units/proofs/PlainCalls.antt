@@ -122,7 +122,7 @@ pub refused_made : RefusedIsMade
 refused_made A s old new holds image pid now p x effect call refused called h m e g =
     comes_made A s old new holds image pid now p x effect call (Err refused) called h m e tt g
 
--- Where the machine stops.
+-- Where the run stops.
 
 pub plain_stops : PlainCallStops
 plain_stops A s old new holds image pid now p x effect system_calls.Wait stop h m a g =

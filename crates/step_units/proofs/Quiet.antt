@@ -110,7 +110,7 @@ comes_made A s old new holds image pid now p x effect call (Err (Signal number))
     quiet_made A s old new holds image pid now p x effect call (Err (Signal number)) (Fails fault) called h m.names
     (ready A s old holds image pid now p x effect call (Err (Signal number)) h m e tt) refl tt g
 
--- Where the machine stops before the step's first entry.
+-- Where the run stops before the step's first entry.
 
 -- the first entry of such a step, which asks for no pieces and gives up no space
 pub record FirstEntry (A : Inputs) (s : State) (k : Kernel) (pid : ℕ) (x : Space) (step : Step) : Type 0 where

@@ -133,7 +133,7 @@ module _ (A : Inputs) (s : State) (old : Standing) (holds : Option (List NamedFi
       (complete_leads A t k l image pid v
       (entered A t (with_refusal old pid) l holds image pid now p x step v old.kernel.holdings h.machine h.running h.unwanted acts refl d is c.writes tt tt (none_asked A.swap_blocks k).0 made))
 
-  -- or the machine stops before that
+  -- or the run stops before that
   pub refused_stops : (new : Standing) (stop : Stop) → StopsBefore (with_refusal old pid) new stop → StopLeads A s old.kernel image stop new (Some image)
   refused_stops new stop g =
       stops_then A s t old.kernel (note_step old.kernel (entries.Refused pid)) image image (Some image) (entries.Refused pid ∷ []) stop new h.leads

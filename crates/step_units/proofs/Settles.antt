@@ -1,4 +1,4 @@
--- A space settles before the step of its process, or the machine stops as it does.
+-- A space settles before the step of its process, or the run stops as it does.
 use Rattle.std.proofs.Common.{◌≡◌, ℕ, ◌<◌, ◌≤◌, not, ◌&&◌, Bool, true, false, List, [], ◌∷◌, ◌++◌, length, replicate, Option, Some, None, sym, ap, ◌∙◌, subst, arith}
 use Rattle.std.specs.Prelude.{is_ok}
 use Rattle.std.proofs.lemmas.List.{length-append}
@@ -109,7 +109,7 @@ module _ (A : Inputs) (s : State) (old : Standing) (holds : Option (List NamedFi
         step_is = ap (λ (y : Point). step_at A y pid) led.same.point;
       }
 
-  -- the end of a transfer stops the machine
+  -- the end of a transfer stops the run
   pub stops_settling : (new : Standing) (j : Option (List ℕ)) (stop : Stop) → StopsSettling x.sid old new holds (Some image) j stop → StopLeads A s old.kernel image stop new j
   stops_settling new j stop g =
       let led : LeadsLeaving A s old.kernel image pid now x.sid (replicate g.count entries.Done) g.between.kernel g.image =

@@ -5,7 +5,7 @@ ghost use Rattle.step_units.specs.Sizing.{BreakIsMade, BreakStops};
 ghost use Rattle.step_units.specs.Running.{InstructionIsMade, ServeIsMade, ServeStops, ServeNowIsMade, ServeNowStops};
 
 /// A wait, a question for its number and a write of a process are its step, and so is any call whose read was refused. Where a
-/// byte that a call reads misses, nothing is done, and the process waits for its page. Where the machine stops there, its next unit
+/// byte that a call reads misses, nothing is done, and the process waits for its page. Where the run stops there, its next unit
 /// is known.
 pub fn calls_are_steps()
     ensures wait { WaitIsMade }

@@ -10,7 +10,7 @@ pub fn lines_begin()
 {}
 
 /// Under a line the units that a machine makes of what it asks for are next units, and lead to where the line is over: the end of
-/// the oldest transfer, moves of the hands, a turn of the swapper, the numbers of frames and blocks. Where the machine stops there,
+/// the oldest transfer, moves of the hands, a turn of the swapper, the numbers of frames and blocks. Where the run stops there,
 /// the next unit is known.
 pub fn lines_are_made()
     ensures interrupt { InterruptIsMade }

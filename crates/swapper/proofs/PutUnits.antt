@@ -283,7 +283,7 @@ put_last pid sid old new holds i j r n l e b w =
       beside = b;
     }
 
--- Where the last unit stops the machine.
+-- Where the last unit stops the run.
 
 ok_is : {A : Type 0} (r : Result A Stop) (limit : ℕ) (journal : List Entry) (pid : ℕ) (s t : Stop) → r ≡ Err s → ((r ≡ Err t) ↔ (limit ≤ length journal))
     → (s ≡ t) ↔ ((limit ≤ length journal) × (length journal < length (append journal (entries.SwapOut pid))))

@@ -68,7 +68,7 @@ module _ (A : Inputs) (old : Underway) (numbers : List ℕ) (lines : List Event)
       go (Ok hs) at e = absurd cc
       go (Err n) at e = at ∙ (let same_pid : n ≡ pid = cc in ap (λ (p : ℕ). let r : Result Holdings ℕ = Err p in r) same_pid)
 
-  -- The machine stopped.
+  -- The run stopped.
 
   stops_at : (new : Standing) (stop : Stop) (j : Option (List ℕ)) (hs : Holdings) (can : CanRun A hs) → (x : StopLeads A (start A hs) (machine_at_start A hs) image stop new j)
       → RunStops A new.kernel.journal image stop j

@@ -76,7 +76,7 @@ module _ (A : Inputs) (s : State) (old mid : Underway) (lines : List Event) (hol
     lines = d.lines ∙ ap (λ (n : ℕ). n + 1) c.lines;
   }
 
--- One line more is taken, or the machine stops at it.
+-- One line more is taken, or the run stops at it.
 
 pub line_taken : (old mid new : Underway) (taken : ℕ) (e : Event) (lines : List Event) (holds : Option (List NamedFile)) (i h j : Option (List ℕ)) → HasTaken old mid taken lines holds i h → slice_get lines taken ≡ Some e
     → mid.counted < mid.machine.params.limit → TakesLine mid new (taken + 1) e holds h j → HasTaken old new (taken + 1) lines holds i j

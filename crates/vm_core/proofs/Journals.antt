@@ -72,7 +72,7 @@ module _ (A : Inputs) (hs : Holdings) (can : CanRun A hs) (few : length A.first 
         journal_image A hs t (machine_at_start A hs) l image us j can at_start a
         ∙ ap (λ (es : List Entry). Some (swapped A es image)) (sym lawful.0 ∙ sym stands.journal)
 
--- no unit stops the machine
+-- no unit stops the run
 makes_run : (A : Inputs) (us : List Entry) (s t : State) (k l : Kernel) (image behind : List ℕ) → Makes A s k image us t l behind → l.stopped ≡ k.stopped
 makes_run A [] s t k l image behind m = sym (ap (λ (x : Kernel). x.stopped) m.1)
 makes_run A (u ∷ us) s t k l image behind m =

@@ -1,4 +1,4 @@
--- What is known of the units that were made where the machine stops.
+-- What is known of the units that were made where the run stops.
 use Rattle.std.specs.Prelude.{◌≡◌, ℕ, List, Option}
 use Rattle.vm_facts.specs.declared.stop.Stop.{Stop}
 use Rattle.flat_state.specs.Flat.{Inputs}
@@ -10,8 +10,8 @@ use Rattle.step_units.specs.Stepped.{StopLeads}
 use Rattle.journal_laws.specs.Accounts.{Account}
 use Rattle.journal_laws.specs.Economy.{Economy}
 
--- Next units lead to a state, and there the machine stopped. These units are accounted for, and few, and up to the one at which the
--- machine stopped the swap image is the one that they say.
+-- Next units lead to a state, and there the run stopped. These units are accounted for, and few, and up to the one at which the
+-- run stopped the swap image is the one that they say.
 pub record StopsAccounted (A : Inputs) (s : State) (k : Kernel) (image : List ℕ) (stop : Stop) (new : Standing) (j : Option (List ℕ)) : Type 0 where
   pub led : StopLeads A s k image stop new j
   pub account : Account A s led.units

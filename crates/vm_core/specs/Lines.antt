@@ -25,7 +25,7 @@ abbrev pub MakesLine : Event → Standing → Standing → Option (List NamedFil
 MakesLine e old new holds i j =
     (A : Inputs) (s : State) (image : List ℕ) → LineAt A s old holds i image e → LineLeads A s old.kernel image new.kernel j
 
--- or to where the machine stopped
+-- or to where the run stopped
 abbrev pub StopsLine : Event → Standing → Standing → Option (List NamedFile) → Option (List ℕ) → Option (List ℕ) → Stop → Type 0
 StopsLine e old new holds i j stop =
     (A : Inputs) (s : State) (image : List ℕ) → LineAt A s old holds i image e → StopLeads A s old.kernel image stop new j

@@ -42,7 +42,7 @@ pub record IsAskedOf (A : Inputs) (m : Standing) (numbers : List ℕ) (lines : L
 abbrev pub NoneMade : List Entry → List ℕ → Option (List ℕ) → Type 0
 NoneMade journal image after = (journal ≡ []) × (after ≡ Some image)
 
--- where the machine stopped: for want of memory it may be anywhere
+-- where the run stopped: for want of memory it may be anywhere
 abbrev pub RunStops : Inputs → List Entry → List ℕ → Stop → Option (List ℕ) → Type 0
 RunStops A journal image stops.NoMemory after = NoneMade journal image after ⊎ RunStarved A journal image after
 RunStops A journal image stop after = RunHalted A journal stop image after

@@ -44,7 +44,7 @@ abbrev pub TakesLines : Underway → Underway → Went → List Event → Option
 TakesLines old new went lines holds i j =
     (A : Inputs) (s : State) (image : List ℕ) → IsBeforeLines A s old lines holds i image → LinesWent A s old new went (length lines) holds image j
 
--- or next units lead to where the machine stopped
+-- or next units lead to where the run stopped
 abbrev pub StopsLines : Underway → Underway → List Event → Option (List NamedFile) → Option (List ℕ) → Option (List ℕ) → Stop → Type 0
 StopsLines old new lines holds i j stop =
     (A : Inputs) (s : State) (image : List ℕ) → IsBeforeLines A s old lines holds i image → StopLeads A s old.machine.kernel image stop new.machine j

@@ -21,7 +21,7 @@ use vm_facts::{Event, Stop};
 pub enum Unfinished {
     /// The swap pieces of this first process find no place.
     NoSpace(u32),
-    /// The machine stopped.
+    /// The run stopped.
     Stopped(Stop),
 }
 

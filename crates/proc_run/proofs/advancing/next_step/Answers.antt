@@ -25,7 +25,7 @@ use Rattle.proc_run.proofs.advancing.next_step.Goals as goal
 asked : (m n : Standing) → n ≡ record m { room = n.room } → RoomOnly m n
 asked m n e = record { made = n.room; only = e }
 
--- Where the machine stops before the attempt.
+-- Where the run stops before the attempt.
 
 pub returns-in_err-make_room-clause-stops : goal.returns-in_err-make_room-clause-stops
 returns-in_err-make_room-clause-stops g c =
