@@ -67,6 +67,7 @@ pub mod Residing
 pub mod Turning
 pub mod UPages
 pub mod MovedRecords
+pub mod ByNumber
 pub mod Listed
 pub mod Kin
 pub mod AddedRecords

@@ -1,93 +1,22 @@
 -- Candidates by their numbers.
-use Rattle.std.proofs.Common.{◌≡◌, ◌≢◌, ◌⊎◌, inl, inr, ℕ, zero, suc, ◌+◌, ◌-◌, ◌<◌, ◌≤◌, ◌&&◌, nat_le, Bool, true, false, cond, List, [], ◌∷◌, Option, Some, None, IsSome, refl, sym, ap, ◌∙◌, arith}
+use Rattle.std.proofs.Common.{◌≡◌, ℕ, ◌+◌, ◌-◌, ◌<◌, ◌≤◌, ◌&&◌, Bool, true, false, cond, List, [], ◌∷◌, Option, Some, None, IsSome, refl, sym, ap, ◌∙◌, arith}
 use Rattle.std.specs.Prelude.{filter_map}
 use Rattle.std.specs.List.{range_with_len, filter}
-use Rattle.std.proofs.lemmas.Bool.{cases_eq}
-use Rattle.std.proofs.lemmas.Bool.Decides.{nat_tests}
-use Rattle.std.proofs.lemmas.Option.{same_Some}
 use Rattle.proc_table.specs.declared.process.Proc.{Proc as Record}
 use Rattle.proc_table.specs.declared.process.Life.{Life as RecordLife}
 use Rattle.proc_table.specs.declared.process.Life.TheVariants as lives
 use Rattle.proc_table.specs.Records.{find, Lowest}
 use Rattle.page_model.specs.Placement.{Placement, Residence}
-use Rattle.page_model.specs.Swapper.{Runner, is_out, since, longest_of, longest}
+use Rattle.page_model.specs.Swapper.{Runner, is_out, since, longest}
 use Rattle.page_model.specs.Swapper as swapper
-use Rattle.page_laws.proofs.Lists.Local.{none_some}
 use Rattle.kernel_model.specs.Kernel.{Proc}
 use Rattle.kernel_model.specs.Unit.{has_lender}
 use Rattle.machine_state.specs.Alike.{AreRecords}
 use Rattle.machine_state.specs.Machine.{life_shown, proc_shown, proc_of, processes_of, residence_by, residence_of}
 use Rattle.machine_state.proofs.Records.{keeps_none, keeps_some, found_pid}
+use Rattle.machine_state.proofs.ByNumber.{over, over_none, over_some, next_follows, none_follows, residence_over}
 use Rattle.machine_state.proofs.Listed.{are_marked}
 use Rattle.swapper.specs.Runners.{runner_by, runner_from, runners_in, runners_above, HasResidents, kept, longer_of, longer_with, longest_from}
-
--- The list from a number on.
-
-abbrev pub over : {A : Type 0} → (ℕ → Option A) → ℕ → ℕ → List A
-over g v next = filter_map g (range_with_len v (next - v))
-
-pub over_none : {A : Type 0} (g : ℕ → Option A) (v next : ℕ) → v < next → g v ≡ None → over g v next ≡ over g (v + 1) next
-over_none {A} g v next l e =
-    let m : next - v ≡ suc (next - (v + 1)) = omega arith in
-    ap (λ (k : ℕ). filter_map g (range_with_len v k)) m ∙ keeps_none g v (range_with_len (v + 1) (next - (v + 1))) e
-
-pub over_some : {A : Type 0} (g : ℕ → Option A) (v next : ℕ) (x : A) → v < next → g v ≡ Some x → over g v next ≡ x ∷ over g (v + 1) next
-over_some {A} g v next x l e =
-    let m : next - v ≡ suc (next - (v + 1)) = omega arith in
-    ap (λ (k : ℕ). filter_map g (range_with_len v k)) m ∙ keeps_some g v (range_with_len (v + 1) (next - (v + 1))) x e
-
-pub over_end : {A : Type 0} (g : ℕ → Option A) (v next : ℕ) → next ≤ v → over g v next ≡ []
-over_end {A} g v next l = let m : next - v ≡ 0 = omega arith in ap (λ (k : ℕ). filter_map g (range_with_len v k)) m
-
--- A step from a pid to the next one skips nothing.
-
-least_or : (a b : ℕ) → (b ≤ a) ⊎ (a < b)
-least_or a b = go (nat_le b a) refl
-  where
-    go : (c : Bool) → nat_le b a ≡ c → (b ≤ a) ⊎ (a < b)
-    go true e = inl (grind (arith, nat_tests))
-    go false e = inr (grind (arith, nat_tests))
-
-over_first : {A : Type 0} (g : ℕ → Option A) (v next : ℕ) → ((n : ℕ) → v ≤ n → n < next → g n ≡ None) → (k : ℕ) → next ≡ v + k → over g v next ≡ []
-over_first g v next none zero e = over_end g v next (omega (arith, e))
-over_first g v next none (suc k) e =
-    over_none g v next (omega (arith, e)) (none v (omega arith) (omega (arith, e)))
-    ∙ over_first g (v + 1) next (λ n l m. none n (omega (arith, l)) m) k (omega (arith, e))
-
-over_skips : {A : Type 0} (g : ℕ → Option A) (v w next : ℕ) → w ≤ next → ((n : ℕ) → v ≤ n → n < w → g n ≡ None) → (k : ℕ) → w ≡ v + k → over g v next ≡ over g w next
-over_skips g v w next l none zero e = let i : v ≡ w = omega (arith, e) in ap (λ (n : ℕ). over g n next) i
-over_skips g v w next l none (suc k) e =
-    over_none g v next (omega (arith, e, l)) (none v (omega arith) (omega (arith, e)))
-    ∙ over_skips g (v + 1) w next l (λ n a b. none n (omega (arith, a)) b) k (omega (arith, e))
-
-not_there : (o : Option Record) → (IsSome o → ⊥) → o ≡ None
-not_there None h = refl
-not_there (Some x) h = absurd (h refl)
-
--- the next pid is that of a record
-pub next_is : (ps : List Record) (next last pid : ℕ) → AreRecords ps next → Lowest (λ q. (last < q) × IsSome (find q ps)) (Some pid)
-    → (1 ≤ pid) × (pid < next) × (last < pid)
-next_is ps next last pid h low = go (find pid ps) refl low.0.1
-  where
-    go : (o : Option Record) → find pid ps ≡ o → IsSome o → (1 ≤ pid) × (pid < next) × (last < pid)
-    go None e s = absurd cc
-    go (Some x) e s = let k = h.known pid x e in (k.0, k.1, low.0.0)
-
-next_follows : {A : Type 0} (f : Option Record → Option A) (ps : List Record) (next last pid : ℕ) → f None ≡ None → AreRecords ps next
-    → Lowest (λ q. (last < q) × IsSome (find q ps)) (Some pid) → over (λ n. f (find n ps)) (last + 1) next ≡ over (λ n. f (find n ps)) pid next
-next_follows f ps next last pid none h low =
-    let k = next_is ps next last pid h low in
-    over_skips (λ n. f (find n ps)) (last + 1) pid next (omega (arith, k.1)) skipped (pid - (last + 1)) (omega (arith, k.2))
-  where
-    skipped : (n : ℕ) → last + 1 ≤ n → n < pid → f (find n ps) ≡ None
-    skipped n l m = ap f (not_there (find n ps) (λ s. absurd (let x = low.1 n (omega (arith, l), s) in omega (arith, m, x)))) ∙ none
-
-none_follows : {A : Type 0} (f : Option Record → Option A) (ps : List Record) (next last : ℕ) → f None ≡ None
-    → Lowest (λ q. (last < q) × IsSome (find q ps)) None → over (λ n. f (find n ps)) (last + 1) next ≡ []
-none_follows f ps next last none low = elim (least_or (last + 1) next) [
-  | inl l ↦ over_end (λ n. f (find n ps)) (last + 1) next l
-  | inr l ↦ over_first (λ n. f (find n ps)) (last + 1) next (λ n a b. ap f (not_there (find n ps) (λ s. low n (omega (arith, a), s))) ∙ none) (next - (last + 1)) (omega (arith, l))
-]
 
 -- Of all runners, those that pass a test.
 
@@ -212,44 +141,6 @@ seen_from ps next pid x sid h e s =
     ∙ sym (ap (λ (o : Option Record). runner_from (processes_of ps next) (proc_of o)) e)
 
 -- What the placement has of a record.
-
-residence_pid : (x : Record) (l : RecordLife) (r : Residence) → residence_by x l ≡ Some r → r.pid ≡ x.pid
-residence_pid x lives.New r e = sym (ap (λ (y : Residence). y.pid) (same_Some _ r e))
-residence_pid x (lives.Holds sid) r e = sym (ap (λ (y : Residence). y.pid) (same_Some _ r e))
-residence_pid x (lives.Lends sid child) r e = sym (ap (λ (y : Residence). y.pid) (same_Some _ r e))
-residence_pid x (lives.Zombie status) r e = none_some r e
-
-found_residence : (n : ℕ) (ps : List Record) (r : Residence) → residence_of (find n ps) ≡ Some r → r.pid ≡ n
-found_residence n ps r e = go (find n ps) refl e
-  where
-    go : (o : Option Record) → find n ps ≡ o → residence_of o ≡ Some r → r.pid ≡ n
-    go None f k = none_some r k
-    go (Some x) f k = residence_pid x x.state r k ∙ found_pid n ps x f
-
-res_hit : (pid : ℕ) (r : Residence) (rs : List Residence) → r.pid ≡ pid → swapper.residence_of (r ∷ rs) pid ≡ r
-res_hit pid r rs e = grind (arith, nat_tests)
-
-res_miss : (pid : ℕ) (r : Residence) (rs : List Residence) → r.pid ≢ pid → swapper.residence_of (r ∷ rs) pid ≡ swapper.residence_of rs pid
-res_miss pid r rs e = grind (arith, nat_tests)
-
-residence_over : (ps : List Record) (pid : ℕ) (r : Residence) (a k : ℕ) → a ≤ pid → pid < a + k → residence_of (find pid ps) ≡ Some r
-    → swapper.residence_of (filter_map (λ n. residence_of (find n ps)) (range_with_len a k)) pid ≡ r
-residence_over ps pid r a zero l m e = absurd (omega arith)
-residence_over ps pid r a (suc k) l m e = elim (cases_eq a pid) [
-  | inl i ↦
-      let here : residence_of (find a ps) ≡ Some r = ap (λ (n : ℕ). residence_of (find n ps)) i ∙ e in
-      ap (λ (rs : List Residence). swapper.residence_of rs pid) (keeps_some (λ n. residence_of (find n ps)) a (range_with_len (a + 1) k) r here)
-      ∙ res_hit pid r (filter_map (λ n. residence_of (find n ps)) (range_with_len (a + 1) k)) (found_residence a ps r here ∙ i)
-  | inr d ↦ go (residence_of (find a ps)) refl d (residence_over ps pid r (a + 1) k (let x : (a ≡ pid → ⊥) = d in omega (arith, x)) (omega arith) e)
-]
-  where
-    go : (o : Option Residence) → residence_of (find a ps) ≡ o → a ≢ pid → swapper.residence_of (filter_map (λ n. residence_of (find n ps)) (range_with_len (a + 1) k)) pid ≡ r
-        → swapper.residence_of (filter_map (λ n. residence_of (find n ps)) (range_with_len a (suc k))) pid ≡ r
-    go None f d more = ap (λ (rs : List Residence). swapper.residence_of rs pid) (keeps_none (λ n. residence_of (find n ps)) a (range_with_len (a + 1) k) f) ∙ more
-    go (Some y) f d more =
-        ap (λ (rs : List Residence). swapper.residence_of rs pid) (keeps_some (λ n. residence_of (find n ps)) a (range_with_len (a + 1) k) y f)
-        ∙ res_miss pid y (filter_map (λ n. residence_of (find n ps)) (range_with_len (a + 1) k)) (λ h. d (sym (found_residence a ps y f) ∙ h))
-        ∙ more
 
 pub placed : (p : Placement) (ps : List Record) (next pid : ℕ) (x : Record) (sid : ℕ) → HasResidents p ps next → 1 ≤ pid → pid < next → find pid ps ≡ Some x → x.state ≡ lives.Holds sid
     → (x.out ≡ is_out p x.pid) × (x.since ≡ (swapper.residence_of p.residents x.pid).since)

@@ -4,7 +4,7 @@ use Rattle.page_model.specs.Placement.{Placement}
 use Rattle.page_model.specs.Swapper.{Runner, is_larger, ranked_in, ranked}
 use Rattle.swapper.specs.declared.largest.Measured.{Measured}
 use Rattle.swapper.specs.Runners.{runner_seen, runner_measured, listed_in, moved_on, placed_in, placed_with}
-use Rattle.swapper.proofs.Numbers.{over, over_none, over_some}
+use Rattle.machine_state.proofs.ByNumber.{over, over_none, over_some}
 
 take_nil : (n : ℕ) → take {A = Runner} n [] ≡ []
 take_nil zero = refl

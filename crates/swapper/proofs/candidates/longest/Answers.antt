@@ -3,7 +3,8 @@ use Rattle.proc_table.specs.Records.{find, Lowest}
 use Rattle.page_model.specs.Swapper.{Runner}
 use Rattle.machine_state.specs.Machine.{proc_of, processes_of}
 use Rattle.swapper.specs.Runners.{runner_of, runner_from, runners_above, passes, kept, longer_with, longest_from}
-use Rattle.swapper.proofs.Numbers.{all_above, above_next, above_none, next_is, longest_start, longest_last, longest_step}
+use Rattle.machine_state.proofs.ByNumber.{next_is}
+use Rattle.swapper.proofs.Numbers.{all_above, above_next, above_none, longest_start, longest_last, longest_step}
 use Rattle.swapper.proofs.candidates.longest.Goals as goal
 
 pub loop-pid-init : goal.loop-pid-init

@@ -4,7 +4,8 @@ use Rattle.page_model.specs.Swapper.{Runner, ranked}
 use Rattle.machine_state.specs.Machine.{proc_of, processes_of}
 use Rattle.swapper.specs.declared.candidates.Kind.TheVariants as kinds
 use Rattle.swapper.specs.Runners.{runner_from, passes, kept, options_of, listed_in}
-use Rattle.swapper.proofs.Numbers.{above_next, above_none, next_is}
+use Rattle.machine_state.proofs.ByNumber.{next_is}
+use Rattle.swapper.proofs.Numbers.{above_next, above_none}
 use Rattle.swapper.proofs.Ranking.{ranked_step}
 use Rattle.swapper.proofs.largest.+four_largest.Goals as goal
 
