@@ -34,13 +34,13 @@ owned_over A entries m text bound size within over told = record {
 }
 
 pub owned_full : (A : Inputs) (entries : ℕ) (m : Standing) (text : List ℕ) → m.params.journal ≡ entries → m.params.swap_blocks ≡ A.swap_blocks
-    → length m.kernel.journal ≤ m.params.journal → m.params.journal ≤ length m.kernel.journal → RunFull A m → text ≡ owners_of m false → SaysOwners entries A text
-owned_full A entries m text bound size within reached full told = record {
+    → length m.kernel.journal ≤ m.params.journal → RunFull A m → text ≡ owners_of m false → SaysOwners entries A text
+owned_full A entries m text bound size within full told = record {
   journal = m.kernel.journal;
   state = full.state;
   made = full.made;
   over = false;
-  ends = (omega (arith, bound, within, reached), (full.unit, full.next, full.longer));
+  ends = (let reached = full.bound in omega (arith, bound, within, reached), (full.unit, full.next, full.longer));
   told = told ∙ lines_there A full.state m false full.stands size;
 }
 

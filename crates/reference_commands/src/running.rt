@@ -87,16 +87,13 @@ fn lines_over<'a>(alloc: Global, machine: &Machine) -> Result<Vec<u8>, Fault<'a>
     }
 }
 
-// The lines of a machine with these sizes, whose journal is full: at its bound, though no clause of its run says so.
+// The lines of a machine with these sizes, whose journal is full.
 fn lines_full<'a>(alloc: Global, machine: &Machine) -> Result<Vec<u8>, Fault<'a>>
     requires running { machine.now.kernel.stopped ≡ false }
     ensures { (A : Inputs) (entries : ℕ) → machine.now.params.journal ≡ entries → machine.now.params.swap_blocks ≡ A.swap_blocks
         → RunFull A machine.now → EndsAnswer (questions.Owners entries) A (ending_of result) }
 {
     machine.sound();
-    if machine.journal().len() < machine.params().journal as usize {
-        return Err(Fault::NoMemory);
-    }
     match lines_of(alloc, machine, false) {
         Ok(text) => Ok(text),
         Err(_) => Err(Fault::NoMemory),

@@ -231,6 +231,7 @@ module _ (A : Inputs) (hs : Holdings) (can : CanRun A hs) (few : length A.first 
         made = made_so;
         unit = y.entry;
         next = y.next;
+        bound = subst (λ (es : List Entry). new.params.journal ≤ length es) (sym x.journal) (y.full e).0;
         longer = subst (λ (es : List Entry). length es < length (append es y.entry)) (sym x.journal) (y.full e).1;
         stands = record {
           running = h.stopped ∙ makes_run A x.units (start A hs) x.state (machine_at_start A hs) x.kernel image x.leads.behind x.leads.makes;

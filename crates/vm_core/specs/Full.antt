@@ -1,5 +1,5 @@
 -- Where a machine stands behind a run: the run is over, or its journal is full.
-use Rattle.std.specs.Prelude.{◌≡◌, ◌<◌, false, length, map, Some, None}
+use Rattle.std.specs.Prelude.{◌≡◌, ◌<◌, ◌≤◌, false, length, map, Some, None}
 use Rattle.vm_facts.specs.declared.entry.Entry.{Entry}
 use Rattle.flat_state.specs.Flat.{Inputs}
 use Rattle.flat_state.specs.Journal.{append}
@@ -17,12 +17,13 @@ pub record StandsThere (s : State) (m : Standing) : Type 0 where
   pub holdings : m.before ≡ s.holdings
   pub processes : map outline_kept m.kernel.processes ≡ map outline_of s.point.flat.processes
 
--- The next unit isn't joined to the last entry, and the machine stands where its journal leads to.
+-- The journal is at its bound, the next unit isn't joined to the last entry, and the machine stands where its journal leads to.
 pub record RunFull (A : Inputs) (m : Standing) : Type 0 where
   pub state : State
   pub made : IsJournalOf A m.kernel.journal state
   pub unit : Entry
   pub next : next_unit A state ≡ Some unit
+  pub bound : m.params.journal ≤ length m.kernel.journal
   pub longer : length m.kernel.journal < length (append m.kernel.journal unit)
   pub stands : StandsThere state m
 

@@ -37,8 +37,8 @@ returns c =
       ends = c.run_schedule-end.ensures.ends A (blank_swap c.args.numbers.swap) is_asked c.in_ok-swap.ensures.zeros;
       full = c.run_schedule-end.ensures.full A (blank_swap c.args.numbers.swap) is_asked c.in_ok-swap.ensures.zeros;
       over = on_ok_so c.run_schedule-end.result
-        ((B : Inputs) (image : List ℕ) → IsAskedOf B c.in_ok-core.core.machine c.args.first.now c.args.lines.now (Some (map named_file c.args.files.now.files.items)) image → Some c.in_ok-swap.swap.image.items ≡ Some image
+          ((B : Inputs) (image : List ℕ) → IsAskedOf B c.in_ok-core.core.machine c.args.first.now c.args.lines.now (Some (map named_file c.args.files.now.files.items)) image → Some c.in_ok-swap.swap.image.items ≡ Some image
           → RunOver B c.run_schedule-end.new.core.machine)
-        (RunOver A c.run_schedule-end.new.core.machine)
-        (λ told. told A (blank_swap c.args.numbers.swap) is_asked c.in_ok-swap.ensures.zeros) c.run_schedule-end.ensures.over;
+          (RunOver A c.run_schedule-end.new.core.machine)
+          (λ told. told A (blank_swap c.args.numbers.swap) is_asked c.in_ok-swap.ensures.zeros) c.run_schedule-end.ensures.over;
     }
