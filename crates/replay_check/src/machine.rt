@@ -589,7 +589,8 @@ fn grown(process: &Process, address: u32) -> Deed
 
 // A call and its reply, from the registers that the instruction left.
 fn replied_deed(process: &Process, call: SystemCall, regs: Regs, reply: Reply) -> Deed
-    ensures value { (images : List NamedImage) (F : FlatState) (p : Record) (effect : Effect) → CanReply images reply → p.regs ≡ process.now.regs → effect.regs ≡ regs → step_by images F p effect.writes result ≡ replied_step images F p call effect reply }
+    ensures value { (images : List NamedImage) (F : FlatState) (p : Record) (effect : Effect) → CanReply images reply → p.regs ≡ process.now.regs → effect.regs ≡ regs
+        → step_by images F p effect.writes result ≡ replied_step images F p call effect reply }
     ensures sound { (images : List NamedImage) → CanReply images reply → CanChange images result.change }
 {
     match reply {

@@ -185,7 +185,8 @@ impl Paged {
     ) -> Result<(), NoMemory>
         requires { length programs.now < 2 ^ 31 }
         ensures space { OnOk result (self.new.space ≡ self.old.space) }
-        ensures pages { (F : FlatState) (p : Record) (s : Space) (r : Result Effect Outcome) → stepped ≡ answer_of r → regs ≡ registers_after p.regs r → self.old.space ≡ puts s (writes_of r) → OnOk result (self.new.pages.items ≡ gathered self.old.pages.items (pages_of self.old.space (accesses_after programs.now F p s r))) }
+        ensures pages { (F : FlatState) (p : Record) (s : Space) (r : Result Effect Outcome) → stepped ≡ answer_of r → regs ≡ registers_after p.regs r → self.old.space ≡ puts s (writes_of r)
+            → OnOk result (self.new.pages.items ≡ gathered self.old.pages.items (pages_of self.old.space (accesses_after programs.now F p s r))) }
     {
         match stepped {
             Stepped::Call(number) => match SystemCall::numbered(number) {

@@ -178,7 +178,8 @@ impl<'a> Judge<'a> {
 
     // Whether so many instructions of a process are the next of a run.
     fn ran(&mut self, pid: u32, count: u32) -> Result<bool, NoMemory>
-        ensures verdict { (A : Inputs) (point : Point) → A.images ≡ self.old.programs.now → IsAt A self.old.machine self.old.last point → IfOk result (λ ok. IsVerdict A ok self.new.machine self.new.last (flat_units A (Some point) (units_with (Ran pid count) []))) }
+        ensures verdict { (A : Inputs) (point : Point) → A.images ≡ self.old.programs.now → IsAt A self.old.machine self.old.last point
+            → IfOk result (λ ok. IsVerdict A ok self.new.machine self.new.last (flat_units A (Some point) (units_with (Ran pid count) []))) }
         ensures programs { self.new.programs ≡ self.old.programs }
     {
         for _ in 0..count {
@@ -286,7 +287,8 @@ impl<'a> Judge<'a> {
         r0: u32,
         r1: u32,
     ) -> Result<bool, NoMemory>
-        ensures verdict { (A : Inputs) (point : Point) → A.images ≡ self.old.programs.now → IsAt A self.old.machine self.old.last point → IfOk result (λ ok. IsVerdict A ok self.new.machine self.new.last (flat_entry A point (Call pid number carry r0 r1))) }
+        ensures verdict { (A : Inputs) (point : Point) → A.images ≡ self.old.programs.now → IsAt A self.old.machine self.old.last point
+            → IfOk result (λ ok. IsVerdict A ok self.new.machine self.new.last (flat_entry A point (Call pid number carry r0 r1))) }
         ensures programs { self.new.programs ≡ self.old.programs }
     {
         if let Last::Wrote(of, call, regs) = self.last {
@@ -302,7 +304,8 @@ impl<'a> Judge<'a> {
 
     // Whether an entry is the next of a run.
     fn judge(&mut self, entry: &Entry) -> Result<bool, NoMemory>
-        ensures verdict { (A : Inputs) (point : Point) → A.images ≡ self.old.programs.now → IsAt A self.old.machine self.old.last point → IfOk result (λ ok. IsVerdict A ok self.new.machine self.new.last (flat_units A (Some point) (units_with entry.now []))) }
+        ensures verdict { (A : Inputs) (point : Point) → A.images ≡ self.old.programs.now → IsAt A self.old.machine self.old.last point
+            → IfOk result (λ ok. IsVerdict A ok self.new.machine self.new.last (flat_units A (Some point) (units_with entry.now []))) }
         ensures programs { self.new.programs ≡ self.old.programs }
     {
         match entry {
@@ -336,7 +339,8 @@ impl<'a> Judge<'a> {
 
     // Whether an entry is the next of a run that may have its instructions.
     pub fn accepts(&mut self, entry: &Entry) -> Result<bool, NoMemory>
-        ensures judged { (A : Inputs) (journal : List Entry) → A.images ≡ self.old.programs.now → HasTaken A self.old.machine self.old.last self.old.count journal → IfOk result (λ ok. HasJudged A ok self.new.machine self.new.last self.new.count (journal ++ entry.now ∷ [])) }
+        ensures judged { (A : Inputs) (journal : List Entry) → A.images ≡ self.old.programs.now → HasTaken A self.old.machine self.old.last self.old.count journal
+            → IfOk result (λ ok. HasJudged A ok self.new.machine self.new.last self.new.count (journal ++ entry.now ∷ [])) }
         ensures programs { self.new.programs ≡ self.old.programs }
     {
         let Some(count) = self.counted(entry) else {

@@ -84,7 +84,8 @@ impl<'a> Follower<'a> {
     }
 
     fn ran(&mut self, pid: u32, count: u32) -> Result<(), NoMemory>
-        ensures way { (A : Inputs) (units : List Unit) (whole : List PageName) → A.images ≡ self.old.programs.now → IsOnWay A self.old.machine self.old.refused self.old.pages.items (repeated (Ran pid 1) count units) whole → OnOk result (IsOnWay A self.new.machine self.new.refused self.new.pages.items units whole) }
+        ensures way { (A : Inputs) (units : List Unit) (whole : List PageName) → A.images ≡ self.old.programs.now → IsOnWay A self.old.machine self.old.refused self.old.pages.items (repeated (Ran pid 1) count units) whole
+            → OnOk result (IsOnWay A self.new.machine self.new.refused self.new.pages.items units whole) }
         ensures programs { self.new.programs ≡ self.old.programs }
     {
         for _ in 0..count {
@@ -95,7 +96,8 @@ impl<'a> Follower<'a> {
 
     // Goes on by an entry.
     fn follow(&mut self, entry: &Entry) -> Result<(), NoMemory>
-        ensures way { (A : Inputs) (units : List Unit) (whole : List PageName) → A.images ≡ self.old.programs.now → IsOnWay A self.old.machine self.old.refused self.old.pages.items (units_with entry.now units) whole → OnOk result (IsOnWay A self.new.machine self.new.refused self.new.pages.items units whole) }
+        ensures way { (A : Inputs) (units : List Unit) (whole : List PageName) → A.images ≡ self.old.programs.now → IsOnWay A self.old.machine self.old.refused self.old.pages.items (units_with entry.now units) whole
+            → OnOk result (IsOnWay A self.new.machine self.new.refused self.new.pages.items units whole) }
         ensures programs { self.new.programs ≡ self.old.programs }
     {
         match entry {
@@ -119,7 +121,8 @@ impl<'a> Follower<'a> {
 
 // The pages of the entries that follow.
 fn follow_all(follower: Follower<'_>, entries: &[Entry]) -> Result<Vec<Page>, NoMemory>
-    ensures { (A : Inputs) (whole : List PageName) → A.images ≡ follower.entry.programs.now → IsOnWay A follower.entry.machine follower.entry.refused follower.entry.pages.items (units_of entries.now) whole → IfOk result (λ pages. pages.items ≡ whole) }
+    ensures { (A : Inputs) (whole : List PageName) → A.images ≡ follower.entry.programs.now → IsOnWay A follower.entry.machine follower.entry.refused follower.entry.pages.items (units_of entries.now) whole
+        → IfOk result (λ pages. pages.items ≡ whole) }
 {
     let mut follower = follower;
     for entry in entries {
