@@ -6,8 +6,6 @@
 
 mod header;
 mod pages;
-#[cfg(test)]
-mod tests;
 
 pub use crate::header::{read_image, write_image};
 

@@ -7,6 +7,3 @@ mod word;
 
 pub use command::{Command, Numbers, read_words};
 pub use image_words::ImageWords;
-
-#[cfg(test)]
-mod tests;

@@ -260,6 +260,3 @@ impl CoreMap {
         slot::end_all(slots);
     }
 }
-
-#[cfg(test)]
-mod tests;

@@ -6,6 +6,3 @@ mod completing;
 mod slots;
 
 pub use completing::completes;
-
-#[cfg(test)]
-mod tests;

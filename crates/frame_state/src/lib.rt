@@ -20,9 +20,6 @@ use std::alloc::Global;
 use std::marker::Model;
 pub use vm_facts::NoMemory;
 
-#[cfg(test)]
-mod tests;
-
 /// A frame that nothing uses. It may still have the bytes of a page that it held.
 pub struct Free {
     number: u32,

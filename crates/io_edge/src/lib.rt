@@ -53,6 +53,3 @@ pub enum Moved {
 /// A transfer of bytes failed, as the error of a `Result`; a count of faults rose.
 #[derive(Clone, Copy, PartialEq, Eq, Debug, Drop)]
 pub struct Failed;
-
-#[cfg(test)]
-mod tests;

@@ -124,6 +124,3 @@ pub fn pick_put(space: &SpaceMap, core: &CoreMap, page: Page) -> u32
         _ => 1,
     }
 }
-
-#[cfg(test)]
-mod tests;

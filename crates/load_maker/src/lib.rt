@@ -11,8 +11,3 @@ mod text;
 pub use counts::{Counts, counts_of};
 pub use load::{Load, make_load};
 pub use text::load_text;
-
-#[cfg(test)]
-mod examples;
-#[cfg(test)]
-mod tests;

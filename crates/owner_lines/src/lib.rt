@@ -11,6 +11,3 @@ mod words;
 mod writing;
 
 pub use writing::write_owners;
-
-#[cfg(test)]
-mod tests;

@@ -136,6 +136,3 @@ pub fn check_plan(
     }
     Ok(replay.faults())
 }
-
-#[cfg(test)]
-mod tests;

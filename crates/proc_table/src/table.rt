@@ -146,6 +146,3 @@ fn lower(lowest: Option<u32>, pid: u32) -> u32
         None => pid,
     }
 }
-
-#[cfg(test)]
-mod tests;

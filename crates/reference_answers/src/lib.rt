@@ -63,6 +63,3 @@ fn count_lines(alloc: Global, numbered: &Numbered) -> Result<Vec<u8>, AllocError
     put_numbered_line(&mut text, b"pages ", numbered.pages.len() as u32)?;
     Ok(text)
 }
-
-#[cfg(test)]
-mod tests;

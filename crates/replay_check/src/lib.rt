@@ -19,6 +19,3 @@ pub use expecting::{Expected, Misfit, explain};
 pub use program::{Flat, are_images, are_numbers};
 pub use replaying::{Verdict, replay};
 pub use touching::references;
-
-#[cfg(test)]
-mod tests;

@@ -12,6 +12,3 @@ pub use command::replay_file;
 pub use explaining::explain_transcript;
 pub use images::load_images;
 pub use naming::{Naming, name_images};
-
-#[cfg(test)]
-mod tests;

@@ -11,6 +11,3 @@ mod writing;
 pub use command::{core_up_to, run_command};
 pub use loading::load_command;
 pub use paired::{JOURNAL_ENTRIES, run_paired};
-
-#[cfg(test)]
-mod tests;

@@ -10,6 +10,3 @@ pub use answers::{Loaded, Opened, Unread};
 pub use image_words::{first_images, image_names};
 pub use loading::{load_image, open_image};
 pub use reading::{read_file, read_whole};
-
-#[cfg(test)]
-mod tests;

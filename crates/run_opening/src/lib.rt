@@ -10,6 +10,3 @@ pub use devices::device_fault;
 pub use images::{OpenedImage, open_images};
 pub use opening::{Opening, open_run};
 pub use schedule::open_schedule;
-
-#[cfg(test)]
-mod tests;

@@ -20,6 +20,3 @@ pub use line::{put_named, put_page};
 pub use schedule_reader::read_schedule;
 pub use text::{write_entry, write_text};
 pub use transcript_reader::read_transcript;
-
-#[cfg(test)]
-mod tests;

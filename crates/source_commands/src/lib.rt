@@ -13,6 +13,3 @@ pub use laws::programs_are_images;
 pub use listing::list_file;
 pub use program_file::file_of;
 pub use source::assemble_file;
-
-#[cfg(test)]
-mod tests;

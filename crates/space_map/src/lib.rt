@@ -5,7 +5,5 @@
 
 mod page_table;
 mod space;
-#[cfg(test)]
-mod tests;
 
 pub use space::SpaceMap;

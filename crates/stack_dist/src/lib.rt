@@ -43,37 +43,3 @@ fn hits_to_faults(counts: &mut [u32], references: u32)
         *count = faults;
     }
 }
-
-#[cfg(test)]
-mod tests {
-    use super::*;
-    use std::test::Fail;
-
-    #[test]
-    fn faults_at_each_size(rt: HostRuntime) -> Result<(), Fail> {
-        let faults = curve(rt.alloc(), &[1, 2, 3, 4, 1, 2, 5, 1, 2, 3, 4, 5])?;
-        assert_eq!(rt; faults.as_slice(), [12, 12, 10, 8, 5].as_slice());
-        Ok(())
-    }
-
-    #[test]
-    fn no_references_give_no_entry(rt: HostRuntime) -> Result<(), Fail> {
-        let faults = curve(rt.alloc(), &[])?;
-        assert_eq!(rt; faults.len(), 0);
-        Ok(())
-    }
-
-    #[test]
-    fn one_page_faults_once(rt: HostRuntime) -> Result<(), Fail> {
-        let faults = curve(rt.alloc(), &[7, 7, 7, 7])?;
-        assert_eq!(rt; faults.as_slice(), [1].as_slice());
-        Ok(())
-    }
-
-    #[test]
-    fn distinct_pages_fault_at_every_size(rt: HostRuntime) -> Result<(), Fail> {
-        let faults = curve(rt.alloc(), &[9, 4, 0, 4_294_967_295])?;
-        assert_eq!(rt; faults.as_slice(), [4, 4, 4, 4].as_slice());
-        Ok(())
-    }
-}

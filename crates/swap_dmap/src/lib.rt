@@ -78,36 +78,3 @@ pub fn text_place_of(v: u32) -> (u32, u32)
     let pages = TEXT_PIECE / 2;
     (v / pages, v % pages * 2)
 }
-
-#[cfg(test)]
-mod tests {
-    use super::*;
-
-    #[test]
-    fn places_data_from_a_chunk_s_start_and_stack_from_its_end(rt: HostRuntime) {
-        assert_eq!(rt; place_of(0, false), (0, 0));
-        assert_eq!(rt; place_of(0, true), (0, 30));
-        assert_eq!(rt; place_of(16, false), (1, 0));
-        assert_eq!(rt; place_of(16, true), (1, 62));
-    }
-
-    #[test]
-    fn holds_as_few_chunks_as_will_do(rt: HostRuntime) {
-        assert_eq!(rt; chunks_for(0), 0);
-        assert_eq!(rt; chunks_for(96), 2);
-        assert_eq!(rt; chunks_for(98), 3);
-    }
-
-    #[test]
-    fn chunks_double_up_to_1024_blocks(rt: HostRuntime) {
-        assert_eq!(rt; chunk(4), 512);
-        assert_eq!(rt; chunk(5), 1024);
-        assert_eq!(rt; chunk(12), 1024);
-    }
-
-    #[test]
-    fn places_text_in_pieces_of_1024_blocks(rt: HostRuntime) {
-        assert_eq!(rt; text_place_of(511), (0, 1022));
-        assert_eq!(rt; text_place_of(512), (1, 0));
-    }
-}

@@ -95,6 +95,3 @@ fn place(image: u32) -> usize
 {
     image as usize - 1
 }
-
-#[cfg(test)]
-mod tests;

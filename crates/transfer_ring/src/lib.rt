@@ -9,6 +9,3 @@ pub mod transfer;
 
 pub use ring::TransferRing;
 pub use transfer::{Begun, Finished, Inbound, Outbound, Source, Transfer};
-
-#[cfg(test)]
-mod tests;

@@ -26,6 +26,3 @@ pub use laws::{first_refusal_decides, missing_bytes_only_stop, writes_are_allowe
 pub use reading::{read_byte, read_long};
 pub use refused::{Refused, SIGBUS, SIGFPE, SIGILL, SIGSEGV, signals_are_numbered};
 pub use stepping::{Stepped, step};
-
-#[cfg(test)]
-mod tests;

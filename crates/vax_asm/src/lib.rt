@@ -32,8 +32,3 @@ pub use program::assemble;
 pub use reasons::explain;
 pub use syntax::Label;
 pub use vm_facts::NoMemory;
-
-#[cfg(test)]
-mod examples;
-#[cfg(test)]
-mod tests;

@@ -18,9 +18,6 @@ ghost use Rattle.vax_pte.specs.Words.{IsInRange, PacksTo, usable_frame, place_bi
 ghost use Rattle.vax_pte.specs.declared.Place.{Place};
 ghost use Rattle.vax_pte.specs.declared.Pte.{Pte};
 
-#[cfg(test)]
-mod tests;
-
 /// Where the bytes of a page are, as far as its entry says.
 #[derive(Clone, Copy, Debug, PartialEq, Eq, Drop)]
 pub enum Place {

@@ -19,6 +19,3 @@ pub use page::{Page, PageState};
 pub use params::Params;
 pub use regs::Regs;
 pub use stop::{NoMemory, Stop};
-
-#[cfg(test)]
-mod examples;

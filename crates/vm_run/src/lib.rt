@@ -5,8 +5,6 @@
 mod command;
 mod explaining;
 mod laws;
-#[cfg(test)]
-mod tests;
 
 pub use command::vmrun;
 pub use explaining::explain;
