@@ -2,10 +2,10 @@
 use Rattle.std.proofs.Common.{◌≡◌, ◌⊎◌, inl, inr, ◌≤◌, ◌+◌, ℕ, Bool, true, false, if◌then◌else◌, nat_le, List, [], ◌∷◌, ◌++◌, length, Option, Some, None, refl, sym, ap, ◌∙◌, subst, arith}
 use Rattle.std.specs.Prelude.{◌&&◌, not, is_some}
 use Rattle.std.proofs.lemmas.Bool.Decides.{nat_tests}
-use Rattle.vax_asm.specs.declared.syntax.Statement.{Statement}
-use Rattle.vax_asm.specs.declared.syntax.Statement.TheVariants as statements
-use Rattle.vax_asm.specs.declared.syntax.SourceLine.{SourceLine}
-use Rattle.vax_asm.specs.declared.syntax.Definition.{Definition}
+use Rattle.asm_grammar.specs.declared.syntax.Statement.{Statement}
+use Rattle.asm_grammar.specs.declared.syntax.Statement.TheVariants as statements
+use Rattle.asm_grammar.specs.declared.syntax.SourceLine.{SourceLine}
+use Rattle.asm_grammar.specs.declared.syntax.Definition.{Definition}
 use Rattle.vax_asm.specs.Encoding.{or_zero}
 use Rattle.vax_asm.specs.Lines.{items_in}
 use Rattle.vax_asm.specs.Program.{IsProgramOf, line_bytes, bounded, address_after, item_size, labels_of, definitions, bss_in, item_bss, first_of, bss_found, is_new, is_up_to, statement_bytes, optional_bytes}

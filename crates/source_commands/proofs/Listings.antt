@@ -7,9 +7,9 @@ use Rattle.vax_code.specs.Grammar.{AreOctets}
 use Rattle.vax_code.specs.Reading.{decoded}
 use Rattle.vax_code.proofs.Law.{exact}
 use Rattle.vax_code.proofs.Lengths.{has_length}
-use Rattle.vax_asm.specs.Showing.{IsTextOf, ShowsAs}
-use Rattle.vax_asm.specs.declared.answers.Shown.{Shown}
-use Rattle.vax_asm.specs.declared.answers.Shown.TheVariants as shownings
+use Rattle.vax_disasm.specs.Showing.{IsTextOf, ShowsAs}
+use Rattle.vax_disasm.specs.declared.disassembly.Shown.{Shown}
+use Rattle.vax_disasm.specs.declared.disassembly.Shown.TheVariants as shownings
 use Rattle.source_commands.specs.Listing.{Listed, AreListed, IsListing, Moves, line_text, end_text, listing_text}
 
 -- an instruction has at least one byte

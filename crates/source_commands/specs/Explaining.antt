@@ -3,7 +3,7 @@ use Rattle.std.specs.Prelude.{◌≡◌, ℕ, List, [], ◌∷◌, ◌++◌, cod
 use Rattle.io_edge.specs.FileHolding.{NamedFile}
 use Rattle.vax_asm.specs.Values.{label_name}
 use Rattle.vax_asm.specs.Reasons.{ExplainsAs}
-use Rattle.vax_asm.specs.declared.syntax.Label.{Label}
+use Rattle.asm_grammar.specs.declared.syntax.Label.{Label}
 use Rattle.vax_asm.specs.declared.answers.Reason.{Reason}
 use Rattle.vax_asm.specs.declared.answers.Reason.TheVariants.{NoLineFeed, TooManyLines, LineTooLong, NotStatement, LabelTwice, UnknownLabel, ValueOutOfRange, BranchOutOfRange, OperandRefused, SecondBss, ProgramTooLong}
 use Rattle.vax_asm.specs.declared.answers.BadLine.{BadLine}

@@ -3,9 +3,9 @@ use Rattle.std.specs.Prelude.{◌≡◌, ◌≢◌, ◌≤◌, ◌<◌, ℕ, ◌
 use Rattle.vax_code.specs.declared.instr.Instr.{Instr}
 use Rattle.vax_code.specs.declared.instr.Decoded.TheVariants as decodings
 use Rattle.vax_code.specs.Reading.{decoded}
-use Rattle.vax_asm.specs.Showing.{hexadecimal_digit, IsTextOf}
-use Rattle.vax_asm.specs.declared.answers.Shown.{Shown}
-use Rattle.vax_asm.specs.declared.answers.Shown.TheVariants as shownings
+use Rattle.vax_disasm.specs.Showing.{hexadecimal_digit, IsTextOf}
+use Rattle.vax_disasm.specs.declared.disassembly.Shown.{Shown}
+use Rattle.vax_disasm.specs.declared.disassembly.Shown.TheVariants as shownings
 use Rattle.aout_image.specs.declared.Image.{Image}
 use Rattle.aout_image.specs.Image.{data_start_of, offset_of, given_of}
 

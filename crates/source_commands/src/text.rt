@@ -1,10 +1,10 @@
 // The text of a listing.
 ghost use Rattle.std.specs.Prelude.{◌≡◌, ◌≤◌, ◌<◌, ◌+◌, ◌/◌, ◌%◌, ◌^◌, ◌++◌, IfOk, OnOk, length};
-ghost use Rattle.vax_asm.specs.Showing.{ShowsAs, hexadecimal_digit};
+ghost use Rattle.vax_disasm.specs.Showing.{ShowsAs, hexadecimal_digit};
 ghost use Rattle.source_commands.specs.Listing.{address_text, line_text, end_text, Moves, IsListing};
 
 use std::alloc::{AllocError, Global};
-use vax_asm::{Shown, show};
+use vax_disasm::{Shown, show};
 
 fn hexadecimal_digit(digit: u32) -> u8
     requires { digit < 16 }

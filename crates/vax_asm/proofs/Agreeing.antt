@@ -8,23 +8,23 @@ use Rattle.vax_code.specs.declared.table.Row.{Row}
 use Rattle.vax_code.specs.Table.{slot_in}
 use Rattle.vax_code.specs.Operands.{width_of, is_read, is_address, is_branch}
 use Rattle.vax_code.specs.Grammar.{specifier}
-use Rattle.vax_asm.specs.Text.{◌>>=◌}
-use Rattle.vax_asm.specs.Encoding.{value_bits, displacement_bits, found, number_of_value, bits_of_value, plain_specifier, with_number, displacement_mode, displaced_bytes, place_bytes, leaves_index, indexed_bytes, literal_bytes, immediate_bytes, distance, branch_bits, target_bytes, branch_bytes, specifier_bytes, absent_bytes, operand_bytes, sentence_bytes}
+use Rattle.asm_grammar.specs.Text.{◌>>=◌}
+use Rattle.asm_grammar.specs.Encoding.{value_bits, displacement_bits, found, number_of_value, bits_of_value, plain_specifier, with_number, displacement_mode, displaced_bytes, place_bytes, leaves_index, indexed_bytes, literal_bytes, immediate_bytes, distance, branch_bits, target_bytes, branch_bytes, specifier_bytes, absent_bytes, operand_bytes, sentence_bytes}
 use Rattle.vax_asm.specs.Program.{operand_size, is_up_to, optional_size, value_bytes, statement_bytes, optional_bytes, within, bounded, is_new, bytes_behind}
 use Rattle.vax_asm.specs.Reasons.{unless, address_reason, value_reason, register_reason, place_reason, indexed_reason, target_reason, branch_reason, specifier_reason, absent_reason, operand_reason, sentence_reason, statement_reason, optional_reason, label_reason, line_reason}
-use Rattle.vax_asm.specs.declared.syntax.Number.{Number}
-use Rattle.vax_asm.specs.declared.syntax.Label.{Label}
-use Rattle.vax_asm.specs.declared.syntax.Value.{Value}
-use Rattle.vax_asm.specs.declared.syntax.Value.TheVariants as values
-use Rattle.vax_asm.specs.declared.syntax.Place.{Place}
-use Rattle.vax_asm.specs.declared.syntax.Place.TheVariants as places
-use Rattle.vax_asm.specs.declared.syntax.Written.{Written}
-use Rattle.vax_asm.specs.declared.syntax.Written.TheVariants as writtens
-use Rattle.vax_asm.specs.declared.syntax.Sentence.{Sentence}
-use Rattle.vax_asm.specs.declared.syntax.Statement.{Statement}
-use Rattle.vax_asm.specs.declared.syntax.Statement.TheVariants as statements
-use Rattle.vax_asm.specs.declared.syntax.SourceLine.{SourceLine}
-use Rattle.vax_asm.specs.declared.syntax.Definition.{Definition}
+use Rattle.asm_grammar.specs.declared.syntax.Number.{Number}
+use Rattle.asm_grammar.specs.declared.syntax.Label.{Label}
+use Rattle.asm_grammar.specs.declared.syntax.Value.{Value}
+use Rattle.asm_grammar.specs.declared.syntax.Value.TheVariants as values
+use Rattle.asm_grammar.specs.declared.syntax.Place.{Place}
+use Rattle.asm_grammar.specs.declared.syntax.Place.TheVariants as places
+use Rattle.asm_grammar.specs.declared.syntax.Written.{Written}
+use Rattle.asm_grammar.specs.declared.syntax.Written.TheVariants as writtens
+use Rattle.asm_grammar.specs.declared.syntax.Sentence.{Sentence}
+use Rattle.asm_grammar.specs.declared.syntax.Statement.{Statement}
+use Rattle.asm_grammar.specs.declared.syntax.Statement.TheVariants as statements
+use Rattle.asm_grammar.specs.declared.syntax.SourceLine.{SourceLine}
+use Rattle.asm_grammar.specs.declared.syntax.Definition.{Definition}
 use Rattle.vax_asm.specs.declared.answers.Reason.{Reason}
 use Rattle.vax_asm.specs.declared.answers.Reason.TheVariants as reasons
 use Rattle.vax_asm.proofs.Sizes.{operand_long, optional_long}

@@ -3,13 +3,13 @@ use Rattle.std.proofs.Common.{◌≡◌, ◌⊎◌, inl, inr, ℕ, zero, suc, �
 use Rattle.std.specs.Prelude.{if◌then◌else◌, is_some, ◌==◌}
 use Rattle.std.specs.Option.{unwrap_or}
 use Rattle.std.proofs.lemmas.List.{append-nil}
-use Rattle.vax_asm.specs.Text.{◌>>=◌}
-use Rattle.vax_asm.specs.Lines.{items_in, lines_in, item_of, put_before}
-use Rattle.vax_asm.specs.Encoding.{or_zero}
+use Rattle.asm_grammar.specs.Text.{◌>>=◌}
+use Rattle.asm_grammar.specs.Lines.{items_in, lines_in, item_of, put_before}
+use Rattle.asm_grammar.specs.Encoding.{or_zero}
 use Rattle.vax_asm.specs.Program.{item_size, address_after, item_definition, definitions, labels_of, bss_in, item_bss, first_of, bss_found, line_bytes, bytes_behind, laid, Puts, IsFirstBad}
-use Rattle.vax_asm.specs.declared.syntax.SourceLine.{SourceLine}
-use Rattle.vax_asm.specs.declared.syntax.Definition.{Definition}
-use Rattle.vax_asm.proofs.Spelled.{bind_some, some_same}
+use Rattle.asm_grammar.specs.declared.syntax.SourceLine.{SourceLine}
+use Rattle.asm_grammar.specs.declared.syntax.Definition.{Definition}
+use Rattle.asm_grammar.proofs.Spelled.{bind_some, some_same}
 use Rattle.vax_asm.proofs.Sizes.{line_long, behind_within}
 
 -- ---- no line is left

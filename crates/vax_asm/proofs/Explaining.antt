@@ -2,16 +2,16 @@
 use Rattle.std.proofs.Common.{◌≡◌, ℕ, ◌+◌, ◌-◌, ◌<◌, ◌≤◌, Bool, true, false, List, [], ◌∷◌, ◌++◌, length, take, Option, Some, None, refl, sym, ◌∙◌, ap, subst, arith, length-append, append_assoc}
 use Rattle.std.specs.Prelude.{if◌then◌else◌, is_some, is_none, nat_le, slice_get}
 use Rattle.std.proofs.lemmas.Bool.Decides.{nat_tests}
-use Rattle.vax_asm.specs.Text.{◌>>=◌}
-use Rattle.vax_asm.specs.Lines.{items_in, lines_in, item_of}
-use Rattle.vax_asm.specs.Encoding.{or_zero}
+use Rattle.asm_grammar.specs.Text.{◌>>=◌}
+use Rattle.asm_grammar.specs.Lines.{items_in, lines_in, item_of}
+use Rattle.asm_grammar.specs.Encoding.{or_zero}
 use Rattle.vax_asm.specs.Program.{item_size, optional_size, address_after, item_definition, definitions, labels_of, bss_in, first_of, bss_found, line_bytes, bytes_behind, Puts, IsFirstBad, IsProgramOf}
 use Rattle.vax_asm.specs.Reasons.{line_reason, outside_reason, reason_by, reason_behind, reason_of}
-use Rattle.vax_asm.specs.declared.syntax.SourceLine.{SourceLine}
-use Rattle.vax_asm.specs.declared.syntax.Definition.{Definition}
+use Rattle.asm_grammar.specs.declared.syntax.SourceLine.{SourceLine}
+use Rattle.asm_grammar.specs.declared.syntax.Definition.{Definition}
 use Rattle.vax_asm.specs.declared.answers.Reason.{Reason}
 use Rattle.vax_asm.specs.declared.answers.Reason.TheVariants as reasons
-use Rattle.vax_asm.proofs.Items.{item_by_line}
+use Rattle.asm_grammar.proofs.Items.{item_by_line}
 use Rattle.vax_asm.proofs.Sizes.{behind_parts, behind_within}
 use Rattle.vax_asm.proofs.Assembling.{Progress, progress_start, progress_step, progress_bad, progress_end, none_bad, put_bad, some_item}
 use Rattle.vax_asm.proofs.Standing.{stands_at}

@@ -1,16 +1,5 @@
-pub mod Fronts
-pub mod Digits
-pub mod Spelled
-pub mod Rows
-pub mod Naming
-pub mod Hexadecimal
-pub mod Same
-pub mod Respelled
-pub mod Reread
-pub mod Resaid
-pub mod Shows
+pub use Rattle.asm_grammar.proofs.Spelled
 pub mod Places
-pub mod Items
 pub mod Sizes
 pub mod Assembling
 pub mod Standing

@@ -7,11 +7,11 @@ use Rattle.std.specs.Cmp.Lexicographic.{pointwise, same_text}
 use Rattle.std.specs.HashMap.{HashMap, get, Updates}
 use Rattle.std.specs.declared.hash.FoldHasher.{FoldHasher}
 use Rattle.std.specs.declared.hash.BuildHasherDefault.{BuildHasherDefault}
-use Rattle.vax_asm.specs.Text.{◌>>=◌}
-use Rattle.vax_asm.specs.Encoding.{found}
+use Rattle.asm_grammar.specs.Text.{◌>>=◌}
+use Rattle.asm_grammar.specs.Encoding.{found}
 use Rattle.vax_asm.specs.Places.{one_later, place_in, ArePlaces}
-use Rattle.vax_asm.specs.declared.syntax.Label.{Label}
-use Rattle.vax_asm.specs.declared.syntax.Definition.{Definition}
+use Rattle.asm_grammar.specs.declared.syntax.Label.{Label}
+use Rattle.asm_grammar.specs.declared.syntax.Definition.{Definition}
 
 -- where nothing is defined
 pub found_none : (label : Label) → found [] label ≡ None

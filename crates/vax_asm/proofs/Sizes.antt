@@ -8,21 +8,21 @@ use Rattle.vax_code.specs.Table.{slot_in}
 use Rattle.vax_code.specs.Operands.{width_of, is_read, is_address, is_branch}
 use Rattle.vax_code.specs.Grammar.{specifier}
 use Rattle.std.proofs.lemmas.List.{length-replicate}
-use Rattle.vax_asm.specs.Text.{◌>>=◌}
-use Rattle.vax_asm.specs.Encoding.{bits_of_value, displacement_bits, displacement_mode, plain_specifier, with_number, displaced_bytes, place_bytes, leaves_index, indexed_bytes, literal_bytes, immediate_bytes, distance, branch_bits, target_bytes, branch_bytes, specifier_bytes, absent_bytes, operand_bytes, sentence_bytes}
+use Rattle.asm_grammar.specs.Text.{◌>>=◌}
+use Rattle.asm_grammar.specs.Encoding.{bits_of_value, displacement_bits, displacement_mode, plain_specifier, with_number, displaced_bytes, place_bytes, leaves_index, indexed_bytes, literal_bytes, immediate_bytes, distance, branch_bits, target_bytes, branch_bytes, specifier_bytes, absent_bytes, operand_bytes, sentence_bytes}
 use Rattle.vax_asm.specs.Program.{number_size, place_size, operand_size, sentence_size, is_up_to, statement_size, optional_size, item_size, definitions, address_after, bss_found, value_bytes, statement_bytes, optional_bytes, within, bounded, is_new, bytes_behind, line_bytes}
-use Rattle.vax_asm.specs.declared.syntax.Number.{Number}
-use Rattle.vax_asm.specs.declared.syntax.Value.{Value}
-use Rattle.vax_asm.specs.declared.syntax.Place.{Place}
-use Rattle.vax_asm.specs.declared.syntax.Place.TheVariants as places
-use Rattle.vax_asm.specs.declared.syntax.Written.{Written}
-use Rattle.vax_asm.specs.declared.syntax.Written.TheVariants as writtens
-use Rattle.vax_asm.specs.declared.syntax.Sentence.{Sentence}
-use Rattle.vax_asm.specs.declared.syntax.Statement.{Statement}
-use Rattle.vax_asm.specs.declared.syntax.Statement.TheVariants as statements
-use Rattle.vax_asm.specs.declared.syntax.SourceLine.{SourceLine}
-use Rattle.vax_asm.specs.declared.syntax.Definition.{Definition}
-use Rattle.vax_asm.proofs.Spelled.{bind_some, some_same, some_if, some_unless, le_of, kind_sized}
+use Rattle.asm_grammar.specs.declared.syntax.Number.{Number}
+use Rattle.asm_grammar.specs.declared.syntax.Value.{Value}
+use Rattle.asm_grammar.specs.declared.syntax.Place.{Place}
+use Rattle.asm_grammar.specs.declared.syntax.Place.TheVariants as places
+use Rattle.asm_grammar.specs.declared.syntax.Written.{Written}
+use Rattle.asm_grammar.specs.declared.syntax.Written.TheVariants as writtens
+use Rattle.asm_grammar.specs.declared.syntax.Sentence.{Sentence}
+use Rattle.asm_grammar.specs.declared.syntax.Statement.{Statement}
+use Rattle.asm_grammar.specs.declared.syntax.Statement.TheVariants as statements
+use Rattle.asm_grammar.specs.declared.syntax.SourceLine.{SourceLine}
+use Rattle.asm_grammar.specs.declared.syntax.Definition.{Definition}
+use Rattle.asm_grammar.proofs.Spelled.{bind_some, some_same, some_if, some_unless, le_of, kind_sized}
 
 -- ---- operands
 

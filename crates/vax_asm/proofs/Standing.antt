@@ -8,21 +8,21 @@ use Rattle.vax_code.specs.Table.{row_for}
 use Rattle.vax_code.specs.Reading.{decoded}
 use Rattle.vax_code.specs.Grammar.{BeginsWith}
 use Rattle.vax_code.proofs.Law.{is_decoded}
-use Rattle.vax_asm.specs.Text.{◌>>=◌, front_of, behind, after}
-use Rattle.vax_asm.specs.Values.{is_word_byte}
-use Rattle.vax_asm.specs.Mnemonics.{same_text}
-use Rattle.vax_asm.specs.Sentences.{sentence_of, is_short}
-use Rattle.vax_asm.specs.Encoding.{sentence_bytes, sentence_instruction}
-use Rattle.vax_asm.specs.Lines.{whole_value, whole_number, directive_by, directive_of, instruction_of, statement_of, label_before, unlabelled, labelled, behind_label, by_label, empty_line, line_by, line_of, lines_in, item_of, items_in}
+use Rattle.asm_grammar.specs.Text.{◌>>=◌, front_of, behind, after}
+use Rattle.asm_grammar.specs.Values.{is_word_byte}
+use Rattle.asm_grammar.specs.Mnemonics.{same_text}
+use Rattle.asm_grammar.specs.Sentences.{sentence_of, is_short}
+use Rattle.asm_grammar.specs.Encoding.{sentence_bytes, sentence_instruction}
+use Rattle.asm_grammar.specs.Lines.{whole_value, whole_number, directive_by, directive_of, instruction_of, statement_of, label_before, unlabelled, labelled, behind_label, by_label, empty_line, line_by, line_of, lines_in, item_of, items_in}
 use Rattle.vax_asm.specs.Program.{item_size, address_after, definitions, bss_found, statement_bytes, line_bytes, laid, StandsAt}
-use Rattle.vax_asm.specs.declared.syntax.Label.{Label}
-use Rattle.vax_asm.specs.declared.syntax.Sentence.{Sentence}
-use Rattle.vax_asm.specs.declared.syntax.Statement.{Statement}
-use Rattle.vax_asm.specs.declared.syntax.Statement.TheVariants as statements
-use Rattle.vax_asm.specs.declared.syntax.SourceLine.{SourceLine}
-use Rattle.vax_asm.specs.declared.syntax.Definition.{Definition}
-use Rattle.vax_asm.proofs.Spelled.{bind_some, some_same, sentence_encodes}
-use Rattle.vax_asm.proofs.Naming.{sentence_listed}
+use Rattle.asm_grammar.specs.declared.syntax.Label.{Label}
+use Rattle.asm_grammar.specs.declared.syntax.Sentence.{Sentence}
+use Rattle.asm_grammar.specs.declared.syntax.Statement.{Statement}
+use Rattle.asm_grammar.specs.declared.syntax.Statement.TheVariants as statements
+use Rattle.asm_grammar.specs.declared.syntax.SourceLine.{SourceLine}
+use Rattle.asm_grammar.specs.declared.syntax.Definition.{Definition}
+use Rattle.asm_grammar.proofs.Spelled.{bind_some, some_same, sentence_encodes}
+use Rattle.asm_grammar.proofs.Naming.{sentence_listed}
 use Rattle.vax_asm.proofs.Sizes.{behind_parts, line_long}
 
 -- ---- an instruction of a line is one of the table

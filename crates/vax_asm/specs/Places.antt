@@ -4,8 +4,8 @@ use Rattle.std.specs.Cmp.Lexicographic.{pointwise}
 use Rattle.std.specs.HashMap.{HashMap, get}
 use Rattle.std.specs.declared.hash.FoldHasher.{FoldHasher}
 use Rattle.std.specs.declared.hash.BuildHasherDefault.{BuildHasherDefault}
-use Rattle.vax_asm.specs.Mnemonics.{same_text}
-use Rattle.vax_asm.specs.declared.syntax.Definition.{Definition}
+use Rattle.asm_grammar.specs.Mnemonics.{same_text}
+use Rattle.asm_grammar.specs.declared.syntax.Definition.{Definition}
 
 -- the same place, where one more definition stands before it
 abbrev pub one_later : Option ℕ → Option ℕ

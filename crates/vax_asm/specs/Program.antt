@@ -7,21 +7,21 @@ use Rattle.vax_code.specs.declared.instr.Decoded.TheVariants as decodings
 use Rattle.vax_code.specs.Table.{slot_in}
 use Rattle.vax_code.specs.Operands.{width_of}
 use Rattle.vax_code.specs.Reading.{decoded}
-use Rattle.vax_asm.specs.Text.{◌>>=◌}
-use Rattle.vax_asm.specs.Encoding.{or_zero, found, bits_of_value, sentence_bytes, sentence_instruction}
-use Rattle.vax_asm.specs.Lines.{items_in}
-use Rattle.vax_asm.specs.declared.syntax.Label.{Label}
-use Rattle.vax_asm.specs.declared.syntax.Number.{Number}
-use Rattle.vax_asm.specs.declared.syntax.Value.{Value}
-use Rattle.vax_asm.specs.declared.syntax.Place.{Place}
-use Rattle.vax_asm.specs.declared.syntax.Place.TheVariants as places
-use Rattle.vax_asm.specs.declared.syntax.Written.{Written}
-use Rattle.vax_asm.specs.declared.syntax.Written.TheVariants as writtens
-use Rattle.vax_asm.specs.declared.syntax.Sentence.{Sentence}
-use Rattle.vax_asm.specs.declared.syntax.Statement.{Statement}
-use Rattle.vax_asm.specs.declared.syntax.Statement.TheVariants as statements
-use Rattle.vax_asm.specs.declared.syntax.SourceLine.{SourceLine}
-use Rattle.vax_asm.specs.declared.syntax.Definition.{Definition}
+use Rattle.asm_grammar.specs.Text.{◌>>=◌}
+use Rattle.asm_grammar.specs.Encoding.{or_zero, found, bits_of_value, sentence_bytes, sentence_instruction}
+use Rattle.asm_grammar.specs.Lines.{items_in}
+use Rattle.asm_grammar.specs.declared.syntax.Label.{Label}
+use Rattle.asm_grammar.specs.declared.syntax.Number.{Number}
+use Rattle.asm_grammar.specs.declared.syntax.Value.{Value}
+use Rattle.asm_grammar.specs.declared.syntax.Place.{Place}
+use Rattle.asm_grammar.specs.declared.syntax.Place.TheVariants as places
+use Rattle.asm_grammar.specs.declared.syntax.Written.{Written}
+use Rattle.asm_grammar.specs.declared.syntax.Written.TheVariants as writtens
+use Rattle.asm_grammar.specs.declared.syntax.Sentence.{Sentence}
+use Rattle.asm_grammar.specs.declared.syntax.Statement.{Statement}
+use Rattle.asm_grammar.specs.declared.syntax.Statement.TheVariants as statements
+use Rattle.asm_grammar.specs.declared.syntax.SourceLine.{SourceLine}
+use Rattle.asm_grammar.specs.declared.syntax.Definition.{Definition}
 use Rattle.vax_asm.specs.declared.answers.Assembled.{Assembled}
 use Rattle.vax_asm.specs.declared.answers.Assembled.TheVariants as assemblies
 

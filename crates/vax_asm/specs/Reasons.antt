@@ -5,24 +5,24 @@ use Rattle.vax_code.specs.declared.table.Slot.{Slot}
 use Rattle.vax_code.specs.declared.table.Row.{Row}
 use Rattle.vax_code.specs.Table.{slot_in}
 use Rattle.vax_code.specs.Operands.{is_read, is_address, is_branch}
-use Rattle.vax_asm.specs.Text.{◌>>=◌}
-use Rattle.vax_asm.specs.Sentences.{is_short}
-use Rattle.vax_asm.specs.Lines.{lines_in, item_of, items_in}
-use Rattle.vax_asm.specs.Encoding.{value_bits, displacement_bits, found, leaves_index, literal_bytes, target_bytes}
+use Rattle.asm_grammar.specs.Text.{◌>>=◌}
+use Rattle.asm_grammar.specs.Sentences.{is_short}
+use Rattle.asm_grammar.specs.Lines.{lines_in, item_of, items_in}
+use Rattle.asm_grammar.specs.Encoding.{value_bits, displacement_bits, found, leaves_index, literal_bytes, target_bytes}
 use Rattle.vax_asm.specs.Program.{operand_size, is_up_to, optional_size, address_after, definitions, labels_of, bss_found, IsProgramOf, IsFirstBad}
-use Rattle.vax_asm.specs.declared.syntax.Label.{Label}
-use Rattle.vax_asm.specs.declared.syntax.Number.{Number}
-use Rattle.vax_asm.specs.declared.syntax.Value.{Value}
-use Rattle.vax_asm.specs.declared.syntax.Value.TheVariants as values
-use Rattle.vax_asm.specs.declared.syntax.Place.{Place}
-use Rattle.vax_asm.specs.declared.syntax.Place.TheVariants as places
-use Rattle.vax_asm.specs.declared.syntax.Written.{Written}
-use Rattle.vax_asm.specs.declared.syntax.Written.TheVariants as writtens
-use Rattle.vax_asm.specs.declared.syntax.Sentence.{Sentence}
-use Rattle.vax_asm.specs.declared.syntax.Statement.{Statement}
-use Rattle.vax_asm.specs.declared.syntax.Statement.TheVariants as statements
-use Rattle.vax_asm.specs.declared.syntax.SourceLine.{SourceLine}
-use Rattle.vax_asm.specs.declared.syntax.Definition.{Definition}
+use Rattle.asm_grammar.specs.declared.syntax.Label.{Label}
+use Rattle.asm_grammar.specs.declared.syntax.Number.{Number}
+use Rattle.asm_grammar.specs.declared.syntax.Value.{Value}
+use Rattle.asm_grammar.specs.declared.syntax.Value.TheVariants as values
+use Rattle.asm_grammar.specs.declared.syntax.Place.{Place}
+use Rattle.asm_grammar.specs.declared.syntax.Place.TheVariants as places
+use Rattle.asm_grammar.specs.declared.syntax.Written.{Written}
+use Rattle.asm_grammar.specs.declared.syntax.Written.TheVariants as writtens
+use Rattle.asm_grammar.specs.declared.syntax.Sentence.{Sentence}
+use Rattle.asm_grammar.specs.declared.syntax.Statement.{Statement}
+use Rattle.asm_grammar.specs.declared.syntax.Statement.TheVariants as statements
+use Rattle.asm_grammar.specs.declared.syntax.SourceLine.{SourceLine}
+use Rattle.asm_grammar.specs.declared.syntax.Definition.{Definition}
 use Rattle.vax_asm.specs.declared.answers.Reason.{Reason}
 use Rattle.vax_asm.specs.declared.answers.Reason.TheVariants as reasons
 use Rattle.vax_asm.specs.declared.answers.BadLine.{BadLine}

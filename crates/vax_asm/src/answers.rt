@@ -1,6 +1,6 @@
 // What the calls answer.
 
-use crate::syntax::Label;
+use asm_grammar::Label;
 
 /// What a line is encoded as.
 #[derive(Clone, Copy, Debug, PartialEq, Eq)]
@@ -9,19 +9,6 @@ pub enum Encoded {
     Is { bytes: [u8; 24], length: u8 },
     /// The line is no instruction of the grammar in its ranges.
     Bad,
-}
-
-/// What bytes are shown as.
-#[derive(Clone, Copy, Debug, PartialEq, Eq)]
-pub enum Shown {
-    /// The first `length` bytes of the text are the instruction's, which has `size` bytes.
-    Is {
-        text: [u8; 120],
-        length: u8,
-        size: u8,
-    },
-    /// No instruction begins so.
-    NoInstruction,
 }
 
 /// What a source makes.

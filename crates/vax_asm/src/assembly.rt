@@ -1,15 +1,12 @@
 ghost use Rattle.std.specs.Prelude.{◌≡◌, ◌≤◌, [], length, IfSome};
-ghost use Rattle.vax_asm.specs.Encoding.{EncodesAs, sentence_bytes};
-ghost use Rattle.vax_asm.specs.Showing.{ShowsAs};
+ghost use Rattle.asm_grammar.specs.Encoding.{sentence_bytes};
+ghost use Rattle.vax_asm.specs.Encodes.{EncodesAs};
 
-use crate::answers::{Encoded, Shown};
-use crate::bytes::sentence_at;
+use crate::answers::Encoded;
 use crate::code::Code;
 use crate::encoding::sentence_bytes;
 use crate::labels::Labels;
-use crate::sentences::{is_short, sentence_of};
-use crate::showing::text_of;
-use crate::syntax::Sentence;
+use asm_grammar::{Sentence, is_short, sentence_of};
 
 // The bytes of an instruction that names no label.
 fn lone_bytes(at: u32, sentence: &Sentence) -> Option<Code>
@@ -36,16 +33,4 @@ pub fn encode(line: &[u8], at: u32) -> Encoded
         }
         None => Encoded::Bad,
     }
-}
-
-/// The text of the instruction that the bytes at an address begin with.
-pub fn show(bytes: &[u8], at: u32) -> Shown
-    ensures { ShowsAs bytes.now at result }
-{
-    let Some((sentence, rest)) = sentence_at(at, bytes) else {
-        return Shown::NoInstruction;
-    };
-    let size = (bytes.len() - rest.len()) as u8;
-    let (text, length) = text_of(&sentence).into_parts();
-    Shown::Is { text, length, size }
 }

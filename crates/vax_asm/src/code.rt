@@ -2,7 +2,7 @@
 ghost use Rattle.std.specs.Prelude.{◌≡◌, ℕ, ◌+◌, ◌≤◌, ◌<◌, List, [], ◌∷◌, ◌++◌, length, take};
 ghost use Rattle.std.specs.Int.{to_le_bytes};
 ghost use Rattle.vax_code.specs.Operands.{width_of};
-ghost use Rattle.vax_asm.specs.Encoding.{whole_of};
+ghost use Rattle.asm_grammar.specs.Encoding.{whole_of};
 
 use std::marker::Model;
 

@@ -1,34 +1,13 @@
 // The bytes that operands and instructions have.
 ghost use Rattle.std.specs.Prelude.{◌≡◌, ℕ, ◌+◌, ◌≤◌, ◌<◌, ◌⊎◌, ◌^◌, length, IfSome, Option, Some, None, List, []};
-ghost use Rattle.vax_asm.specs.Encoding.{whole_of, half_of, value_bits, displacement_bits, number_of_value, bits_of_value, plain_specifier, with_number, displacement_mode, place_bytes, leaves_index, indexed_bytes, literal_bytes, immediate_bytes, distance, branch_bits, target_bytes, displaced_bytes, branch_bytes, specifier_bytes, absent_bytes, operand_bytes, sentence_bytes};
+ghost use Rattle.asm_grammar.specs.Encoding.{whole_of, half_of, value_bits, displacement_bits, number_of_value, bits_of_value, plain_specifier, with_number, displacement_mode, place_bytes, leaves_index, indexed_bytes, literal_bytes, immediate_bytes, distance, branch_bits, target_bytes, displaced_bytes, branch_bytes, specifier_bytes, absent_bytes, operand_bytes, sentence_bytes};
 
 use crate::code::Code;
 use crate::labels::Labels;
-use crate::syntax::{Number, Place, Sentence, Value, Written};
+use asm_grammar::{Number, Place, Sentence, Value, Written, half_of, whole_of};
 use vax_code::{Access, Row, Slot};
 
-// How many numbers so many bytes hold.
-pub fn whole_of(size: u8) -> u64
-    ensures { result ≡ whole_of size }
-{
-    match size {
-        1 => 0x100,
-        2 => 0x1_0000,
-        _ => 0x1_0000_0000,
-    }
-}
-
-pub fn half_of(size: u8) -> u64
-    ensures { result ≡ half_of size }
-{
-    match size {
-        1 => 0x80,
-        2 => 0x8000,
-        _ => 0x8000_0000,
-    }
-}
-
-#[tactic(auto, unfolding(crate::specs::Encoding::value_bits))]
+#[tactic(auto, unfolding(asm_grammar::specs::Encoding::value_bits))]
 pub fn value_bits(size: u8, number: Number) -> Option<u32>
     ensures value { result ≡ value_bits size number }
     ensures fits { IfSome result (λ bits. bits < whole_of size) }
@@ -46,7 +25,7 @@ pub fn value_bits(size: u8, number: Number) -> Option<u32>
     Some(number.magnitude as u32)
 }
 
-#[tactic(auto, unfolding(crate::specs::Encoding::displacement_bits))]
+#[tactic(auto, unfolding(asm_grammar::specs::Encoding::displacement_bits))]
 pub fn displacement_bits(size: u8, number: Number) -> Option<u32>
     ensures value { result ≡ displacement_bits size number }
     ensures fits { IfSome result (λ bits. bits < whole_of size) }
@@ -57,7 +36,7 @@ pub fn displacement_bits(size: u8, number: Number) -> Option<u32>
     None
 }
 
-#[tactic(auto, unfolding(crate::specs::Encoding::number_of_value))]
+#[tactic(auto, unfolding(asm_grammar::specs::Encoding::number_of_value))]
 fn number_of_value(labels: &Labels, value: Value) -> Option<Number>
     ensures { result ≡ number_of_value labels.now value }
 {
@@ -73,7 +52,7 @@ fn number_of_value(labels: &Labels, value: Value) -> Option<Number>
     }
 }
 
-#[tactic(auto, unfolding(crate::specs::Encoding::bits_of_value))]
+#[tactic(auto, unfolding(asm_grammar::specs::Encoding::bits_of_value))]
 pub fn bits_of_value(labels: &Labels, size: u8, value: Value) -> Option<u32>
     ensures value { result ≡ bits_of_value labels.now size value }
     ensures fits { IfSome result (λ bits. bits < whole_of size) }
@@ -118,7 +97,7 @@ fn displacement_mode(size: u8, deferred: bool) -> u8
     if deferred { plain + 1 } else { plain }
 }
 
-#[tactic(auto, unfolding(crate::specs::Encoding::displaced_bytes))]
+#[tactic(auto, unfolding(asm_grammar::specs::Encoding::displaced_bytes))]
 fn displaced_bytes(size: u8, reg: u8, by: Number, deferred: bool) -> Option<Code>
     requires { reg < 16 }
     ensures value { result ≡ displaced_bytes size reg by deferred }
@@ -129,7 +108,7 @@ fn displaced_bytes(size: u8, reg: u8, by: Number, deferred: bool) -> Option<Code
     Some(with_number(first, size, bits))
 }
 
-#[tactic(auto, unfolding(crate::specs::Encoding::place_bytes))]
+#[tactic(auto, unfolding(asm_grammar::specs::Encoding::place_bytes))]
 fn place_bytes(labels: &Labels, place: Place) -> Option<Code>
     ensures value { result ≡ place_bytes labels.now place }
     ensures few { IfSome result (λ code. length code ≤ 5) }
@@ -162,7 +141,7 @@ pub fn leaves_index(index: u8, base: Place) -> bool
     }
 }
 
-#[tactic(auto, unfolding(crate::specs::Encoding::indexed_bytes))]
+#[tactic(auto, unfolding(asm_grammar::specs::Encoding::indexed_bytes))]
 fn indexed_bytes(labels: &Labels, index: u8, base: Place) -> Option<Code>
     ensures value { result ≡ indexed_bytes labels.now index base }
     ensures few { IfSome result (λ code. length code ≤ 6) }
@@ -189,7 +168,7 @@ pub fn literal_bytes(number: Number) -> Option<Code>
     Some(code)
 }
 
-#[tactic(auto, unfolding(crate::specs::Encoding::immediate_bytes))]
+#[tactic(auto, unfolding(asm_grammar::specs::Encoding::immediate_bytes))]
 fn immediate_bytes(labels: &Labels, slot: Slot, value: Value) -> Option<Code>
     ensures value { result ≡ immediate_bytes labels.now slot value }
     ensures few { IfSome result (λ code. length code ≤ 5) }
@@ -220,7 +199,7 @@ fn branch_bits(size: u8, by: u32) -> Option<u32>
     None
 }
 
-#[tactic(auto, unfolding(crate::specs::Encoding::target_bytes))]
+#[tactic(auto, unfolding(asm_grammar::specs::Encoding::target_bytes))]
 pub fn target_bytes(labels: &Labels, from: u64, slot: Slot, target: Value) -> Option<Code>
     requires { from < 2 ^ 40 }
     ensures value { result ≡ target_bytes labels.now from slot target }
@@ -234,7 +213,7 @@ pub fn target_bytes(labels: &Labels, from: u64, slot: Slot, target: Value) -> Op
     Some(code)
 }
 
-#[tactic(auto, unfolding(crate::specs::Encoding::branch_bytes))]
+#[tactic(auto, unfolding(asm_grammar::specs::Encoding::branch_bytes))]
 fn branch_bytes(labels: &Labels, from: u64, slot: Slot, written: Written) -> Option<Code>
     requires { from < 2 ^ 40 }
     ensures value { result ≡ branch_bytes labels.now from slot written }
@@ -246,7 +225,7 @@ fn branch_bytes(labels: &Labels, from: u64, slot: Slot, written: Written) -> Opt
     }
 }
 
-#[tactic(auto, unfolding(crate::specs::Encoding::specifier_bytes))]
+#[tactic(auto, unfolding(asm_grammar::specs::Encoding::specifier_bytes))]
 fn specifier_bytes(labels: &Labels, slot: Slot, written: Written) -> Option<Code>
     ensures value { result ≡ specifier_bytes labels.now slot written }
     ensures few { IfSome result (λ code. length code ≤ 6) }
@@ -274,7 +253,7 @@ fn absent_bytes(written: Written) -> Option<Code>
 }
 
 // The bytes of an operand whose first byte has this address.
-#[tactic(auto, unfolding(crate::specs::Encoding::operand_bytes))]
+#[tactic(auto, unfolding(asm_grammar::specs::Encoding::operand_bytes))]
 fn operand_bytes(labels: &Labels, from: u64, row: &Row, place: u8, written: Written) -> Option<Code>
     requires { from < 2 ^ 40 }
     ensures value { result ≡ operand_bytes labels.now from row.now place written }
@@ -291,7 +270,7 @@ fn operand_bytes(labels: &Labels, from: u64, row: &Row, place: u8, written: Writ
 }
 
 // The bytes of an instruction at an address.
-#[tactic(auto, unfolding(crate::specs::Encoding::sentence_bytes))]
+#[tactic(auto, unfolding(asm_grammar::specs::Encoding::sentence_bytes))]
 pub fn sentence_bytes(labels: &Labels, at: u32, sentence: &Sentence) -> Option<Code>
     ensures value { result ≡ sentence_bytes labels.now at sentence.now }
     ensures few { IfSome result (λ code. length code ≤ 19) }

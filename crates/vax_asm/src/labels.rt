@@ -1,8 +1,8 @@
 // The labels that lines define.
 ghost use Rattle.std.specs.Prelude.{◌≡◌, [], ◌∷◌, ◌++◌, IfOk, slice_get};
-ghost use Rattle.vax_asm.specs.Encoding.{found};
+ghost use Rattle.asm_grammar.specs.Encoding.{found};
 
-use crate::syntax::{Definition, Label};
+use asm_grammar::{Definition, Label};
 use std::alloc::Global;
 use std::collections::HashMap;
 use std::marker::Model;
@@ -18,7 +18,7 @@ pub struct LabelTable {
 
 impl Model for LabelTable {
     ghost use Rattle.std.specs.Prelude.{List};
-    ghost use Rattle.vax_asm.specs.declared.syntax.Definition.{Definition as Defined};
+    ghost use Rattle.asm_grammar.specs.declared.syntax.Definition.{Definition as Defined};
     ghost use Rattle.vax_asm.specs.Places.{ArePlaces};
 
     ghost Value = { List Defined };
@@ -80,7 +80,7 @@ pub struct Labels {
 
 impl Model for Labels {
     ghost use Rattle.std.specs.Prelude.{List};
-    ghost use Rattle.vax_asm.specs.declared.syntax.Definition.{Definition as Defined};
+    ghost use Rattle.asm_grammar.specs.declared.syntax.Definition.{Definition as Defined};
     ghost use Rattle.vax_asm.specs.Places.{defined_in};
 
     ghost Value = { List Defined };

@@ -6,9 +6,8 @@ use crate::answers::{Assembled, Program};
 use crate::code::Code;
 use crate::encoding::{bits_of_value, sentence_bytes};
 use crate::labels::{LabelTable, Labels};
-use crate::lines::next_item;
-use crate::syntax::{
-    Definition, Label, Number, Place, Sentence, SourceLine, Statement, Value, Written,
+use asm_grammar::{
+    Definition, Label, Number, Place, Sentence, SourceLine, Statement, Value, Written, next_item,
 };
 use std::alloc::Global;
 use vax_code::Row;

@@ -1,19 +1,20 @@
 // Why a line is bad.
 ghost use Rattle.std.specs.Prelude.{◌≡◌, ◌⊎◌, ◌+◌, ◌≤◌, ◌<◌, ◌^◌, true, IfOk, IfNone, Some};
 ghost use Rattle.std.specs.Option.{option_copied};
-ghost use Rattle.vax_asm.specs.Encoding.{found};
+ghost use Rattle.asm_grammar.specs.Encoding.{found};
 ghost use Rattle.vax_asm.specs.Program.{labels_of, HasSmallBss};
 ghost use Rattle.vax_asm.specs.Reasons.{unless, address_reason, value_reason, register_reason, place_reason, indexed_reason, target_reason, branch_reason, specifier_reason, absent_reason, operand_reason, sentence_reason, bss_reason, statement_reason, optional_reason, label_reason, line_reason, outside_reason, ExplainsAs};
 
 use crate::answers::{BadLine, Reason};
 use crate::encoding::{displacement_bits, leaves_index, literal_bytes, target_bytes, value_bits};
 use crate::labels::{LabelTable, Labels};
-use crate::lines::{item_of, next_line};
 use crate::program::{
     bss_after, define, is_up_to, item_size, labels_of, operand_size, statement_size,
 };
-use crate::sentences::is_short;
-use crate::syntax::{Label, Number, Place, Sentence, SourceLine, Statement, Value, Written};
+use asm_grammar::{
+    Label, Number, Place, Sentence, SourceLine, Statement, Value, Written, is_short, item_of,
+    next_line,
+};
 use std::alloc::Global;
 use vax_code::{Access, Row, Slot};
 use vm_facts::NoMemory;

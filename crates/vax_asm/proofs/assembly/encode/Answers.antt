@@ -1,6 +1,6 @@
 use Rattle.std.proofs.Common.{◌∙◌, ◌≤◌, sym, subst, List, [], ℕ, arith}
-use Rattle.vax_asm.proofs.Naming.{code_of, long_is_none, no_sentence_is_none, no_bytes_is_none}
-use Rattle.vax_asm.specs.Encoding.{IsCodeOf}
+use Rattle.asm_grammar.proofs.Naming.{code_of, long_is_none, no_sentence_is_none, no_bytes_is_none}
+use Rattle.asm_grammar.specs.Encoding.{IsCodeOf}
 use Rattle.vax_asm.proofs.assembly.encode.Goals as goal
 
 pub returns-then-not-is_short : goal.returns-then-not-is_short

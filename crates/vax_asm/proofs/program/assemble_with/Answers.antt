@@ -2,8 +2,8 @@ use Rattle.std.proofs.Common.{rules, ◌≡◌, ◌<◌, ◌∙◌, ap, arith, l
 use Rattle.std.specs.Prelude.{is_some}
 use Rattle.std.proofs.lemmas.Bool.Decides.{nat_tests}
 use Rattle.vax_asm.specs.Program.{Puts, item_definition, bytes_behind, line_bytes, labels_of}
-use Rattle.vax_asm.specs.Lines.{items_in}
-use Rattle.vax_asm.specs.declared.syntax.SourceLine.{SourceLine}
+use Rattle.asm_grammar.specs.Lines.{items_in}
+use Rattle.asm_grammar.specs.declared.syntax.SourceLine.{SourceLine}
 use Rattle.vax_asm.proofs.Assembling.{progress_step, progress_bad, none_bad, put_bad, put_as, some_item, progress_end, room_after, or_zero_is}
 use Rattle.vax_asm.proofs.Standing.{stands_at}
 use Rattle.vax_asm.proofs.program.assemble_with.Goals as goal

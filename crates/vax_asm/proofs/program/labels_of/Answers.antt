@@ -1,8 +1,8 @@
 use Rattle.std.proofs.Common.{rules, ◌∙◌, List, ◌++◌, take, ap, ◌≡◌, inl, inr, arith, length}
 use Rattle.std.proofs.lemmas.Bool.Decides.{nat_tests}
 use Rattle.vax_asm.specs.Program.{labels_of, definitions}
-use Rattle.vax_asm.specs.Lines.{items_in}
-use Rattle.vax_asm.specs.declared.syntax.Definition.{Definition}
+use Rattle.asm_grammar.specs.Lines.{items_in}
+use Rattle.asm_grammar.specs.declared.syntax.Definition.{Definition}
 use Rattle.vax_asm.proofs.Assembling.{labels_end, labels_step}
 use Rattle.vax_asm.proofs.program.labels_of.Goals.{then-loop-left-test+else-not-is_empty, else-loop-left-test}
 use Rattle.vax_asm.proofs.program.labels_of.Goals as goal

@@ -1,6 +1,6 @@
 -- The labels so far and those of what is left are all.
 use Rattle.std.proofs.Common.{◌≡◌, ◌+◌, ◌*◌, ◌≤◌, ◌++◌, take}
-use Rattle.vax_asm.specs.Lines.{items_in}
+use Rattle.asm_grammar.specs.Lines.{items_in}
 use Rattle.vax_asm.specs.Program.{definitions, labels_of}
 use Rattle.vax_asm.proofs.program.labels_of.Given as goal
 

@@ -1,5 +1,5 @@
 use Rattle.std.proofs.Common.{◌≡◌, ◌∙◌, sym, None}
-use Rattle.vax_asm.specs.Encoding.{found}
+use Rattle.asm_grammar.specs.Encoding.{found}
 use Rattle.vax_asm.proofs.Places.{none_found, some_found}
 use Rattle.vax_asm.proofs.labels.LabelTable.find.Goals as goal
 

@@ -1,0 +1,48 @@
+-- The numbers of a line.
+use Rattle.std.specs.Prelude.{⊤, IsTrue, ℕ, ◌==◌, ◌&&◌, ◌||◌, Bool, true, false, not, if◌then◌else◌, min, List, [], ◌∷◌, drop, Some, None}
+use Rattle.std.specs.Int.{is_in_range}
+use Rattle.std.specs.Str.Parse.{digits_value}
+use Rattle.asm_grammar.specs.Text.{◌>>=◌, Text, front_of, behind}
+use Rattle.asm_grammar.specs.declared.syntax.Number.{Number}
+
+-- a decimal digit, or a hexadecimal one in lower case
+abbrev pub is_digit : ℕ → ℕ → Bool
+is_digit base byte = is_in_range 48 57 byte || (base == 16) && is_in_range 97 102 byte
+
+-- A magnitude of 2^32 or more is in no range that a line has: it stands as 2^32.
+abbrev pub held : ℕ → ℕ
+held value = min value 4294967296
+
+abbrev pub numeral_of : ℕ → List ℕ → List ℕ → Text ℕ
+numeral_of base [] rest = None
+numeral_of base (first ∷ more) rest = Some (held (digits_value base (first ∷ more)), rest)
+
+-- one digit or more
+unfoldable pub numeral_at : ℕ → List ℕ → Text ℕ
+numeral_at base text = numeral_of base (front_of (is_digit base) text) (behind (is_digit base) text)
+
+-- each byte is a digit
+abbrev pub AreDigits : ℕ → List ℕ → Type 0
+AreDigits base [] = ⊤
+AreDigits base (byte ∷ bytes) = IsTrue (is_digit base byte) × AreDigits base bytes
+
+abbrev pub is_hexadecimal : List ℕ → Bool
+is_hexadecimal (first ∷ second ∷ rest) = (first == 48) && (second == 120)
+is_hexadecimal _ = false
+
+-- a decimal numeral, or `0x` and a hexadecimal one
+unfoldable pub magnitude_at : List ℕ → Text ℕ
+magnitude_at text = if is_hexadecimal text then numeral_at 16 (drop 2 text) else numeral_at 10 text
+
+-- a number that is zero has no sign
+abbrev pub signed : Bool → ℕ → Number
+signed minus magnitude = record { negative = minus && not (magnitude == 0); magnitude = magnitude }
+
+unfoldable pub signed_at : Bool → List ℕ → Text Number
+signed_at minus text = do
+  magnitude ← magnitude_at text
+  Some (signed minus magnitude.0, magnitude.1)
+
+unfoldable pub number_at : List ℕ → Text Number
+number_at [] = None
+number_at (first ∷ rest) = if first == 45 then signed_at true rest else signed_at false (first ∷ rest)

@@ -1,0 +1,43 @@
+-- Labels, and values, which are numbers or labels.
+use Rattle.std.specs.Prelude.{ℕ, ◌==◌, ◌&&◌, ◌||◌, Bool, if◌then◌else◌, nat_le, List, [], ◌∷◌, ◌++◌, length, drop, replicate, Some, None}
+use Rattle.std.specs.Int.{is_in_range}
+use Rattle.asm_grammar.specs.Text.{◌>>=◌, Text, front_of, behind}
+use Rattle.asm_grammar.specs.Numbers.{number_at}
+use Rattle.asm_grammar.specs.declared.syntax.Label.{Label}
+use Rattle.asm_grammar.specs.declared.syntax.Value.{Value}
+use Rattle.asm_grammar.specs.declared.syntax.Value.TheVariants as values
+
+abbrev pub is_label_start : ℕ → Bool
+is_label_start byte = is_in_range 97 122 byte || (byte == 95)
+
+-- a letter in lower case, `_` or a digit
+abbrev pub is_word_byte : ℕ → Bool
+is_word_byte byte = is_label_start byte || is_in_range 48 57 byte
+
+-- a label is kept in 16 bytes, with zeros behind it
+abbrev pub padded : List ℕ → List ℕ
+padded word = word ++ drop (length word) (replicate 16 0)
+
+-- the bytes of a label without the zeros
+abbrev pub label_name : List ℕ → List ℕ
+label_name bytes = front_of is_word_byte bytes
+
+abbrev pub label_of_word : List ℕ → List ℕ → Text Label
+label_of_word [] rest = None
+label_of_word (first ∷ more) rest =
+    if is_label_start first && nat_le (length (first ∷ more)) 16 then Some (record { bytes = padded (first ∷ more) }, rest)
+    else None
+
+-- a label has 1 to 16 bytes
+unfoldable pub label_at : List ℕ → Text Label
+label_at text = label_of_word (front_of is_word_byte text) (behind is_word_byte text)
+
+unfoldable pub value_label_at : List ℕ → Text Value
+value_label_at text = label_at text >>= λ label. Some (values.Label label.0, label.1)
+
+unfoldable pub value_number_at : List ℕ → Text Value
+value_number_at text = number_at text >>= λ number. Some (values.Number number.0, number.1)
+
+unfoldable pub value_at : List ℕ → Text Value
+value_at [] = None
+value_at (first ∷ rest) = if is_label_start first then value_label_at (first ∷ rest) else value_number_at (first ∷ rest)

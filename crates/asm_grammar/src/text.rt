@@ -1,0 +1,13 @@
+// Reading a text from its front.
+ghost use Rattle.asm_grammar.specs.Text.{Gives, after};
+
+// The text after this byte.
+#[tactic(auto, unfolding(crate::specs::Text::after))]
+pub fn after(byte: u8, text: &[u8]) -> Option<&[u8]>
+    ensures { Gives (λ rest. rest.now) result (after byte text.now) }
+{
+    match text {
+        [first, rest @ ..] if *first == byte => Some(rest),
+        _ => None,
+    }
+}

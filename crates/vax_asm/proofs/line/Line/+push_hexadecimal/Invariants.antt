@@ -1,4 +1,0 @@
-use Rattle.vax_asm.proofs.line.Line.+push_hexadecimal.Given as goal
-
-abbrev pub decreases-push_hexadecimal : goal.decreases-push_hexadecimal
-decreases-push_hexadecimal l = l.places
