@@ -12,7 +12,7 @@ use Rattle.flat_model.specs.Step.{flat_step}
 use Rattle.flat_model.specs.Run.{Point, is_refused, step_at, behind_first, due, due_at, first_if, act, behind, point_after, same_entry, same_as, may_follow, where_so, flat_entry_of, flat_entry_if, flat_entry, flat_units, flat_run, start_point}
 use Rattle.flat_model.specs.Touched.{touched}
 use Rattle.flat_model.proofs.StepEnds.{IsStepEnd, Shape, Empty, One, Two, step_shape}
-use Rattle.replay_check.specs.Judging.{state_if}
+use Rattle.flat_machine.specs.Machine.{state_if}
 use Rattle.replay_check.specs.Verdicts.{is_run, first_bad, instruction_limit, touched_by_unit, references_from, references_of}
 use Rattle.replay_check.specs.Following.{is_this, IsOnWay}
 

@@ -10,12 +10,12 @@ use Rattle.vm_facts.specs.declared.entry.Entry.TheVariants as entries
 use Rattle.flat_model.specs.declared.calls.SystemCall.{SystemCall}
 use Rattle.flat_model.specs.Step.{Step, flat_step, call_entry}
 use Rattle.flat_model.specs.Run.{Point, flat_entry, flat_entry_by, flat_entry_of, flat_entry_if, where_so, same_as, same_entry, act, first_if, due, due_at, is_refused, step_at, point_after, behind, may_follow, is_outcome_of, is_call_of, process_of_entry}
-use Rattle.replay_check.specs.declared.deed.Did.{Did}
-use Rattle.replay_check.specs.declared.deed.Did.TheVariants as deeds
+use Rattle.flat_machine.specs.declared.deed.Did.{Did}
+use Rattle.flat_machine.specs.declared.deed.Did.TheVariants as deeds
 use Rattle.replay_check.specs.declared.replaying.Last.{Last}
 use Rattle.replay_check.specs.declared.replaying.Last.TheVariants as lasts
-use Rattle.replay_check.specs.Machine.{entries_of}
-use Rattle.replay_check.specs.Judging.{state_if, entries_if, is_other, refused_in, begins, IsFree, IsAt, IsVerdict}
+use Rattle.flat_machine.specs.Machine.{entries_of, state_if, entries_if}
+use Rattle.replay_check.specs.Judging.{is_other, refused_in, begins, IsFree, IsAt, IsVerdict}
 
 free_last : (o : Option Entry) (pid : ℕ) (es : List Entry) (e : Entry) → IsFree o → (is_refused o pid ≡ false) × (due o pid es ≡ es) × (may_follow o e ≡ true)
 free_last None pid es e free = (refl, refl, refl)

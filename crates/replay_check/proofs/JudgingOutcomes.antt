@@ -8,12 +8,12 @@ use Rattle.flat_model.specs.declared.calls.SystemCall.{SystemCall}
 use Rattle.flat_model.specs.Calls.{number_of}
 use Rattle.flat_model.specs.Step.{flat_step, call_entry}
 use Rattle.flat_model.specs.Run.{Point, flat_entry, same_entry, same_carry}
-use Rattle.replay_check.specs.declared.deed.Did.{Did}
-use Rattle.replay_check.specs.declared.deed.Did.TheVariants as deeds
+use Rattle.flat_machine.specs.declared.deed.Did.{Did}
+use Rattle.flat_machine.specs.declared.deed.Did.TheVariants as deeds
 use Rattle.replay_check.specs.declared.replaying.Last.{Last}
 use Rattle.replay_check.specs.declared.replaying.Last.TheVariants as lasts
-use Rattle.replay_check.specs.Machine.{entries_of}
-use Rattle.replay_check.specs.Judging.{state_if, entries_if, refused_in, begins, IsAt, IsVerdict}
+use Rattle.flat_machine.specs.Machine.{entries_of, state_if, entries_if}
+use Rattle.replay_check.specs.Judging.{refused_in, begins, IsAt, IsVerdict}
 use Rattle.replay_check.proofs.Judging.{open_at, shut_at, blocked, sole_at}
 use Rattle.vm_facts.proofs.Tests.{eq_self}
 

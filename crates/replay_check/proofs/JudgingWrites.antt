@@ -9,12 +9,12 @@ use Rattle.vm_facts.specs.declared.entry.Entry.TheVariants as entries
 use Rattle.flat_model.specs.declared.calls.SystemCall.{SystemCall}
 use Rattle.flat_model.specs.Step.{Step, flat_step, call_entry}
 use Rattle.flat_model.specs.Run.{Point, flat_entry, where_so, same_as, same_entry, act, first_if, due, due_at, is_refused, step_at, point_after, behind, may_follow}
-use Rattle.replay_check.specs.declared.deed.Did.{Did}
-use Rattle.replay_check.specs.declared.deed.Did.TheVariants as deeds
+use Rattle.flat_machine.specs.declared.deed.Did.{Did}
+use Rattle.flat_machine.specs.declared.deed.Did.TheVariants as deeds
 use Rattle.replay_check.specs.declared.replaying.Last.{Last}
 use Rattle.replay_check.specs.declared.replaying.Last.TheVariants as lasts
-use Rattle.replay_check.specs.Machine.{entries_of}
-use Rattle.replay_check.specs.Judging.{state_if, entries_if, is_other, last_behind, begins, IsWriting, IsAt, IsVerdict}
+use Rattle.flat_machine.specs.Machine.{entries_of, state_if, entries_if}
+use Rattle.replay_check.specs.Judging.{is_other, last_behind, begins, IsWriting, IsAt, IsVerdict}
 use Rattle.replay_check.proofs.Judging.{free_at, busy_at, followed, blocked, entry_of, last_verdict}
 use Rattle.vm_facts.proofs.Tests.{eq_self}
 

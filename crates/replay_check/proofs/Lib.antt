@@ -1,15 +1,8 @@
-pub mod Loading
-pub mod Falling
-pub mod Lists
-pub mod Changing
-pub mod Short
-pub mod Stepping
 pub mod Judging
 pub mod JudgingGrowth
 pub mod JudgingOutcomes
 pub mod JudgingWrites
 pub mod Running
 pub mod Verdicts
-pub mod Paging
 pub mod Following
 pub mod Misfits

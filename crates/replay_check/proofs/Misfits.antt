@@ -13,18 +13,18 @@ use Rattle.flat_state.specs.Journal.{units_with, repeated, counted, instructions
 use Rattle.flat_model.specs.declared.calls.SystemCall.{SystemCall}
 use Rattle.flat_model.specs.Step.{Step, flat_step, call_entry}
 use Rattle.flat_model.specs.Run.{Point, act, due, due_at, first_if, flat_entry, flat_units, is_outcome_of, is_refused, may_follow, process_of_entry, step_at}
-use Rattle.replay_check.specs.declared.deed.Did.{Did}
-use Rattle.replay_check.specs.declared.deed.Did.TheVariants as deeds
+use Rattle.flat_machine.specs.declared.deed.Did.{Did}
+use Rattle.flat_machine.specs.declared.deed.Did.TheVariants as deeds
 use Rattle.replay_check.specs.declared.replaying.Last.{Last}
 use Rattle.replay_check.specs.declared.replaying.Last.TheVariants as lasts
 use Rattle.replay_check.specs.declared.expecting.Expected.{Expected}
 use Rattle.replay_check.specs.declared.expecting.Expected.TheVariants.{Comes, CannotStep, NoProcess, TooMany}
-use Rattle.replay_check.specs.Machine.{entries_of}
-use Rattle.replay_check.specs.Judging.{state_if, entries_if, refused_in, begins, is_other, IsFree, IsWriting, IsAt, IsVerdict, HasTaken}
+use Rattle.flat_machine.specs.Machine.{entries_of, state_if, entries_if}
+use Rattle.replay_check.specs.Judging.{refused_in, begins, is_other, IsFree, IsWriting, IsAt, IsVerdict, HasTaken}
 use Rattle.replay_check.specs.Verdicts.{instruction_limit, is_run, first_bad}
 use Rattle.replay_check.specs.Expecting.{begun, or_else, due_process, comes_if, missing, expected_by, expected_of, follows_if, comes_or, is_one, ran_or, RunsOnly, IsExpected, IsExpectedOf, IsExpectedAt, IsExpectedIf, IsExpectedBehind, IsMisfit}
 use Rattle.replay_check.proofs.Judging.{Opens, free_at, open_at}
-use Rattle.replay_check.proofs.Lists.{is_first, found_at, none_found}
+use Rattle.flat_machine.proofs.Lists.{is_first, found_at, none_found}
 use Rattle.replay_check.proofs.Running.{ran_at, ran_begins, ran_busy, units_one, skipped}
 use Rattle.replay_check.proofs.Verdicts.{taken_none, taken_run, next_front, bad_at, good_before}
 use Rattle.flat_state.proofs.Joins.{count-append}

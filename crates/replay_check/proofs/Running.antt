@@ -6,11 +6,11 @@ use Rattle.vm_facts.specs.declared.entry.Entry.TheVariants as entries
 use Rattle.flat_state.specs.Journal.{repeated, units_with}
 use Rattle.flat_model.specs.Step.{flat_step}
 use Rattle.flat_model.specs.Run.{Point, flat_entry, flat_units}
-use Rattle.replay_check.specs.declared.deed.Did.{Did}
-use Rattle.replay_check.specs.declared.deed.Did.TheVariants as deeds
+use Rattle.flat_machine.specs.declared.deed.Did.{Did}
+use Rattle.flat_machine.specs.declared.deed.Did.TheVariants as deeds
 use Rattle.replay_check.specs.declared.replaying.Last.{Last}
-use Rattle.replay_check.specs.Machine.{entries_of}
-use Rattle.replay_check.specs.Judging.{state_if, entries_if, is_other, begins, IsAt, IsVerdict}
+use Rattle.flat_machine.specs.Machine.{entries_of, state_if, entries_if}
+use Rattle.replay_check.specs.Judging.{is_other, begins, IsAt, IsVerdict}
 use Rattle.replay_check.proofs.Judging.{free_at, busy_at, blocked, sole_at}
 use Rattle.vm_facts.proofs.Tests.{eq_self}
 use Rattle.replay_check.proofs.JudgingGrowth.{other_last}

@@ -6,21 +6,12 @@ use Rattle.vm_facts.specs.declared.entry.Entry.TheVariants as entries
 use Rattle.flat_state.specs.Journal.{instructions_of}
 use Rattle.flat_model.specs.Step.{Step, flat_step, call_entry}
 use Rattle.flat_model.specs.Run.{Point, same_as, first_if, flat_run}
-use Rattle.replay_check.specs.declared.deed.Did.{Did}
-use Rattle.replay_check.specs.declared.deed.Did.TheVariants as deeds
-use Rattle.replay_check.specs.Machine.{entries_of}
+use Rattle.flat_machine.specs.declared.deed.Did.{Did}
+use Rattle.flat_machine.specs.declared.deed.Did.TheVariants as deeds
+use Rattle.flat_machine.specs.Machine.{entries_of}
 use Rattle.replay_check.specs.declared.replaying.Last.{Last}
 use Rattle.replay_check.specs.declared.replaying.Last.TheVariants as lasts
 use Rattle.replay_check.specs.Verdicts.{instruction_limit, is_run}
-
--- the state after a step, where the process can make one
-abbrev pub state_if : Bool → FlatState → Step → FlatState
-state_if true F step = step.after
-state_if false F step = F
-
-abbrev pub entries_if : Bool → Step → List Entry
-entries_if true step = step.entries
-entries_if false step = []
 
 -- what isn't completed yet stands in no such entry
 abbrev pub IsFree : Option Entry → Type 0

@@ -1,8 +1,5 @@
-pub mod Sizes
-pub mod Machine
-pub mod Images
+pub use Rattle.flat_process.specs.Images
 pub mod Verdicts
 pub mod Judging
-pub mod Present
 pub mod Following
 pub mod Expecting

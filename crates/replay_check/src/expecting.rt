@@ -5,17 +5,16 @@ ghost use Rattle.flat_state.specs.Journal.{counted, instructions_of};
 ghost use Rattle.vm_facts.specs.declared.entry.Entry.TheVariants.{Ran};
 ghost use Rattle.flat_model.specs.Step.{call_entry};
 ghost use Rattle.flat_model.specs.Run.{Point, first_if, flat_entry, is_outcome_of, process_of_entry};
-ghost use Rattle.replay_check.specs.Machine.{entries_of};
-ghost use Rattle.replay_check.specs.Images.{AreImageFiles, AreNumbers, images_of};
+ghost use Rattle.flat_machine.specs.Machine.{entries_of};
+ghost use Rattle.flat_process.specs.Images.{AreImageFiles, AreNumbers, images_of};
 ghost use Rattle.replay_check.specs.Judging.{refused_in, IsAt, IsVerdict, HasTaken};
 ghost use Rattle.replay_check.specs.Verdicts.{first_bad, instruction_limit};
 ghost use Rattle.replay_check.specs.Expecting.{follows_if, comes_if, comes_or, run_length, missing, is_one, expected_of, RunsOnly, IsExpected, IsExpectedAt, IsExpectedBehind, IsExplained};
 
-use crate::deed::Did;
-use crate::machine::Machine;
-use crate::program::{Flat, load_all};
 use crate::replaying::{Judge, Last, Verdict, replay};
+use flat_machine::{Did, Machine};
 use flat_model::SystemCall;
+use flat_process::{Flat, load_all};
 use std::alloc::Global;
 use vm_facts::{Entry, NoMemory, Regs};
 

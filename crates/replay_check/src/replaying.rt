@@ -1,19 +1,18 @@
 ghost use Rattle.std.specs.Prelude.{◌≡◌, ℕ, ◌+◌, ◌^◌, ◌<◌, ◌≤◌, ◌==◌, ◌&&◌, ◌++◌, ◌∷◌, [], List, length, Some, IfOk, IfSome, OnOk, MatchOption};
-ghost use Rattle.replay_check.specs.Images.{AreImageFiles, AreNumbers, images_of};
+ghost use Rattle.flat_process.specs.Images.{AreImageFiles, AreNumbers, images_of};
 ghost use Rattle.flat_state.specs.Flat.{Inputs, can_step};
 ghost use Rattle.user_vax.specs.Operands.{register};
 ghost use Rattle.flat_model.specs.Step.{flat_step, call_entry};
-ghost use Rattle.replay_check.specs.Machine.{entries_of};
-ghost use Rattle.replay_check.specs.Judging.{state_if, entries_if, is_other, refused_in, last_behind, begins, IsAt, IsVerdict, HasTaken, HasJudged};
+ghost use Rattle.flat_machine.specs.Machine.{entries_of, state_if, entries_if};
+ghost use Rattle.replay_check.specs.Judging.{is_other, refused_in, last_behind, begins, IsAt, IsVerdict, HasTaken, HasJudged};
 ghost use Rattle.replay_check.specs.Verdicts.{instruction_limit, first_bad, verdict_of};
 ghost use Rattle.flat_state.specs.Journal.{units_with, counted};
 ghost use Rattle.flat_model.specs.Run.{Point, flat_entry, flat_units, same_entry, same_carry};
 ghost use Rattle.vm_facts.specs.declared.entry.Entry.TheVariants.{Ran, Out, Grew, Call, Sleeps, Refused, Ended};
 
-use crate::deed::Did;
-use crate::machine::Machine;
-use crate::program::{Flat, Program, load_all};
+use flat_machine::{Did, Machine};
 use flat_model::SystemCall;
+use flat_process::{Flat, Program, load_all};
 use std::alloc::Global;
 use vm_facts::{Entry, NoMemory, Regs};
 

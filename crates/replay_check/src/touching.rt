@@ -5,14 +5,14 @@ ghost use Rattle.flat_state.specs.Flat.{Inputs, can_step};
 ghost use Rattle.flat_state.specs.Journal.{units_of, units_with, repeated};
 ghost use Rattle.flat_model.specs.Step.{flat_step};
 ghost use Rattle.flat_model.specs.Touched.{touched};
-ghost use Rattle.replay_check.specs.Images.{AreImageFiles, AreNumbers, images_of};
-ghost use Rattle.replay_check.specs.Judging.{state_if};
+ghost use Rattle.flat_process.specs.Images.{AreImageFiles, AreNumbers, images_of};
+ghost use Rattle.flat_machine.specs.Machine.{state_if};
 ghost use Rattle.replay_check.specs.Following.{is_this, IsOnWay};
 ghost use Rattle.replay_check.specs.Verdicts.{first_bad, references_of};
 ghost use Rattle.vm_facts.specs.declared.entry.Entry.TheVariants.{Ran};
 
-use crate::machine::Machine;
-use crate::program::{Flat, Program, load_all};
+use flat_machine::Machine;
+use flat_process::{Flat, Program, load_all};
 use std::alloc::Global;
 use vm_facts::{Entry, NoMemory, Page};
 

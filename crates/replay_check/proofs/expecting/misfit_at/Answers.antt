@@ -3,10 +3,10 @@ use Rattle.std.specs.Prelude.{IsSome}
 use Rattle.vm_facts.specs.declared.entry.Entry.{Entry}
 use Rattle.flat_state.specs.Flat.{NamedImage, image_numbered}
 use Rattle.replay_check.specs.declared.expecting.Expected.{Expected}
-use Rattle.replay_check.specs.Images.{images_of}
+use Rattle.flat_process.specs.Images.{images_of}
 use Rattle.replay_check.specs.Verdicts.{first_bad}
 use Rattle.replay_check.specs.Expecting.{IsExpectedBehind}
-use Rattle.replay_check.proofs.Loading.{images_count, first_numbered}
+use Rattle.flat_process.proofs.Loading.{images_count, first_numbered}
 use Rattle.replay_check.proofs.Verdicts.{taken_none}
 use Rattle.replay_check.proofs.Misfits.{number_some, good_first, misfit_is, never_none}
 use Rattle.replay_check.proofs.expecting.misfit_at.Goals as goal

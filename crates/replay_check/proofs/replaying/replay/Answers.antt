@@ -1,8 +1,8 @@
 use Rattle.std.proofs.Common.{◌≡◌, ℕ, List, length, All, sym, ap, ◌∙◌, subst, arith}
 use Rattle.std.specs.Prelude.{IsSome}
 use Rattle.flat_state.specs.Flat.{NamedImage, image_numbered}
-use Rattle.replay_check.specs.Images.{images_of}
-use Rattle.replay_check.proofs.Loading.{images_count, first_numbered}
+use Rattle.flat_process.specs.Images.{images_of}
+use Rattle.flat_process.proofs.Loading.{images_count, first_numbered}
 use Rattle.replay_check.proofs.Verdicts.{taken_none}
 use Rattle.replay_check.proofs.replaying.replay.Goals as goal
 

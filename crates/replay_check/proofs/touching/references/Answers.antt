@@ -1,9 +1,9 @@
 use Rattle.std.proofs.Common.{◌≡◌, ℕ, List, length, All, None, refl, sym, ap, ◌∙◌, subst, arith}
 use Rattle.std.specs.Prelude.{IsSome}
 use Rattle.flat_state.specs.Flat.{NamedImage, image_numbered}
-use Rattle.replay_check.specs.Images.{images_of}
+use Rattle.flat_process.specs.Images.{images_of}
 use Rattle.replay_check.specs.Verdicts.{references_of}
-use Rattle.replay_check.proofs.Loading.{images_count, first_numbered}
+use Rattle.flat_process.proofs.Loading.{images_count, first_numbered}
 use Rattle.replay_check.proofs.Following.{start_on}
 use Rattle.replay_check.proofs.touching.references.Goals as goal
 

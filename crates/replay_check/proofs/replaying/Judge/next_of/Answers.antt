@@ -4,7 +4,7 @@ use Rattle.vm_facts.specs.declared.entry.Entry.{Entry}
 use Rattle.vm_facts.specs.declared.entry.Entry.TheVariants.{Ran}
 use Rattle.flat_state.specs.Flat.{process_of}
 use Rattle.replay_check.specs.declared.expecting.Expected.{Expected}
-use Rattle.replay_check.specs.Machine.{entries_of}
+use Rattle.flat_machine.specs.Machine.{entries_of}
 use Rattle.replay_check.specs.Judging.{IsVerdict}
 use Rattle.replay_check.specs.Expecting.{comes_or, missing, is_one}
 use Rattle.replay_check.proofs.Misfits.{next_expected, one_verdict}

@@ -1,0 +1,4 @@
+pub mod Lists
+pub mod Changing
+pub mod Stepping
+pub mod Touches

@@ -1,0 +1,5 @@
+pub mod Loading
+pub mod Falling
+pub mod Short
+pub mod Hits
+pub mod Paging

@@ -1,0 +1,4 @@
+pub mod Sizes
+pub mod Images
+pub mod Present
+pub mod Holdings

@@ -1,6 +1,0 @@
-use Rattle.std.proofs.Common.{◌≡◌, map, take, drop, ◌++◌}
-use Rattle.flat_state.specs.Change.{awake}
-use Rattle.replay_check.proofs.machine.wake_all.Given as goal
-
-abbrev pub invariant-loop-place : goal.invariant-loop-place
-invariant-loop-place l = l.list.items ≡ map (awake l.pid) (take l.place l.fn.list.items) ++ drop l.place l.fn.list.items

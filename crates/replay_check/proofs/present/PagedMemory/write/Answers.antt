@@ -1,5 +1,0 @@
-use Rattle.replay_check.proofs.Paging.{present_put}
-use Rattle.replay_check.proofs.present.PagedMemory.write.Goals as goal
-
-pub returns : goal.returns
-returns c = present_put c.args.self.now.pages.items c.args.self.now.space c.write.new.self (record { address = c.args.address; byte = c.args.byte }) c.requires c.write.ensures

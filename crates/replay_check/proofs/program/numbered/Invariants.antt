@@ -1,5 +1,0 @@
-use Rattle.replay_check.proofs.Loading.{Searches}
-use Rattle.replay_check.proofs.program.numbered.Given as goal
-
-abbrev pub invariant-loop-place : goal.invariant-loop-place
-invariant-loop-place l = Searches l.programs l.name l.place
