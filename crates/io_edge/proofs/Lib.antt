@@ -4,3 +4,4 @@ pub mod Pages
 pub mod Stripes
 pub mod StripeWrites
 pub mod PairCalls
+pub mod ZeroEnds

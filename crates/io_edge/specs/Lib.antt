@@ -12,3 +12,4 @@ pub mod PairLeads
 pub mod StripeSizes
 pub mod FailedDevice
 pub mod Transfer
+pub mod Zeros

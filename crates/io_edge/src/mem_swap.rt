@@ -1,11 +1,12 @@
 // Swap devices in memory.
-ghost use Rattle.std.specs.Prelude.{◌≡◌, ◌+◌, ◌*◌, ◌%◌, ◌≤◌, ◌↔◌, ℕ, Some, List, length, IfOk, replicate, refl};
+ghost use Rattle.std.specs.Prelude.{◌≡◌, ◌+◌, ◌-◌, ◌*◌, ◌%◌, ◌≤◌, ◌↔◌, ◌++◌, ℕ, Some, List, length, IfOk, replicate, refl, vec_capacity};
 ghost use Rattle.std.proofs.Common.{◌∙◌, le_refl, le_trans, lit≤};
 ghost use Rattle.io_edge.specs.Calls.{ReadsSwap, WritesSwap};
 ghost use Rattle.io_edge.specs.Count.{Counts, OnDone, OnFailed};
 ghost use Rattle.io_edge.specs.Plan.{FailsNext, IsNewPlan, LaterCalls, NextCall};
 ghost use Rattle.io_edge.specs.PlanLaws.{later_itself, later_through};
-ghost use Rattle.io_edge.specs.SwapImage.{HoldsPage, SpoilsPage};
+ghost use Rattle.io_edge.specs.SwapImage.{HoldsPage, WritesPage, SpoilsPage};
+ghost use Rattle.io_edge.specs.Zeros.{with_zeros, length-with_zeros};
 ghost use Rattle.vm_facts.specs.Swap.{blocks_at, put_blocks};
 ghost use Rattle.io_edge.specs.Told.{told_length};
 
@@ -33,12 +34,32 @@ fn put_blocks(image: &mut [u8], block: usize, bytes: &[u8; 1024])
     image[start..start + 1024].copy_from_slice(bytes);
 }
 
-/// A swap device in memory that never fails.
+fn clear(buf: &mut [u8; 1024])
+    ensures { buf.new ≡ replicate 1024 0 }
+{
+    *buf = [0; 1024];
+}
+
+// Fills up with zeros to this length, for which there is room.
+fn grow(bytes: &mut Vec<u8>, len: usize)
+    requires { len ≤ vec_capacity bytes.old }
+    ensures items { bytes.new.items ≡ bytes.old.items ++ replicate (len - length bytes.old.items) 0 }
+    ensures capacity { vec_capacity bytes.old ≤ vec_capacity bytes.new }
+{
+    if bytes.len() < len {
+        let _ = bytes.resize(len, 0);
+    }
+}
+
+/// A swap device in memory that never fails. It keeps the bytes up to the last page that was written;
+/// the memory for all of them is had when it is made.
 #[derive(Drop)]
 pub struct SureSwap {
-    image: Vec<u8>,
+    written: Vec<u8>,
     blocks: u32,
-    ghost whole: { length image.items ≡ 512 * blocks },
+    ghost pages: { length written.items % 1024 ≡ 0 },
+    ghost within: { length written.items ≤ 512 * blocks },
+    ghost room: { 512 * blocks ≤ vec_capacity written },
 }
 
 impl SureSwap {
@@ -47,13 +68,26 @@ impl SureSwap {
         ensures blocks { IfOk result (λ swap. ⟦<SureSwap as SwapDev>⟧.blocks swap ≡ blocks) }
         ensures zeros { IfOk result (λ swap. ⟦<SureSwap as SwapDev>⟧.image swap ≡ Some (replicate (512 * blocks) 0)) }
     {
-        let image = vec![in alloc; 0u8; blocks as usize * 512]?;
-        Ok(SureSwap { image, blocks })
+        let written = Vec::with_capacity(alloc, blocks as usize * 512)?;
+        Ok(SureSwap { written, blocks })
+    }
+
+    // Reads a page; what wasn't written is zeros.
+    fn copy_out(&self, block: u32, buf: &mut [u8; 1024])
+        requires even { block % 2 ≡ 0 }
+        requires inside { block + 2 ≤ self.now.blocks }
+        ensures { buf.new ≡ blocks_at (with_zeros (512 * self.now.blocks) self.now.written.items) block }
+    {
+        if block as usize * 512 < self.written.len() {
+            copy_page(&self.written, block as usize, buf);
+        } else {
+            clear(buf);
+        }
     }
 }
 
 impl SwapDev for SureSwap {
-    ghost image = { λ d. Some d.image.items };
+    ghost image = { λ d. Some (with_zeros (512 * d.blocks) d.written.items) };
 
     ghost blocks = { λ d. d.blocks };
 
@@ -68,16 +102,18 @@ impl SwapDev for SureSwap {
     }
 
     fn read(&mut self, block: u32, buf: &mut [u8; 1024]) -> Moved {
-        copy_page(&self.image, block as usize, buf);
+        self.copy_out(block, buf);
         Moved::Done
     }
 
     fn write(&mut self, block: u32, bytes: &[u8; 1024]) -> Moved {
-        put_blocks(&mut self.image, block as usize, bytes);
+        grow(&mut self.written, block as usize * 512 + 1024);
+        put_blocks(&mut self.written, block as usize, bytes);
         Moved::Done
     }
 
-    ghost whole = { λ d bytes told. told_length d.image.items bytes (512 * d.blocks) told d.whole };
+    ghost whole = { λ d bytes told. told_length (with_zeros (512 * d.blocks) d.written.items) bytes (512 * d.blocks) told
+        (length-with_zeros (512 * d.blocks) d.written.items d.within) };
 
     ghost leads_nowhere = { λ _. refl };
 
@@ -128,7 +164,7 @@ impl MemSwap {
 }
 
 impl SwapDev for MemSwap {
-    ghost image = { λ d. Some d.store.image.items };
+    ghost image = { λ d. Some (with_zeros (512 * d.store.blocks) d.store.written.items) };
 
     ghost blocks = { λ d. d.store.blocks };
 
@@ -147,7 +183,7 @@ impl SwapDev for MemSwap {
         requires even { block % 2 ≡ 0 }
         requires inside { block + 2 ≤ self.old.store.blocks }
         ensures kept { ReadsSwap ⟦<MemSwap as SwapDev>⟧ self.old self.new }
-        ensures done { OnDone result (HoldsPage (Some self.old.store.image.items) block buf.new) }
+        ensures done { OnDone result (HoldsPage (⟦<MemSwap as SwapDev>⟧.image self.old) block buf.new) }
         ensures read_faults { Counts result self.old.read_faults self.new.read_faults }
 
         // Just the reads whose numbers are listed fail.
@@ -166,13 +202,13 @@ impl SwapDev for MemSwap {
         requires even { block % 2 ≡ 0 }
         requires inside { block + 2 ≤ self.old.store.blocks }
         ensures kept { WritesSwap ⟦<MemSwap as SwapDev>⟧ self.old self.new }
-        ensures done { OnDone result (self.new.store.image.items ≡ put_blocks self.old.store.image.items block bytes.now) }
-        ensures failed { OnFailed result (SpoilsPage (Some self.old.store.image.items) block (Some self.new.store.image.items)) }
+        ensures done { OnDone result (WritesPage (⟦<MemSwap as SwapDev>⟧.image self.old) block bytes.now (⟦<MemSwap as SwapDev>⟧.image self.new)) }
+        ensures failed { OnFailed result (SpoilsPage (⟦<MemSwap as SwapDev>⟧.image self.old) block (⟦<MemSwap as SwapDev>⟧.image self.new)) }
         ensures write_faults { Counts result self.old.write_faults self.new.write_faults }
 
         // Just the writes whose numbers are listed fail, and a failed one changes no block.
         ensures fails { (result ≡ Moved.Failed) ↔ FailsNext self.old.writes }
-        ensures unchanged { OnFailed result (self.new.store.image.items ≡ self.old.store.image.items) }
+        ensures unchanged { OnFailed result (⟦<MemSwap as SwapDev>⟧.image self.new ≡ ⟦<MemSwap as SwapDev>⟧.image self.old) }
         ensures reads { self.new.reads ≡ self.old.reads }
         ensures writes { NextCall self.old.writes self.new.writes }
     {
@@ -183,7 +219,8 @@ impl SwapDev for MemSwap {
         self.store.write(block, bytes)
     }
 
-    ghost whole = { λ d bytes told. told_length d.store.image.items bytes (512 * d.store.blocks) told d.store.whole };
+    ghost whole = { λ d bytes told. told_length (with_zeros (512 * d.store.blocks) d.store.written.items) bytes (512 * d.store.blocks) told
+        (length-with_zeros (512 * d.store.blocks) d.store.written.items d.store.within) };
 
     ghost leads_nowhere = { λ d. (refl, le_refl d.read_faults, le_refl d.write_faults, later_itself d.reads, later_itself d.writes) };
 
