@@ -4,53 +4,66 @@ ghost use Rattle.io_edge.specs.Told.{untold_length};
 ghost use Rattle.std.proofs.Common.{◌∙◌, le_refl, le_trans};
 
 use crate::count::raised;
-use crate::{Moved, SwapDev};
-use std::fs::{OpenFile, OpenOptions};
+use crate::own_file::open_own;
+use crate::{LockFile, Moved, Refusal, SwapDev};
 use std::io::{Read, Seek, SeekFrom, Write};
 use std::{io, rt};
 
 /// A swap device that is a file of the current folder of a runtime. The first `read` or `write` makes
-/// the file, or empties it where it is there, and fails where that fails. A new device holds zeros. Its
+/// the file, or empties it where it is there, and fails where that fails. A file that is a link, or has
+/// another name, or isn't a plain one of this user is refused, and so is one that another run has: it is
+/// left as it is. A new device holds zeros; the file has what was written, and grows with it. Its
 /// content isn't told.
 #[derive(Drop)]
 pub struct FileSwap<'r, R: rt::Files> {
     rt: &'r R,
     name: &'r str,
     blocks: u32,
-    file: Option<R::File>,
+    file: Option<SwapFile<R::File>>,
+    fault: Option<io::Error>,
     read_faults: u64,
     write_faults: u64,
 }
 
-// Makes and empties the file, as long as all blocks together.
-fn make_file<R: rt::Files>(rt: &R, name: &str, blocks: u32) -> io::Result<R::File> {
-    let file = OpenOptions::new()
-        .read(true)
-        .write(true)
-        .create(true)
-        .truncate(true)
-        .open(rt, name)?;
-    file.set_len(u64::from(blocks) * 512)?;
-    Ok(file)
+// An open swap file, and its length as it was written.
+#[derive(Drop)]
+struct SwapFile<F: Drop> {
+    file: F,
+    len: u64,
 }
 
-// Moves to the start of a block.
-fn seek_block<F: Seek>(file: &mut F, block: u32) -> io::Result<()> {
-    file.seek(SeekFrom::Start(u64::from(block) * 512))?;
-    Ok(())
+// Where a block begins.
+fn offset_of(block: u32) -> u64
+    ensures { result ≡ block * 512 }
+{
+    u64::from(block) * 512
 }
 
-fn read_page<F: Read + Seek>(file: &mut F, block: u32, buf: &mut [u8; 1024]) -> io::Result<()> {
-    seek_block(file, block)?;
-    file.read_exact(buf)
+impl<F: Read + Write + Seek + Drop> SwapFile<F> {
+    // Reads a page; what lies past the end of what was written is zeros.
+    fn read_page(&mut self, block: u32, buf: &mut [u8; 1024]) -> io::Result<()> {
+        let offset = offset_of(block);
+        if offset >= self.len {
+            *buf = [0; 1024];
+            return Ok(());
+        }
+        self.file.seek(SeekFrom::Start(offset))?;
+        self.file.read_exact(buf)
+    }
+
+    fn write_page(&mut self, block: u32, bytes: &[u8; 1024]) -> io::Result<()> {
+        let offset = offset_of(block);
+        self.file.seek(SeekFrom::Start(offset))?;
+        self.file.write_all(bytes)?;
+        self.len = self.len.max(offset + 1024);
+        Ok(())
+    }
 }
 
-fn write_page<F: Write + Seek>(file: &mut F, block: u32, bytes: &[u8; 1024]) -> io::Result<()> {
-    seek_block(file, block)?;
-    file.write_all(bytes)
-}
-
-impl<'r, R: rt::Files> FileSwap<'r, R> {
+impl<'r, R: rt::Files> FileSwap<'r, R>
+where
+    R::File: LockFile,
+{
     /// A device of this many blocks on the file of this name, which is left alone so far.
     pub fn new(rt: &'r R, name: &'r str, blocks: u32) -> FileSwap<'r, R>
         ensures blocks { ⟦<FileSwap<'r, R> as SwapDev>⟧.blocks result ≡ blocks }
@@ -62,20 +75,33 @@ impl<'r, R: rt::Files> FileSwap<'r, R> {
             name,
             blocks,
             file: None,
+            fault: None,
             read_faults: 0,
             write_faults: 0,
         }
     }
 
-    // Takes the file out, and makes it first where there was no call so far.
-    fn take_file(&mut self) -> io::Result<R::File>
+    /// Why the last call that failed did.
+    pub fn last_refusal(&self) -> Option<Refusal<'r>> {
+        let error = self.fault?;
+        Some(Refusal {
+            name: self.name,
+            error,
+        })
+    }
+
+    // Takes the file out, and opens it first where there was no call so far.
+    fn take_file(&mut self) -> io::Result<SwapFile<R::File>>
         ensures blocks { self.new.blocks ≡ self.old.blocks }
         ensures read_faults { self.new.read_faults ≡ self.old.read_faults }
         ensures write_faults { self.new.write_faults ≡ self.old.write_faults }
     {
         match self.file.take() {
             Some(file) => Ok(file),
-            None => make_file(self.rt, self.name, self.blocks),
+            None => Ok(SwapFile {
+                file: open_own(self.rt, self.name)?,
+                len: 0,
+            }),
         }
     }
 
@@ -85,7 +111,7 @@ impl<'r, R: rt::Files> FileSwap<'r, R> {
         ensures write_faults { self.new.write_faults ≡ self.old.write_faults }
     {
         let mut file = self.take_file()?;
-        let moved = read_page(&mut file, block, buf);
+        let moved = file.read_page(block, buf);
         self.file = Some(file);
         moved
     }
@@ -96,13 +122,16 @@ impl<'r, R: rt::Files> FileSwap<'r, R> {
         ensures write_faults { self.new.write_faults ≡ self.old.write_faults }
     {
         let mut file = self.take_file()?;
-        let moved = write_page(&mut file, block, bytes);
+        let moved = file.write_page(block, bytes);
         self.file = Some(file);
         moved
     }
 }
 
-impl<R: rt::Files> SwapDev for FileSwap<'_, R> {
+impl<R: rt::Files> SwapDev for FileSwap<'_, R>
+where
+    R::File: LockFile,
+{
     ghost image = { λ _. None };
 
     ghost blocks = { λ d. d.blocks };
@@ -118,19 +147,25 @@ impl<R: rt::Files> SwapDev for FileSwap<'_, R> {
     }
 
     fn read(&mut self, block: u32, buf: &mut [u8; 1024]) -> Moved {
-        if self.try_read(block, buf).is_ok() {
-            return Moved::Done;
+        match self.try_read(block, buf) {
+            Ok(()) => Moved::Done,
+            Err(error) => {
+                self.fault = Some(error);
+                self.read_faults = raised(self.read_faults);
+                Moved::Failed
+            }
         }
-        self.read_faults = raised(self.read_faults);
-        Moved::Failed
     }
 
     fn write(&mut self, block: u32, bytes: &[u8; 1024]) -> Moved {
-        if self.try_write(block, bytes).is_ok() {
-            return Moved::Done;
+        match self.try_write(block, bytes) {
+            Ok(()) => Moved::Done,
+            Err(error) => {
+                self.fault = Some(error);
+                self.write_faults = raised(self.write_faults);
+                Moved::Failed
+            }
         }
-        self.write_faults = raised(self.write_faults);
-        Moved::Failed
     }
 
     ghost whole = { λ d bytes told. untold_length bytes (512 * d.blocks) told };
