@@ -3,23 +3,100 @@ ghost use Rattle.std.specs.Prelude.{◌≡◌, ◌≤◌, None, refl};
 ghost use Rattle.std.proofs.Common.{le_refl, le_trans};
 
 use crate::count::raised;
-use crate::{Files, Found, Moved};
+use crate::{Files, Found, Moved, Refusal};
+use std::alloc::{AllocError, Allocator};
 use std::fs::OpenFile;
 use std::io::{ErrorKind, Read, Seek, SeekFrom};
 use std::{fs, io, rt};
 
-// A file that was found, and its length as it was then.
+// The most bytes that are taken of what is no plain file: one more than the longest transcript has.
+// Whoever reads a file takes fewer, so what gives more is told as too long by its reader.
+const MOST_HELD: u64 = 67_108_865;
+
+// The number of a file that was found, and its length as it was then.
+#[derive(Clone, Copy)]
 struct Opened {
     id: u32,
     len: u64,
 }
 
-/// The files of the current folder of a runtime. A file that was found stays open. The files aren't
-/// told.
+// Where the bytes of a file are.
+#[derive(Drop)]
+enum Source<F: Drop, A: Allocator> {
+    // In a plain file, which stays open.
+    Plain(F),
+    // In memory, since the system gives them but once, or doesn't tell how many there are.
+    Held(Vec<u8, A>),
+}
+
+impl<F: Read + Seek + Drop, A: Allocator> Source<F, A> {
+    fn is_held(&self) -> bool {
+        matches!(self, Source::Held(_))
+    }
+
+    // Fills the buffer from this offset on.
+    fn fill(&mut self, offset: u64, buf: &mut [u8]) -> io::Result<()> {
+        match self {
+            Source::Plain(file) => {
+                file.seek(SeekFrom::Start(offset))?;
+                file.read_exact(buf)
+            }
+            Source::Held(bytes) => copy_range(bytes.as_slice(), offset, buf),
+        }
+    }
+}
+
+// Fills the buffer from this offset of these bytes on.
+fn copy_range(bytes: &[u8], offset: u64, buf: &mut [u8]) -> io::Result<()> {
+    match bytes.get(offset as usize..) {
+        Some(mut rest) => rest.read_exact(buf),
+        None => Err(io::Error::from(ErrorKind::UnexpectedEof)),
+    }
+}
+
+// A file that was found, and its length as it was then.
+#[derive(Drop)]
+struct Named<F: Drop, A: Allocator> {
+    name: String<A>,
+    len: u64,
+    source: Source<F, A>,
+}
+
+// Reads what is no plain file, and what has no length, into memory.
+fn take_source<F: Read + Seek + OpenFile + Drop, A: Allocator>(
+    alloc: A,
+    file: F,
+) -> io::Result<(u64, Source<F, A>)> {
+    let found = file.metadata()?;
+    if found.is_file() && found.len() > 0 {
+        return Ok((found.len(), Source::Plain(file)));
+    }
+    let mut bytes = Vec::new(alloc);
+    file.take(MOST_HELD).read_to_end(&mut bytes)?;
+    Ok((bytes.len() as u64, Source::Held(bytes)))
+}
+
+// Why a call on a file failed.
+#[derive(Drop)]
+struct Fault<A: Allocator> {
+    name: String<A>,
+    error: io::Error,
+}
+
+// The fault of the file of this name, where there is memory for the name.
+fn fault_of<A: Allocator>(alloc: A, name: &str, error: io::Error) -> Option<Fault<A>> {
+    let name = String::from_str(alloc, name).ok()?;
+    Some(Fault { name, error })
+}
+
+/// The files of the current folder of a runtime. A file that was found stays open. What isn't a plain
+/// file, and what has the length 0 by the system, as a pipe, is read to its end when it is found, and
+/// kept in memory under its name: up to 67,108,865 bytes, the rest is left. The files aren't told.
 #[derive(Drop)]
 pub struct DirFiles<'r, R: rt::Files + Alloc> {
     rt: &'r R,
-    opened: Vec<R::File, R::A>,
+    opened: Vec<Named<R::File, R::A>, R::A>,
+    fault: Option<Fault<R::A>>,
     open_faults: u64,
     page_faults: u64,
 }
@@ -33,9 +110,34 @@ impl<'r, R: rt::Files + Alloc> DirFiles<'r, R> {
         DirFiles {
             rt,
             opened: Vec::new(rt.alloc()),
+            fault: None,
             open_faults: 0,
             page_faults: 0,
         }
+    }
+
+    /// Why the last call that failed did. None too where there was no memory for its name.
+    pub fn last_refusal(&self) -> Option<Refusal<'_>> {
+        match &self.fault {
+            Some(fault) => Some(Refusal {
+                name: fault.name.as_str(),
+                error: fault.error,
+            }),
+            None => None,
+        }
+    }
+
+    // The file of this name that is in memory.
+    fn held(&self, name: &str) -> Option<Opened> {
+        for (place, named) in self.opened.iter().enumerate() {
+            if named.source.is_held() && named.name.as_str() == name {
+                return Some(Opened {
+                    id: u32::try_from(place).ok()?,
+                    len: named.len,
+                });
+            }
+        }
+        None
     }
 
     // Opens the file of this name, if there is one, and keeps it.
@@ -43,16 +145,20 @@ impl<'r, R: rt::Files + Alloc> DirFiles<'r, R> {
         ensures open_faults { self.new.open_faults ≡ self.old.open_faults }
         ensures page_faults { self.new.page_faults ≡ self.old.page_faults }
     {
+        if let Some(held) = self.held(name) {
+            return Ok(Some(held));
+        }
         let file = match fs::open(self.rt, name) {
             Ok(file) => file,
             Err(error) if error.kind() == ErrorKind::NotFound => return Ok(None),
             Err(error) => return Err(error),
         };
-        let len = file.metadata()?.len();
+        let (len, source) = take_source(self.rt.alloc(), file)?;
         let Ok(id) = u32::try_from(self.opened.len()) else {
             return Err(io::Error::from(ErrorKind::FileTooLarge));
         };
-        self.opened.push(file)?;
+        let name = String::from_str(self.rt.alloc(), name)?;
+        self.opened.push(Named { name, len, source })?;
         Ok(Some(Opened { id, len }))
     }
 
@@ -61,11 +167,21 @@ impl<'r, R: rt::Files + Alloc> DirFiles<'r, R> {
         ensures open_faults { self.new.open_faults ≡ self.old.open_faults }
         ensures page_faults { self.new.page_faults ≡ self.old.page_faults }
     {
-        let Some(file) = self.opened.get_mut(id as usize) else {
-            return Err(io::Error::from(ErrorKind::NotFound));
+        match self.opened.get_mut(id as usize) {
+            Some(named) => named.source.fill(offset, buf),
+            None => Err(io::Error::from(ErrorKind::NotFound)),
+        }
+    }
+
+    // Keeps why a call on an open file failed.
+    fn note(&mut self, id: u32, error: io::Error)
+        ensures open_faults { self.new.open_faults ≡ self.old.open_faults }
+        ensures page_faults { self.new.page_faults ≡ self.old.page_faults }
+    {
+        self.fault = match self.opened.get(id as usize) {
+            Some(named) => fault_of(self.rt.alloc(), named.name.as_str(), error),
+            None => None,
         };
-        file.seek(SeekFrom::Start(offset))?;
-        file.read_exact(buf)
     }
 }
 
@@ -82,7 +198,8 @@ impl<R: rt::Files + Alloc> Files for DirFiles<'_, R> {
         match self.open(name) {
             Ok(Some(Opened { id, len })) => Found::Is { id, len },
             Ok(None) => Found::Absent,
-            Err(_) => {
+            Err(error) => {
+                self.fault = fault_of(self.rt.alloc(), name, error);
                 self.open_faults = raised(self.open_faults);
                 Found::Failed
             }
@@ -90,9 +207,10 @@ impl<R: rt::Files + Alloc> Files for DirFiles<'_, R> {
     }
 
     fn read_at(&mut self, id: u32, offset: u64, buf: &mut [u8]) -> Moved {
-        if self.fill(id, offset, buf).is_ok() {
+        let Err(error) = self.fill(id, offset, buf) else {
             return Moved::Done;
-        }
+        };
+        self.note(id, error);
         if offset == 0 {
             self.open_faults = raised(self.open_faults);
         } else {
