@@ -5,3 +5,4 @@ pub mod Stripes
 pub mod StripeWrites
 pub mod PairCalls
 pub mod ZeroEnds
+pub mod OctetFiles

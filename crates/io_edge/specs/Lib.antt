@@ -13,3 +13,4 @@ pub mod StripeSizes
 pub mod FailedDevice
 pub mod Transfer
 pub mod Zeros
+pub mod Octets

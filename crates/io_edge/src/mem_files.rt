@@ -4,11 +4,12 @@ ghost use Rattle.std.proofs.Common.{◌∙◌, ap, le_refl, le_trans, lit≤};
 ghost use Rattle.io_edge.specs.Calls.{KeepsFiles};
 ghost use Rattle.io_edge.specs.Count.{Counts, OnDone};
 ghost use Rattle.io_edge.specs.FileHolding.{AnswersName, CountsFind, HasRange, HoldsRange, named_file, file_range};
+ghost use Rattle.io_edge.specs.Octets.{AreOctetFiles};
 ghost use Rattle.io_edge.specs.Plan.{FailsNext, IsNewPlan, LaterCalls, NextCall};
 ghost use Rattle.io_edge.specs.PlanLaws.{later_itself, later_through};
 
 use crate::count::{FaultPlan, raised};
-use crate::{Files, Found, Moved};
+use crate::{Files, Found, Moved, are_octet_files};
 
 // The first file of this name.
 fn position_of(files: &[(String, Vec<u8>)], name: &str) -> Option<usize>
@@ -34,7 +35,8 @@ pub struct SureFiles {
 }
 
 impl SureFiles {
-    /// These files, each a name and its bytes. Of several with one name the first is found.
+    /// These files, each a name and its bytes. Of several with one name the first is found. That their
+    /// names and bytes have numbers below 256 is what `are_octet_files` says of them.
     pub fn new(files: Vec<(String, Vec<u8>)>) -> SureFiles
         requires { vec_len files < 2 ^ 32 }
         ensures { ⟦<SureFiles as Files>⟧.holds result ≡ Some (map named_file files.items) }
@@ -96,7 +98,9 @@ impl MemFiles {
         ensures open_faults { ⟦<MemFiles as Files>⟧.open_faults result ≡ 0 }
         ensures page_faults { ⟦<MemFiles as Files>⟧.page_faults result ≡ 0 }
         ensures plan { IsNewPlan result.plan fail.items }
+        ensures octets { AreOctetFiles (map named_file files.items) }
     {
+        are_octet_files(&files);
         MemFiles {
             store: SureFiles::new(files),
             plan: FaultPlan::new(fail),
