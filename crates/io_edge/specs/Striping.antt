@@ -1,5 +1,9 @@
 -- A pair of swap devices, striped by units of 1,024 blocks: even units on device 0, odd ones on device 1.
-use Rattle.std.specs.Prelude.{◌≤◌, ◌+◌, ◌*◌, ◌/◌, ◌%◌, ◌-◌, min, ℕ, zero, suc, List, [], ◌++◌, take, drop, Option, Some, None}
+use Rattle.std.specs.Prelude.{◌≤◌, ◌<◌, ◌+◌, ◌*◌, ◌/◌, ◌%◌, ◌-◌, min, ℕ, zero, suc, List, [], ◌++◌, take, drop, Option, Some, None}
+
+-- the number of a device of a pair
+abbrev pub IsDevice : ℕ → Type 0
+IsDevice device = device < 2
 
 -- the device of a block: 0 or 1
 unfoldable pub device_of : ℕ → ℕ

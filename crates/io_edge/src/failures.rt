@@ -2,6 +2,7 @@
 ghost use Rattle.std.specs.Prelude.{◌≡◌, ◌≤◌, ◌<◌, None, Some};
 ghost use Rattle.std.specs.Option.{ForNone, ForSome};
 ghost use Rattle.io_edge.specs.Count.{Counts, OnDone, OnFailed, next_count};
+ghost use Rattle.io_edge.specs.Striping.{IsDevice};
 
 use crate::Moved;
 use crate::count::raised;
@@ -14,7 +15,7 @@ pub(crate) struct Failures {
     pub(crate) last: Option<u32>,
     ghost none: { ForNone last (count ≡ 0) },
     ghost some: { ForSome last (λ _. 0 < count) },
-    ghost device: { ForSome last (λ device. device < 2) },
+    ghost device: { ForSome last IsDevice },
 }
 
 impl Failures {
@@ -30,7 +31,7 @@ impl Failures {
 
     // Counts a call on this device, where it failed.
     pub(crate) fn note(&mut self, moved: Moved, device: u32)
-        requires { device < 2 }
+        requires { IsDevice device }
         ensures count { Counts moved self.old.count self.new.count }
         ensures next { OnFailed moved (self.new.count ≡ next_count self.old.count) }
         ensures failed { OnFailed moved (self.new.last ≡ Some device) }

@@ -1,9 +1,9 @@
 // Two swap devices as one.
-ghost use Rattle.std.specs.Prelude.{◌≡◌, ◌+◌, ◌%◌, ◌≤◌, ◌<◌, ◌↔◌, IsTrue, IsNone, None, refl};
+ghost use Rattle.std.specs.Prelude.{◌≡◌, ◌+◌, ◌%◌, ◌≤◌, ◌<◌, ◌↔◌, IsTrue, IsNone, IfSome, None, refl};
 ghost use Rattle.std.proofs.Common.{sym, ◌∙◌, ap};
 ghost use Rattle.io_edge.specs.Count.{Counts, OnDone, OnFailed, next_count};
 ghost use Rattle.io_edge.specs.SwapImage.{HoldsPage, WritesPage, SpoilsPage, LeavesPage};
-ghost use Rattle.io_edge.specs.Striping.{device_of, place_of, pair_blocks, pair_image, IsLargestSwap};
+ghost use Rattle.io_edge.specs.Striping.{device_of, place_of, pair_blocks, pair_image, IsDevice, IsLargestSwap};
 ghost use Rattle.io_edge.specs.PairFailures.{AddsFailures};
 ghost use Rattle.io_edge.specs.PairLeads.{adds_nothing, adds_through};
 ghost use Rattle.io_edge.specs.StripeSizes.{tell_blocks, pair_whole};
@@ -86,6 +86,7 @@ impl<'a, D: SwapDev, E: SwapDev> SwapPair<'a, D, E> {
     pub fn failed_read(&self) -> Option<u32>
         ensures none { IsNone result ↔ (⟦<SwapPair<'a, D, E> as SwapDev>⟧.read_faults self.now ≡ 0) }
         ensures device { result ≡ failed_read_of self.now }
+        ensures within { IfSome result IsDevice }
     {
         self.reads.last
     }
@@ -95,6 +96,7 @@ impl<'a, D: SwapDev, E: SwapDev> SwapPair<'a, D, E> {
     pub fn failed_write(&self) -> Option<u32>
         ensures none { IsNone result ↔ (⟦<SwapPair<'a, D, E> as SwapDev>⟧.write_faults self.now ≡ 0) }
         ensures device { result ≡ failed_write_of self.now }
+        ensures within { IfSome result IsDevice }
     {
         self.writes.last
     }
