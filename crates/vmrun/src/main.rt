@@ -1,8 +1,9 @@
 //! The program: it hands the words, the current folder, its two swap files and standard output to the
-//! call `vmrun`, writes what `explain` tells beside to standard error, and ends with the status.
+//! call `vmrun`, writes what `explain` tells beside to standard error, and which file the system refused,
+//! and ends with the status.
 #![tactic(auto)]
 
-use io_edge::{DirFiles, FileSwap, OutSink, Sink};
+use io_edge::{DirFiles, FileSwap, OutSink, Refusal, Sink};
 use std::env;
 use std::io::{ErrorKind, Write};
 use std::process::ExitCode;
@@ -15,6 +16,21 @@ const SWAP_BLOCKS: u32 = 65_536;
 const BAD_WORDS: u8 = 1;
 
 const NO_MEMORY: u8 = 9;
+
+// The status of a file that could not be read.
+const FILE_FAULT: u8 = 5;
+
+// The statuses of a swap device that could not be read, or written.
+const SWAP_READ_FAULT: u8 = 6;
+
+const SWAP_WRITE_FAULT: u8 = 7;
+
+// Writes which file the system refused, and why, to standard error.
+fn tell_refusal(rt: &HostRuntime, refusal: Option<Refusal<'_>>) {
+    if let Some(refusal) = refusal {
+        let _ = eprintln!(rt; "vmrun: {refusal}");
+    }
+}
 
 fn main(rt: HostRuntime) -> ExitCode {
     let alloc = rt.alloc();
@@ -53,6 +69,13 @@ fn main(rt: HostRuntime) -> ExitCode {
     );
     if let Ok(Some(text)) = explain(alloc, list.as_slice(), &mut files, status) {
         let _ = rt.stderr().write_all(text.as_slice());
+    }
+    match status {
+        FILE_FAULT => tell_refusal(&rt, files.last_refusal()),
+        SWAP_READ_FAULT | SWAP_WRITE_FAULT => {
+            tell_refusal(&rt, zero.last_refusal().or(one.last_refusal()));
+        }
+        _ => {}
     }
     ExitCode::from(status)
 }
