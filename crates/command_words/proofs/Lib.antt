@@ -1,3 +1,5 @@
 mod WordLists
 mod Numerals
 mod RunWords
+mod Refusals
+mod Finding

@@ -20,7 +20,7 @@ fn are_each_image_word(words: &[&str]) -> bool
     words.iter().all(|word| is_image_word(word))
 }
 
-fn starts_some(words: &[&str]) -> bool
+pub(crate) fn starts_some(words: &[&str]) -> bool
     ensures { result ≡ list_any (λ word. starts word.now) words.now }
 {
     words.iter().any(|word| starts(word))

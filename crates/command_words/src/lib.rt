@@ -2,8 +2,12 @@
 #![tactic(auto)]
 
 mod command;
+mod explaining;
 mod image_words;
+mod reasons;
 mod word;
 
 pub use command::{Command, Numbers, read_words};
+pub use explaining::explain_words;
 pub use image_words::ImageWords;
+pub use reasons::{Argument, BadWord, bad_word, refused_words_have_reasons};

@@ -1,0 +1,284 @@
+-- Words have a reason exactly where they ask for no command.
+use Rattle.std.proofs.Common.{◌≡◌, ℕ, ◌∙◌, Bool, true, false, ◌&&◌, not, if◌then◌else◌, is_none, is_some, nat_le, List, [], ◌∷◌, length, refl, sym, ap, Option, Some, None, find, bytes_eq, codes}
+use Rattle.std.specs.List.{list_all, list_any}
+use Rattle.std.specs.Option.{option_map, option_and_then}
+use Rattle.run_files.specs.ImageWords.{starts}
+use Rattle.command_words.specs.declared.command.Numbers.{Numbers}
+use Rattle.command_words.specs.declared.reasons.Argument.{Argument}
+use Rattle.command_words.specs.declared.reasons.Argument.TheVariants.{Frames, Swap, Limit, ShortLimit, Number, Size, Entries, Schedule, Transcript, Source, Listed, Image}
+use Rattle.command_words.specs.Words.{is_plain, number_in, is_name, is_image_word, are_image_words, without_trace}
+use Rattle.command_words.specs.Asked.{Asked, Run, Load, Replay, Assemble, Show, Optimum, Curve, Owners, all_numbers, run_numbers, asked_with_run, asked_load, asked_replay, asked_assemble, asked_show, asked_optimum, asked_owners, asked_run, asked_other, asked_of}
+use Rattle.command_words.specs.Reasons.{Why, Missing, Unknown, Refused, TooMany, TooManyImages, NotPlain, takes, bad_image, none_starts, or_else, why_images, why_rest, why_words, bad_plain, why_form, why_other, why_command, why_bad}
+
+-- Choices.
+
+chosen : (b : Bool) (x y : Option Why) (p q : Option Asked) → is_none x ≡ is_some p → is_none y ≡ is_some q
+    → is_none (if b then x else y) ≡ is_some (if b then p else q)
+chosen true x y p q one other = one
+chosen false x y p q one other = other
+
+refused : (b : Bool) (x y : Option Why) → is_none x ≡ false → is_none y ≡ false → is_none (if b then x else y) ≡ false
+refused true x y one other = one
+refused false x y one other = other
+
+unless : (b : Bool) (x : Option Why) (why : Why) → is_none (if b then x else Some why) ≡ b && is_none x
+unless true x why = refl
+unless false x why = refl
+
+where_so : (b : Bool) (p : Option Asked) → is_some (if b then p else None) ≡ b && is_some p
+where_so true p = refl
+where_so false p = refl
+
+first_of : (x y : Option Why) → is_none (or_else x y) ≡ is_none x && is_none y
+first_of None y = refl
+first_of (Some why) y = refl
+
+mapped : {A : Type 0} (f : A → Asked) (o : Option A) → is_some (option_map f o) ≡ is_some o
+mapped f None = refl
+mapped f (Some x) = refl
+
+never : (b : Bool) → b && false ≡ false
+never true = refl
+never false = refl
+
+always : (b : Bool) → b && true ≡ b
+always true = refl
+always false = refl
+
+-- Words of images.
+
+none_found : (p : List ℕ → Bool) (b : Bool) (word : List ℕ) (found : Option (List ℕ)) (rest : Bool) → is_none found ≡ rest
+    → is_none (if not b then Some word else found) ≡ b && rest
+none_found p true word found rest same = same
+none_found p false word found rest same = refl
+
+all_pass : (p : List ℕ → Bool) (words : List (List ℕ)) → is_none (find (λ word. not (p word)) words) ≡ list_all p words
+all_pass p [] = refl
+all_pass p (word ∷ words) = none_found p (p word) word _ _ (all_pass p words)
+
+told : (f : List ℕ → Why) (o : Option (List ℕ)) → is_none (option_map f o) ≡ is_none o
+told f None = refl
+told f (Some word) = refl
+
+images_by : (few some : Bool) (x : Option Why) (one other : Why)
+    → is_none (if few then or_else x (if some then None else Some one) else Some other) ≡ few && is_none x && some
+images_by false some x one other = refl
+images_by true true None one other = refl
+images_by true false None one other = refl
+images_by true some (Some why) one other = refl
+
+images : (words : List (List ℕ)) → is_none (why_images words) ≡ are_image_words words
+unfolding why_images are_image_words
+images words =
+    images_by (nat_le (length words) 16) (list_any starts words) (bad_image words) _ _
+    ∙ ap (λ (each : Bool). nat_le (length words) 16 && each && list_any starts words) (told (Refused Image) _ ∙ all_pass is_image_word words)
+
+plain : (words : List (List ℕ)) → is_none (bad_plain words) ≡ list_all is_plain words
+plain words = told NotPlain _ ∙ all_pass is_plain words
+
+-- Words for arguments.
+
+next : (argument : Argument) (arguments : List Argument) (more : Bool) (word : List ℕ) (words : List (List ℕ))
+    → is_none (why_words (argument ∷ arguments) more (word ∷ words)) ≡ takes argument word && is_none (why_words arguments more words)
+unfolding why_words
+next argument arguments more word words = unless (takes argument word) _ _
+
+-- there are too few of them
+lacking : (argument : Argument) (arguments : List Argument) (more : Bool) (word : List ℕ) (words : List (List ℕ))
+    → is_none (why_words arguments more words) ≡ false → is_none (why_words (argument ∷ arguments) more (word ∷ words)) ≡ false
+lacking argument arguments more word words none = next argument arguments more word words ∙ ap (λ (b : Bool). takes argument word && b) none ∙ never _
+
+missing : (argument : Argument) (arguments : List Argument) (more : Bool) → is_none (why_words (argument ∷ arguments) more []) ≡ false
+unfolding why_words
+missing argument arguments more = refl
+
+rest_images : (words : List (List ℕ)) → is_none (why_words [] true words) ≡ are_image_words words
+unfolding why_words why_rest
+rest_images words = images words
+
+rest_none : is_none (why_words [] false []) ≡ true
+unfolding why_words why_rest
+rest_none = refl
+
+rest_more : (word : List ℕ) (words : List (List ℕ)) → is_none (why_words [] false (word ∷ words)) ≡ false
+unfolding why_words why_rest
+rest_more word words = refl
+
+-- Numbers.
+
+numbers_by : (a b c : Option ℕ) → is_some (all_numbers a b c) ≡ is_some a && (is_some b && is_some c)
+unfolding all_numbers
+numbers_by None b c = refl
+numbers_by (Some x) None c = refl
+numbers_by (Some x) (Some y) None = refl
+numbers_by (Some x) (Some y) (Some z) = refl
+
+turn : (a b c n i : Bool) → a && (b && (c && (n && i))) ≡ (n && i) && (a && (b && c))
+turn true true true n i = sym (always (n && i))
+turn false b c n i = sym (never (n && i))
+turn true false c n i = sym (never (n && i))
+turn true true false n i = sym (never (n && i))
+
+-- The words of a run.
+
+asked_whole : (most : ℕ) (command : Numbers → List ℕ → List (List ℕ) → Asked) (f s l n : List ℕ) (ws : List (List ℕ))
+    → is_some (asked_with_run most command (f ∷ s ∷ l ∷ n ∷ ws))
+    ≡ (is_name n && are_image_words ws) && (is_some (number_in 64 4096 f) && (is_some (number_in 256 131072 s) && is_some (number_in 1 most l)))
+unfolding asked_with_run run_numbers
+asked_whole most command f s l n ws =
+    where_so (is_name n && are_image_words ws) _
+    ∙ ap (λ (b : Bool). (is_name n && are_image_words ws) && b)
+    (mapped (λ (numbers : Numbers). command numbers n ws) (run_numbers most f s l) ∙ numbers_by (number_in 64 4096 f) (number_in 256 131072 s) (number_in 1 most l))
+
+why_whole : (limit : Argument) (most : ℕ) (f s l n : List ℕ) (ws : List (List ℕ)) → takes limit l ≡ is_some (number_in 1 most l)
+    → is_none (why_words (Frames ∷ Swap ∷ limit ∷ Schedule ∷ []) true (f ∷ s ∷ l ∷ n ∷ ws))
+    ≡ is_some (number_in 64 4096 f) && (is_some (number_in 256 131072 s) && (is_some (number_in 1 most l) && (is_name n && are_image_words ws)))
+unfolding takes
+why_whole limit most f s l n ws is =
+    let four : is_none (why_words (Schedule ∷ []) true (n ∷ ws)) ≡ is_name n && are_image_words ws =
+    next Schedule [] true n ws ∙ ap (λ (b : Bool). is_name n && b) (rest_images ws) in
+    let three : is_none (why_words (limit ∷ Schedule ∷ []) true (l ∷ n ∷ ws)) ≡ is_some (number_in 1 most l) && (is_name n && are_image_words ws) =
+    next limit (Schedule ∷ []) true l (n ∷ ws) ∙ ap (λ (b : Bool). takes limit l && b) four ∙ ap (λ (b : Bool). b && (is_name n && are_image_words ws)) is in
+    let two : is_none (why_words (Swap ∷ limit ∷ Schedule ∷ []) true (s ∷ l ∷ n ∷ ws))
+    ≡ is_some (number_in 256 131072 s) && (is_some (number_in 1 most l) && (is_name n && are_image_words ws)) =
+    next Swap (limit ∷ Schedule ∷ []) true s (l ∷ n ∷ ws) ∙ ap (λ (b : Bool). is_some (number_in 256 131072 s) && b) three in
+    next Frames (Swap ∷ limit ∷ Schedule ∷ []) true f (s ∷ l ∷ n ∷ ws) ∙ ap (λ (b : Bool). is_some (number_in 64 4096 f) && b) two
+
+run : (limit : Argument) (most : ℕ) (command : Numbers → List ℕ → List (List ℕ) → Asked) (words : List (List ℕ))
+    → ((word : List ℕ) → takes limit word ≡ is_some (number_in 1 most word))
+    → is_none (why_words (Frames ∷ Swap ∷ limit ∷ Schedule ∷ []) true words) ≡ is_some (asked_with_run most command words)
+unfolding asked_with_run
+run limit most command [] is = missing Frames (Swap ∷ limit ∷ Schedule ∷ []) true
+run limit most command (f ∷ []) is = lacking Frames (Swap ∷ limit ∷ Schedule ∷ []) true f [] (missing Swap (limit ∷ Schedule ∷ []) true)
+run limit most command (f ∷ s ∷ []) is =
+    lacking Frames (Swap ∷ limit ∷ Schedule ∷ []) true f (s ∷ []) (lacking Swap (limit ∷ Schedule ∷ []) true s [] (missing limit (Schedule ∷ []) true))
+run limit most command (f ∷ s ∷ l ∷ []) is =
+    lacking Frames (Swap ∷ limit ∷ Schedule ∷ []) true f (s ∷ l ∷ [])
+    (lacking Swap (limit ∷ Schedule ∷ []) true s (l ∷ []) (lacking limit (Schedule ∷ []) true l [] (missing Schedule [] true)))
+run limit most command (f ∷ s ∷ l ∷ n ∷ ws) is =
+    why_whole limit most f s l n ws (is l)
+    ∙ turn (is_some (number_in 64 4096 f)) (is_some (number_in 256 131072 s)) (is_some (number_in 1 most l)) (is_name n) (are_image_words ws)
+    ∙ sym (asked_whole most command f s l n ws)
+
+long_limit : (word : List ℕ) → takes Limit word ≡ is_some (number_in 1 1000000 word)
+unfolding takes
+long_limit word = refl
+
+short_limit : (word : List ℕ) → takes ShortLimit word ≡ is_some (number_in 1 100000 word)
+unfolding takes
+short_limit word = refl
+
+-- The words of each other command.
+
+load : (words : List (List ℕ)) → is_none (why_words (Number ∷ []) false words) ≡ is_some (asked_load words)
+unfolding asked_load takes
+load [] = missing Number [] false
+load (n ∷ []) = next Number [] false n [] ∙ ap (λ (b : Bool). takes Number n && b) rest_none ∙ always _ ∙ sym (mapped Load (number_in 0 9999 n))
+load (n ∷ w ∷ ws) = lacking Number [] false n (w ∷ ws) (rest_more w ws)
+
+replay : (words : List (List ℕ)) → is_none (why_words (Transcript ∷ []) true words) ≡ is_some (asked_replay words)
+unfolding asked_replay takes
+replay [] = missing Transcript [] true
+replay (t ∷ ws) =
+    next Transcript [] true t ws ∙ ap (λ (b : Bool). is_name t && b) (rest_images ws)
+    ∙ sym (where_so (is_name t && are_image_words ws) (Some (Replay t ws)) ∙ always _)
+
+assemble : (words : List (List ℕ)) → is_none (why_words (Source ∷ []) false words) ≡ is_some (asked_assemble words)
+unfolding asked_assemble takes
+assemble [] = missing Source [] false
+assemble (s ∷ []) = next Source [] false s [] ∙ ap (λ (b : Bool). is_name s && b) rest_none ∙ sym (where_so (is_name s) (Some (Assemble s)))
+assemble (s ∷ w ∷ ws) = lacking Source [] false s (w ∷ ws) (rest_more w ws)
+
+show : (words : List (List ℕ)) → is_none (why_words (Listed ∷ []) false words) ≡ is_some (asked_show words)
+unfolding asked_show takes
+show [] = missing Listed [] false
+show (i ∷ []) =
+    next Listed [] false i [] ∙ ap (λ (b : Bool). (is_name i && starts i) && b) rest_none ∙ sym (where_so (is_name i && starts i) (Some (Show i)))
+show (i ∷ w ∷ ws) = lacking Listed [] false i (w ∷ ws) (rest_more w ws)
+
+after_number : (o : Option ℕ) (g : ℕ → Option Asked) (b : Bool) → ((n : ℕ) → b ≡ is_some (g n)) → is_some o && b ≡ is_some (option_and_then g o)
+after_number None g b each = refl
+after_number (Some n) g b each = each n
+
+optimum : (words : List (List ℕ)) → is_none (why_words (Size ∷ Frames ∷ Swap ∷ ShortLimit ∷ Schedule ∷ []) true words) ≡ is_some (asked_optimum words)
+unfolding asked_optimum takes
+optimum [] = missing Size (Frames ∷ Swap ∷ ShortLimit ∷ Schedule ∷ []) true
+optimum (n ∷ words) =
+    next Size (Frames ∷ Swap ∷ ShortLimit ∷ Schedule ∷ []) true n words
+    ∙ after_number (number_in 1 4096 n) (λ k. asked_with_run 100000 (Optimum k) words) _ (λ k. run ShortLimit 100000 (Optimum k) words short_limit)
+
+owners : (words : List (List ℕ)) → is_none (why_words (Entries ∷ Frames ∷ Swap ∷ Limit ∷ Schedule ∷ []) true words) ≡ is_some (asked_owners words)
+unfolding asked_owners takes
+owners [] = missing Entries (Frames ∷ Swap ∷ Limit ∷ Schedule ∷ []) true
+owners (n ∷ words) =
+    next Entries (Frames ∷ Swap ∷ Limit ∷ Schedule ∷ []) true n words
+    ∙ after_number (number_in 0 16777216 n) (λ k. asked_with_run 1000000 (Owners k) words) _ (λ k. run Limit 1000000 (Owners k) words long_limit)
+
+-- Options.
+
+form : (arguments : List Argument) (more : Bool) (words : List (List ℕ))
+    → is_none (why_form arguments more words) ≡ list_all is_plain words && is_none (why_words arguments more words)
+unfolding why_form
+form arguments more words = first_of (bad_plain words) _ ∙ ap (λ (b : Bool). b && is_none (why_words arguments more words)) (plain words)
+
+with_plain : (arguments : List Argument) (more : Bool) (words : List (List ℕ)) (asked : Option Asked) → list_all is_plain words ≡ true
+    → is_none (why_words arguments more words) ≡ is_some asked → is_none (why_form arguments more words) ≡ is_some asked
+with_plain arguments more words asked are same = form arguments more words ∙ ap (λ (b : Bool). b && is_none (why_words arguments more words)) are ∙ same
+
+with_option : (arguments : List Argument) (more : Bool) (words : List (List ℕ)) → list_all is_plain words ≡ false
+    → is_none (why_form arguments more words) ≡ false
+with_option arguments more words are = form arguments more words ∙ ap (λ (b : Bool). b && is_none (why_words arguments more words)) are
+
+run_command : (words : List (List ℕ)) → is_none (why_form (Frames ∷ Swap ∷ Limit ∷ Schedule ∷ []) true (without_trace words)) ≡ is_some (asked_run words)
+unfolding asked_run
+run_command words =
+    form (Frames ∷ Swap ∷ Limit ∷ Schedule ∷ []) true (without_trace words)
+    ∙ ap (λ (b : Bool). list_all is_plain (without_trace words) && b) (run Limit 1000000 _ (without_trace words) long_limit)
+    ∙ sym (where_so (list_all is_plain (without_trace words)) _)
+
+-- All commands.
+
+-- the command that words without an option ask for
+asked_plain : List ℕ → List (List ℕ) → Option Asked
+asked_plain name words =
+    if bytes_eq name (codes "load") then asked_load words
+    else (if bytes_eq name (codes "replay") then asked_replay words
+    else (if bytes_eq name (codes "as") then asked_assemble words
+    else (if bytes_eq name (codes "dis") then asked_show words
+    else (if bytes_eq name (codes "opt") then asked_optimum words
+    else (if bytes_eq name (codes "curve") then asked_with_run 100000 Curve words
+    else (if bytes_eq name (codes "owners") then asked_owners words
+    else None))))))
+
+other_by : (p : Bool) (name : List ℕ) (words : List (List ℕ)) → list_all is_plain words ≡ p → is_none (why_other name words) ≡ p && is_some (asked_plain name words)
+unfolding why_other
+other_by true name words are =
+    chosen (bytes_eq name (codes "load")) _ _ _ _ (with_plain _ _ words _ are (load words))
+    (chosen (bytes_eq name (codes "replay")) _ _ _ _ (with_plain _ _ words _ are (replay words))
+    (chosen (bytes_eq name (codes "as")) _ _ _ _ (with_plain _ _ words _ are (assemble words))
+    (chosen (bytes_eq name (codes "dis")) _ _ _ _ (with_plain _ _ words _ are (show words))
+    (chosen (bytes_eq name (codes "opt")) _ _ _ _ (with_plain _ _ words _ are (optimum words))
+    (chosen (bytes_eq name (codes "curve")) _ _ _ _ (with_plain _ _ words _ are (run ShortLimit 100000 Curve words short_limit))
+    (chosen (bytes_eq name (codes "owners")) _ _ _ _ (with_plain _ _ words _ are (owners words)) refl))))))
+other_by false name words are =
+    refused (bytes_eq name (codes "load")) _ _ (with_option _ _ words are)
+    (refused (bytes_eq name (codes "replay")) _ _ (with_option _ _ words are)
+    (refused (bytes_eq name (codes "as")) _ _ (with_option _ _ words are)
+    (refused (bytes_eq name (codes "dis")) _ _ (with_option _ _ words are)
+    (refused (bytes_eq name (codes "opt")) _ _ (with_option _ _ words are)
+    (refused (bytes_eq name (codes "curve")) _ _ (with_option _ _ words are)
+    (refused (bytes_eq name (codes "owners")) _ _ (with_option _ _ words are) refl))))))
+
+unless_plain : (p : Bool) (asked : Option Asked) → is_some (if not p then None else asked) ≡ p && is_some asked
+unless_plain true asked = refl
+unless_plain false asked = refl
+
+other : (name : List ℕ) (words : List (List ℕ)) → is_none (why_other name words) ≡ is_some (asked_other name words)
+unfolding asked_other
+other name words = other_by (list_all is_plain words) name words refl ∙ sym (unless_plain (list_all is_plain words) (asked_plain name words))
+
+-- the law
+pub refused_have_reasons : (words : List (List ℕ)) → is_none (why_bad words) ≡ is_some (asked_of words)
+unfolding why_bad why_command asked_of
+refused_have_reasons [] = refl
+refused_have_reasons (name ∷ words) = chosen (bytes_eq name (codes "run")) _ _ _ _ (run_command words) (other name words)
