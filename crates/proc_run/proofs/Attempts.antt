@@ -17,9 +17,9 @@ use Rattle.machine_state.specs.UserMemory.{CanLend, Wrote, writes_in}
 use Rattle.proc_calls.specs.Callers.{regs_of}
 use Rattle.run_model.specs.State.{State}
 use Rattle.run_units.proofs.Calling.{calls_write_none}
-use Rattle.ready_laws.specs.Ready.{IsReady, Continues}
-use Rattle.ready_laws.proofs.Running.{continues_both}
-use Rattle.ready_laws.proofs.Entries.{room_continues}
+use Rattle.steady_laws.specs.Ready.{IsReady, Continues}
+use Rattle.steady_laws.proofs.Running.{continues_both}
+use Rattle.steady_laws.proofs.Entries.{room_continues}
 use Rattle.proc_run.specs.Calls.{own_answers, MadeCall}
 use Rattle.proc_run.specs.Runs.{IsSteady, RunsAt}
 

@@ -22,14 +22,14 @@ use Rattle.proc_calls.specs.Waiting.{wait_reply, wait_by, is_child, is_ended_chi
 use Rattle.proc_calls.specs.Writing.{IsWrite, MayWrite}
 use Rattle.proc_calls.proofs.Writes.{may_write}
 use Rattle.kernel_model.specs.Kernel.{Proc}
-use Rattle.holder_laws.specs.Holders.{KeepsHolders}
-use Rattle.holder_laws.proofs.Calls.{caller_holds, replied_keeps, comes_keeps, waited_none, write_none, break_keeps}
-use Rattle.holder_laws.proofs.Leaving.{exit_keeps, execve_keeps, starts_known}
-use Rattle.holder_laws.proofs.Making.{vforked_keeps, forked_keeps}
-use Rattle.ready_laws.specs.Ready.{Continues}
-use Rattle.ready_laws.specs.Calls.{called_count, RepliesNone, AnswersNone}
-use Rattle.ready_laws.proofs.Calls.{reply_continues, call_continues, vfork_continues, exit_continues, break_continues}
-use Rattle.ready_laws.proofs.Spaces.{fork_continues, exec_continues}
+use Rattle.steady_laws.specs.Holders.{KeepsHolders}
+use Rattle.steady_laws.proofs.Calls.{caller_holds, replied_keeps, comes_keeps, waited_none, write_none, break_keeps}
+use Rattle.steady_laws.proofs.Leaving.{exit_keeps, execve_keeps, starts_known}
+use Rattle.steady_laws.proofs.Making.{vforked_keeps, forked_keeps}
+use Rattle.steady_laws.specs.Ready.{Continues}
+use Rattle.steady_laws.specs.Calls.{called_count, RepliesNone, AnswersNone}
+use Rattle.steady_laws.proofs.CallsContinue.{reply_continues, call_continues, vfork_continues, exit_continues, break_continues}
+use Rattle.steady_laws.proofs.SpacesContinue.{fork_continues, exec_continues}
 use Rattle.proc_run.specs.Calls.{own_answers, CallComes}
 
 -- What the replies leave due: nothing.

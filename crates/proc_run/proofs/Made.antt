@@ -16,9 +16,9 @@ use Rattle.proc_calls.specs.declared.replying.Called.TheVariants as calls
 use Rattle.proc_calls.specs.Callers.{IsCaller, regs_of}
 use Rattle.run_model.specs.State.{State}
 use Rattle.step_units.specs.Stepped.{StepLeads, MarkEnds, CallLeads}
-use Rattle.holder_laws.specs.Holders.{HoldersStand}
-use Rattle.ready_laws.specs.Ready.{Continues}
-use Rattle.ready_laws.specs.Calls.{called_count}
+use Rattle.steady_laws.specs.Holders.{HoldersStand}
+use Rattle.steady_laws.specs.Ready.{Continues}
+use Rattle.steady_laws.specs.Calls.{called_count}
 use Rattle.touched_pages.specs.Missed.{WritesNothing}
 use Rattle.proc_run.specs.declared.advancing.Advance.{Advance}
 use Rattle.proc_run.specs.Calls.{CallComes, CallStops, MadeCall}

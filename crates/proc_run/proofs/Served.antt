@@ -30,10 +30,10 @@ use Rattle.step_units.specs.Running.{Waits, EndsRefused, ServeLeads}
 use Rattle.step_units.proofs.Accessing.{serve_made, serve_now_made, access_stops}
 use Rattle.step_units.proofs.Entering.{leads_then, stopped_short, stops_then}
 use Rattle.step_units.proofs.Ending.{ended, end_stops}
-use Rattle.holder_laws.specs.Holders.{KeepsHolders}
-use Rattle.holder_laws.proofs.Pages.{served_keeps, served_now_keeps}
-use Rattle.ready_laws.specs.Ready.{Continues}
-use Rattle.ready_laws.proofs.Pages.{access_continues, access_now_continues}
+use Rattle.steady_laws.specs.Holders.{KeepsHolders}
+use Rattle.steady_laws.proofs.Pages.{served_keeps, served_now_keeps}
+use Rattle.steady_laws.specs.Ready.{Continues}
+use Rattle.steady_laws.proofs.PagesContinue.{access_continues, access_now_continues}
 use Rattle.proc_run.specs.declared.advancing.Advance.TheVariants as advances
 use Rattle.proc_run.specs.Runs.{RunsAt, AdvancesTo}
 use Rattle.proc_run.specs.Serving.{AreLocked, ServedBy, StopsServed}

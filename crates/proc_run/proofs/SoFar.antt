@@ -27,8 +27,8 @@ use Rattle.step_units.specs.Machines.{MachineAt}
 use Rattle.step_units.specs.Stepped.{StepLeads}
 use Rattle.step_units.proofs.Entering.{leads_both, stops_then}
 use Rattle.step_units.specs.Lines.{IsClear}
-use Rattle.holder_laws.specs.Holders.{HoldersStand}
-use Rattle.ready_laws.specs.Ready.{Continues}
+use Rattle.steady_laws.specs.Holders.{HoldersStand}
+use Rattle.steady_laws.specs.Ready.{Continues}
 use Rattle.proc_run.specs.declared.advancing.Advance.TheVariants as advances
 use Rattle.proc_run.specs.Choosing.{holds_space, steps_by, may_run}
 use Rattle.proc_run.specs.Runs.{IsSteady, RunsAt, Advances, StopsAdvancing}

@@ -28,11 +28,11 @@ use Rattle.proc_calls.specs.Leaving.{HasEnded, StopsAlive}
 use Rattle.run_model.specs.State.{State}
 use Rattle.step_units.specs.Running.{Waits}
 use Rattle.step_units.specs.Stepped.{StopLeads}
-use Rattle.holder_laws.specs.Holders.{HoldersStand}
-use Rattle.holder_laws.proofs.Kernels.{writes_keep, ran_keeps}
-use Rattle.ready_laws.specs.Ready.{Continues}
-use Rattle.ready_laws.proofs.Running.{continues_both}
-use Rattle.ready_laws.proofs.Entries.{writes_continue, ran_continues}
+use Rattle.steady_laws.specs.Holders.{HoldersStand}
+use Rattle.steady_laws.proofs.Kernels.{writes_keep, ran_keeps}
+use Rattle.steady_laws.specs.Ready.{Continues}
+use Rattle.steady_laws.proofs.Running.{continues_both}
+use Rattle.steady_laws.proofs.Entries.{writes_continue, ran_continues}
 use Rattle.proc_run.specs.declared.advancing.Advance.{Advance}
 use Rattle.proc_run.specs.declared.advancing.Advance.TheVariants as advances
 use Rattle.proc_run.specs.Calls.{own_answers, MadeCall}

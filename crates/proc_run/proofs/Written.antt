@@ -12,8 +12,8 @@ use Rattle.page_model.specs.Placement.{Placement, Residence, state_of}
 use Rattle.page_model.specs.Swapper.{residence_of}
 use Rattle.kernel_model.specs.Kernel.{Kernel, Proc}
 use Rattle.machine_state.specs.UserMemory.{CanLend, spot_in, write_by_state, write_spot, write_in, writes_in}
-use Rattle.holder_laws.proofs.Spaces.{HasAll, touch_has}
-use Rattle.holder_laws.proofs.Standing.{life_at}
+use Rattle.steady_laws.proofs.Spaces.{HasAll, touch_has}
+use Rattle.steady_laws.proofs.Standing.{life_at}
 
 touched_residents : (p : Placement) (q : Page) (s : PageState) → (touch_to p q s).residents ≡ p.residents
 touched_residents p (Data sid v) (Valid f) = refl

@@ -14,7 +14,7 @@ use Rattle.run_model.specs.Wanted.{locked}
 use Rattle.step_units.specs.Machines.{RunsOn}
 use Rattle.step_units.specs.Stepped.{StepLeads, MarkEnds, StopLeads}
 use Rattle.step_units.specs.Running.{Waits}
-use Rattle.holder_laws.specs.Holders.{HoldersStand}
+use Rattle.steady_laws.specs.Holders.{HoldersStand}
 use Rattle.proc_run.specs.declared.advancing.Patience.{Patience}
 use Rattle.proc_run.specs.declared.advancing.Patience.TheVariants as patience
 use Rattle.proc_run.specs.declared.advancing.Advance.{Advance}

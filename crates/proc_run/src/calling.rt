@@ -7,8 +7,8 @@ ghost use Rattle.machine_state.specs.Done.{CountsPages, CountsReads, CountsWrite
 ghost use Rattle.machine_state.specs.Files.{AreFiles};
 ghost use Rattle.machine_state.specs.UserMemory.{CanLend};
 ghost use Rattle.proc_calls.specs.Callers.{regs_of};
-ghost use Rattle.holder_laws.specs.Holders.{HoldersStand};
-ghost use Rattle.ready_laws.specs.Ready.{Continues};
+ghost use Rattle.steady_laws.specs.Holders.{HoldersStand};
+ghost use Rattle.steady_laws.specs.Ready.{Continues};
 ghost use Rattle.proc_run.specs.Calls.{own_answers, CallComes, CallStops, MadeCall};
 ghost use Rattle.proc_run.specs.Runs.{IsSteady, is_now, Advances, StopsAdvancing, counts};
 

@@ -12,11 +12,11 @@ use Rattle.kernel_laws.proofs.Sound.NumbersApart.{begin_numbered}
 use Rattle.machine_state.specs.Applying.{facts_named}
 use Rattle.machine_state.specs.Beginning.{StartedFirst}
 use Rattle.machine_state.specs.Machine.{Standing}
-use Rattle.holder_laws.specs.Holders.{HoldersStand}
-use Rattle.holder_laws.proofs.First.{fresh_stands, started_stands, started_same}
-use Rattle.ready_laws.specs.Ready.{IsRunning, RunsOn, RunsDue}
-use Rattle.ready_laws.proofs.Running.{runs_self, runs_both}
-use Rattle.ready_laws.proofs.Lines.{begin_continues}
+use Rattle.steady_laws.specs.Holders.{HoldersStand}
+use Rattle.steady_laws.proofs.First.{fresh_stands, started_stands, started_same}
+use Rattle.steady_laws.specs.Ready.{IsRunning, RunsOn, RunsDue}
+use Rattle.steady_laws.proofs.Running.{runs_self, runs_both}
+use Rattle.steady_laws.proofs.Lines.{begin_continues}
 use Rattle.run_start.specs.Starting.{IsNew}
 use Rattle.run_start.specs.declared.starting.Started.{Started}
 use Rattle.run_start.specs.declared.starting.Started.TheVariants as starteds

@@ -9,11 +9,11 @@ use Rattle.page_model.specs.Placement.{Due, Start, CopyOf}
 use Rattle.machine_state.specs.Calls.{first_due}
 use Rattle.machine_state.specs.Machine.{Standing}
 use Rattle.proc_calls.specs.Filling.{FillsStart}
-use Rattle.holder_laws.specs.Holders.{HoldersStand}
-use Rattle.holder_laws.proofs.Making.{filled_keeps}
-use Rattle.ready_laws.specs.Ready.{IsRunning, RunsDue}
-use Rattle.ready_laws.proofs.Running.{runs_self, runs_both}
-use Rattle.ready_laws.proofs.Lines.{fill_continues}
+use Rattle.steady_laws.specs.Holders.{HoldersStand}
+use Rattle.steady_laws.proofs.Making.{filled_keeps}
+use Rattle.steady_laws.specs.Ready.{IsRunning, RunsDue}
+use Rattle.steady_laws.proofs.Running.{runs_self, runs_both}
+use Rattle.steady_laws.proofs.Lines.{fill_continues}
 use Rattle.run_start.specs.Filling.{AreStarts, FillsAll, StopsFilling}
 
 -- What is due first is a new stack page.

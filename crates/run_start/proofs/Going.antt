@@ -6,7 +6,7 @@ use Rattle.io_edge.specs.FileHolding.{NamedFile}
 use Rattle.flat_state.specs.Journal.{instructions_of}
 use Rattle.machine_state.specs.Machine.{Standing}
 use Rattle.paging_units.specs.LastMoves.{last_moves}
-use Rattle.ready_laws.specs.Ready.{RunsOn}
+use Rattle.steady_laws.specs.Ready.{RunsOn}
 use Rattle.run_start.specs.Starting.{IsNew, HasStarted}
 use Rattle.run_start.specs.Filling.{FillsAll}
 use Rattle.run_start.proofs.Begun.{MayBegin, new_frames}

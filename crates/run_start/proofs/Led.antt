@@ -16,7 +16,7 @@ use Rattle.machine_state.specs.Files.{AreImages}
 use Rattle.machine_state.specs.Machine.{Standing}
 use Rattle.machine_state.specs.Sourced.{ImageNamed}
 use Rattle.proc_calls.specs.Filling.{FillsStart, StopsStart}
-use Rattle.ready_laws.specs.Ready.{RunsOn}
+use Rattle.steady_laws.specs.Ready.{RunsOn}
 use Rattle.run_model.specs.State.{State, start}
 use Rattle.run_laws.specs.Running.{CanRun}
 use Rattle.run_laws.proofs.Beginning.{run_start}

@@ -9,7 +9,7 @@ use Rattle.machine_state.specs.Machine.{Standing}
 use Rattle.machine_state.specs.Sourced.{ImageNamed}
 use Rattle.paging_units.specs.LastMoves.{last_moves}
 use Rattle.proc_calls.specs.Reading.{AreNamed}
-use Rattle.holder_laws.specs.Holders.{HoldersStand}
+use Rattle.steady_laws.specs.Holders.{HoldersStand}
 use Rattle.run_start.specs.declared.starting.Started.{Started}
 use Rattle.run_start.specs.declared.starting.Started.TheVariants as starteds
 

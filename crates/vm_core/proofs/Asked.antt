@@ -16,10 +16,10 @@ use Rattle.clock_hands.specs.Moved.{Moved, StopsMoving}
 use Rattle.swapper.specs.declared.Turned.{Turned}
 use Rattle.swapper.specs.Runners.{runners_of, choice_of}
 use Rattle.swapper.specs.Turns.{Turns, StopsTurning}
-use Rattle.holder_laws.proofs.Kernels.{is_done_keeps}
-use Rattle.holder_laws.proofs.Pages.{moved_keeps, turn_keeps}
-use Rattle.ready_laws.proofs.Transfers.{done_continues}
-use Rattle.ready_laws.proofs.Lines.{moves_continue, turn_continues}
+use Rattle.steady_laws.proofs.Kernels.{is_done_keeps}
+use Rattle.steady_laws.proofs.Pages.{moved_keeps, turn_keeps}
+use Rattle.steady_laws.proofs.Transfers.{done_continues}
+use Rattle.steady_laws.proofs.Lines.{moves_continue, turn_continues}
 use Rattle.paging_units.specs.LastMoves.{last_moves}
 use Rattle.run_model.specs.State.{State}
 use Rattle.run_model.specs.After.{interrupt_mark}

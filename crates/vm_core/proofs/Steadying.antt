@@ -7,12 +7,12 @@ use Rattle.machine_state.specs.Machine.{Standing}
 use Rattle.machine_state.specs.Settled.{IsSameBeside}
 use Rattle.machine_state.specs.Swapping.{IsIn}
 use Rattle.paging_units.specs.LastMoves.{last_moves}
-use Rattle.holder_laws.specs.Holders.{HoldersStand}
-use Rattle.holder_laws.proofs.Kernels.{note_keeps, is_in_keeps}
-use Rattle.ready_laws.specs.Ready.{IsReady, Continues, RunsMoved}
-use Rattle.ready_laws.proofs.Journals.{last_plain}
-use Rattle.ready_laws.proofs.Entries.{note_continues}
-use Rattle.ready_laws.proofs.Lines.{turn_continues}
+use Rattle.steady_laws.specs.Holders.{HoldersStand}
+use Rattle.steady_laws.proofs.Kernels.{note_keeps, is_in_keeps}
+use Rattle.steady_laws.specs.Ready.{IsReady, Continues, RunsMoved}
+use Rattle.steady_laws.proofs.Journals.{last_plain}
+use Rattle.steady_laws.proofs.Entries.{note_continues}
+use Rattle.steady_laws.proofs.Lines.{turn_continues}
 use Rattle.swapper.specs.declared.Turned.TheVariants as turns
 use Rattle.proc_run.specs.Runs.{IsSteady}
 use Rattle.vm_core.specs.Steady.{StaysSteady}

@@ -9,10 +9,10 @@ use Rattle.user_vax.specs.Instruction.{instruction}
 use Rattle.user_vax.specs.declared.refused.Refused.TheVariants.{Miss, Below, Signal}
 use Rattle.flat_state.specs.Journal.{instructions_of}
 use Rattle.machine_state.specs.Machine.{Standing}
-use Rattle.holder_laws.proofs.Calls.{caller_holds}
-use Rattle.holder_laws.proofs.Leaving.{ended_keeps}
-use Rattle.ready_laws.proofs.Calls.{end_continues}
-use Rattle.ready_laws.proofs.Journals.{last_counts_few}
+use Rattle.steady_laws.proofs.Calls.{caller_holds}
+use Rattle.steady_laws.proofs.Leaving.{ended_keeps}
+use Rattle.steady_laws.proofs.CallsContinue.{end_continues}
+use Rattle.steady_laws.proofs.Journals.{last_counts_few}
 use Rattle.proc_run.specs.Calls.{own_answers, MadeCall}
 use Rattle.proc_run.specs.Runs.{is_now}
 use Rattle.proc_run.proofs.Attempts.{RoomOnly, missed, fell, signalled, room_steady, room_lends, room_regs, room_goes_on}

@@ -2,9 +2,9 @@ use Rattle.std.proofs.Common.{w32, sym, ap, ◌∙◌}
 use Rattle.std.proofs.lemmas.Int.{to_z-of_z}
 use Rattle.std.proofs.lemmas.Result.{err_from_is_err_and}
 use Rattle.flat_model.specs.Calls.{call_of}
-use Rattle.holder_laws.proofs.Calls.{caller_holds}
-use Rattle.holder_laws.proofs.Leaving.{ended_keeps}
-use Rattle.ready_laws.proofs.Calls.{end_continues}
+use Rattle.steady_laws.proofs.Calls.{caller_holds}
+use Rattle.steady_laws.proofs.Leaving.{ended_keeps}
+use Rattle.steady_laws.proofs.CallsContinue.{end_continues}
 use Rattle.proc_run.specs.Runs.{is_now}
 use Rattle.proc_run.proofs.Made.{caller_of, ready_advances, ready_goes_on, asleep_advances, asleep_goes_on, keeps, stopped, unchanged, steady_again, lends_again, regs_again, quiet, missed_advances, missed_stops, missed_goes_on}
 use Rattle.proc_run.proofs.Steps.{no_call_led, no_call_stops}

@@ -1,6 +1,6 @@
 use Rattle.std.proofs.Common.{◌∙◌, subst, refl, arith}
 use Rattle.std.proofs.lemmas.Result.{err_from_is_err_and}
-use Rattle.ready_laws.specs.Ready.{Continues}
+use Rattle.steady_laws.specs.Ready.{Continues}
 use Rattle.proc_run.specs.declared.advancing.Advance.TheVariants as advances
 use Rattle.proc_run.specs.Runs.{is_now, Advances, StopsAdvancing, counts}
 use Rattle.proc_run.proofs.SoFar.{none_so_far, counted_far, served_far, stuck_runs, stops_far, idle_runs, done_runs, waited_runs, steady_on, lends_there}

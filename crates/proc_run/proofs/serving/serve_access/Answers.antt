@@ -3,11 +3,11 @@ use Rattle.std.proofs.lemmas.Result.{err_from_is_err_and}
 use Rattle.fault_fill.specs.declared.touch.Served.{Served}
 use Rattle.proc_calls.specs.Callers.{IsCaller}
 use Rattle.proc_calls.specs.Leaving.{HasEnded, StopsAlive}
-use Rattle.holder_laws.proofs.Calls.{caller_holds}
-use Rattle.holder_laws.proofs.Leaving.{ended_keeps}
-use Rattle.ready_laws.specs.Ready.{Continues}
-use Rattle.ready_laws.proofs.Running.{continues_both}
-use Rattle.ready_laws.proofs.Calls.{end_continues}
+use Rattle.steady_laws.proofs.Calls.{caller_holds}
+use Rattle.steady_laws.proofs.Leaving.{ended_keeps}
+use Rattle.steady_laws.specs.Ready.{Continues}
+use Rattle.steady_laws.proofs.Running.{continues_both}
+use Rattle.steady_laws.proofs.CallsContinue.{end_continues}
 use Rattle.proc_run.specs.Runs.{is_now}
 use Rattle.proc_run.proofs.Served.{IsStuck, EndsBy, is_end, ends_there, served_on, served_holders, served_stops, advances_valid, advances_stuck, advances_ended, stops_ended}
 use Rattle.proc_run.proofs.serving.serve_access.Goals as goal

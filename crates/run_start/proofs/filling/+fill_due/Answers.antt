@@ -1,8 +1,8 @@
 use Rattle.std.proofs.Common.{◌<◌, length, sym, ◌∙◌, subst, arith}
 use Rattle.page_laws.proofs.Ends.Hands.{room_still}
 use Rattle.proc_calls.proofs.CopiedPages.{area_next, files_next}
-use Rattle.ready_laws.specs.Ready.{RunsDue}
-use Rattle.ready_laws.proofs.Lines.{fill_continues}
+use Rattle.steady_laws.specs.Ready.{RunsDue}
+use Rattle.steady_laws.proofs.Lines.{fill_continues}
 use Rattle.run_start.specs.Filling.{AreStarts}
 use Rattle.run_start.proofs.Filled.{FirstOf, first_of, fewer, fills_more}
 use Rattle.run_start.proofs.filling.+fill_due.Goals as goal

@@ -1,3 +1,0 @@
-pub mod Holders
-pub mod Coming
-pub mod Keeping

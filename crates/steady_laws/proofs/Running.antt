@@ -1,0 +1,135 @@
+-- Machines that run on, and units of paging behind which they do.
+use Rattle.std.proofs.Common.{◌≡◌, ℕ, ◌+◌, ◌≤◌, List, [], ◌∷◌, length, Option, refl, sym, ap, ◌∙◌, subst, arith}
+use Rattle.vm_facts.specs.declared.page.Page.{Page}
+use Rattle.vm_facts.specs.declared.entry.Entry.{Entry}
+use Rattle.vm_facts.specs.declared.entry.Entry.TheVariants as entries
+use Rattle.flat_state.specs.Journal.{append, counted, instructions_of}
+use Rattle.page_model.specs.Placement.{Placement, Due}
+use Rattle.page_model.specs.Rank.{HasRoom}
+use Rattle.page_laws.proofs.Ends.Hands.{room_still}
+use Rattle.kernel_model.specs.Kernel.{Kernel}
+use Rattle.machine_state.specs.Machine.{Standing}
+use Rattle.machine_state.specs.UserMemory.{CanLend}
+use Rattle.paging_units.specs.LastMoves.{last_moves}
+use Rattle.paging_units.specs.Made.{Ground, MadeBy, Made, Makes}
+use Rattle.paging_units.proofs.Units.{unit_place, unit_journal, made_same, makes_whole}
+use Rattle.proc_calls.specs.Callers.{IsCaller}
+use Rattle.steady_laws.specs.Ready.{IsRunning, IsReady, RunsOn, Continues, RunsDue, RunsMoved}
+use Rattle.steady_laws.proofs.Placements.{entry_frames, entry_clear}
+use Rattle.steady_laws.proofs.Journals.{counts_one}
+
+-- Machines.
+
+pub continues : (old new : Standing) (n : ℕ) → RunsOn old new n → new.kernel.place.due ≡ [] → last_moves new.kernel.journal ≤ last_moves old.kernel.journal → Continues old new n
+continues old new n on clear low = record {
+  params = on.params;
+  images = on.images;
+  running = on.running;
+  whole = on.whole;
+  clear = clear;
+  frames = on.frames;
+  low = low;
+  counted = on.counted;
+}
+
+pub runs_on : (old new : Standing) (n : ℕ) → Continues old new n → RunsOn old new n
+runs_on old new n c = record { params = c.params; images = c.images; running = c.running; whole = c.whole; frames = c.frames; counted = c.counted }
+
+pub runs_self : (m : Standing) → IsRunning m → RunsOn m m 0
+runs_self m r = record { params = refl; images = refl; running = r.running; whole = r.whole; frames = refl; counted = omega arith }
+
+pub runs_both : (a b c : Standing) (m n : ℕ) → RunsOn a b m → RunsOn b c n → RunsOn a c (m + n)
+runs_both a b c m n s t = record {
+  params = t.params ∙ s.params;
+  images = t.images ∙ s.images;
+  running = t.running;
+  whole = t.whole;
+  frames = t.frames ∙ s.frames;
+  counted = sum (instructions_of a.kernel.journal) (instructions_of b.kernel.journal) (instructions_of c.kernel.journal) s.counted t.counted;
+}
+  where
+    sum : (x y z : ℕ) → y ≡ x + m → z ≡ y + n → z ≡ x + (m + n)
+    sum x y z e f = omega arith
+
+pub ready_runs : (m : Standing) → IsReady m → IsRunning m
+ready_runs m r = record { running = r.running; whole = r.whole }
+
+pub caller_ready : (m : Standing) (pid : ℕ) → IsCaller m pid → IsReady m
+caller_ready m pid c = record { running = c.running; whole = c.whole; clear = c.clear }
+
+pub continues_self : (m : Standing) → IsReady m → Continues m m 0
+continues_self m r = continues m m 0 (runs_self m (ready_runs m r)) r.clear (omega arith)
+
+pub continues_both : (a b c : Standing) (m n : ℕ) → Continues a b m → Continues b c n → Continues a c (m + n)
+continues_both a b c m n s t = continues a c (m + n) (runs_both a b c m n (runs_on a b m s) (runs_on b c n t)) t.clear (let x = s.low in let y = t.low in omega arith)
+
+pub stays_ready : (old new : Standing) (n : ℕ) → Continues old new n → IsReady new
+stays_ready old new n c = record { running = c.running; whole = c.whole; clear = c.clear }
+
+pub stays_caller : (old new : Standing) (n pid : ℕ) → Continues old new n → CanLend new.kernel pid → IsCaller new pid
+stays_caller old new n pid c l = record { running = c.running; whole = c.whole; clear = c.clear; lends = l }
+
+pub stays_roomy : (old new : Standing) (n : ℕ) (locked : List Page) → Continues old new n → HasRoom old.kernel.place locked → HasRoom new.kernel.place locked
+stays_roomy old new n locked c r = room_still old.kernel.place new.kernel.place locked c.frames r
+
+pub none_due : (old new : Standing) (n : ℕ) → RunsDue old new n [] → Continues old new n
+none_due old new n d = continues old new n d.on d.due d.low
+
+pub due_roomy : (old new : Standing) (n : ℕ) (ds : List Due) (locked : List Page) → RunsDue old new n ds → HasRoom old.kernel.place locked → IsRunning new × HasRoom new.kernel.place locked
+due_roomy old new n ds locked d r = (record { running = d.on.running; whole = d.on.whole }, room_still old.kernel.place new.kernel.place locked d.on.frames r)
+
+pub moved_ready : (old new : Standing) (moves : ℕ) (locked : List Page) → RunsMoved old new moves → HasRoom old.kernel.place locked → IsReady new × HasRoom new.kernel.place locked
+moved_ready old new moves locked d r =
+    (record { running = d.on.running; whole = d.on.whole; clear = d.clear }, room_still old.kernel.place new.kernel.place locked d.on.frames r)
+
+-- behind a call that counts none
+pub continues_from : (a b c : Standing) (n : ℕ) → Continues a b 0 → Continues b c n → Continues a c n
+continues_from a b c n s t =
+    let e : 0 + n ≡ n = omega arith in subst (λ (x : ℕ). Continues a c x) e (continues_both a b c 0 n s t)
+
+-- Units.
+
+unit_counts : (g : Ground) (e : Entry) (k l : Kernel) (i : Option (List ℕ)) → MadeBy g e k i l → counted e ≡ 0
+unit_counts g (entries.Ran pid n) k l i h = absurd h
+unit_counts g (entries.Call pid number carry a b) k l i h = absurd h
+unit_counts g (entries.Ended pid status) k l i h = absurd h
+unit_counts g _ k l i h = refl
+
+pub made_counted : (g : Ground) (us : List Entry) (k l : Kernel) (i j : Option (List ℕ)) → Made g us k i l j → instructions_of l.journal ≡ instructions_of k.journal
+made_counted g [] k l i j m = sym (ap (λ (x : Kernel). instructions_of x.journal) m.0)
+made_counted g (e ∷ us) k l i j m =
+    let rest = made_counted g us m.next l m.image j m.rest in
+    let one = counts_one k.journal m.next.journal e (unit_journal g e k m.next i m.made) in
+    let none = unit_counts g e k m.next i m.made in
+    omega arith
+
+pub made_frames : (g : Ground) (us : List Entry) (k l : Kernel) (i j : Option (List ℕ)) → Made g us k i l j → length l.place.holds ≡ length k.place.holds
+made_frames g [] k l i j m = sym (ap (λ (x : Kernel). length x.place.holds) m.0)
+made_frames g (e ∷ us) k l i j m =
+    made_frames g us m.next l m.image j m.rest
+    ∙ ap (λ (p : Placement). length p.holds) (unit_place g e k m.next i m.made)
+    ∙ entry_frames g.locked (length (append k.journal e)) k.place e
+
+pub made_clear : (g : Ground) (us : List Entry) (k l : Kernel) (i j : Option (List ℕ)) → k.place.due ≡ [] → Made g us k i l j → l.place.due ≡ []
+made_clear g [] k l i j c m = sym (ap (λ (x : Kernel). x.place.due) m.0) ∙ c
+made_clear g (e ∷ us) k l i j c m =
+    made_clear g us m.next l m.image j
+    (ap (λ (p : Placement). p.due) (unit_place g e k m.next i m.made) ∙ entry_clear g.locked (length (append k.journal e)) k.place e c) m.rest
+
+pub units_run : (g : Ground) (us : List Entry) (old new : Standing) (i j : Option (List ℕ)) → IsRunning old → Makes g us old new i j → RunsOn old new 0
+units_run g us old new i j r m =
+    let same = made_same g us old.kernel new.kernel i j m.made in
+    let count = made_counted g us old.kernel new.kernel i j m.made in
+    record {
+      params = m.beside.params;
+      images = m.beside.images;
+      running = same.stopped ∙ r.running;
+      whole = makes_whole g us old new i j m r.whole;
+      frames = made_frames g us old.kernel new.kernel i j m.made;
+      counted = omega arith;
+    }
+
+pub units_continue : (g : Ground) (us : List Entry) (old new : Standing) (i j : Option (List ℕ)) → IsReady old → Makes g us old new i j
+    → last_moves new.kernel.journal ≤ last_moves old.kernel.journal → Continues old new 0
+units_continue g us old new i j r m low =
+    continues old new 0 (units_run g us old new i j (ready_runs old r) m) (made_clear g us old.kernel new.kernel i j r.clear m.made) low

@@ -1,0 +1,68 @@
+-- A machine goes on behind an entry.
+use Rattle.std.specs.Prelude.{◌≡◌, ℕ, List, Option, None}
+use Rattle.vm_facts.specs.Answers.{ByteWrite}
+use Rattle.vm_facts.specs.declared.regs.Regs.{Regs}
+use Rattle.vm_facts.specs.declared.entry.Entry.{Entry}
+use Rattle.vm_facts.specs.declared.entry.Entry.TheVariants as entries
+use Rattle.swap_book.specs.Holdings.{Holdings}
+use Rattle.flat_state.specs.declared.change.Change.{Change}
+use Rattle.flat_state.specs.declared.change.Change.TheVariants.{Fork, Exec}
+use Rattle.flat_state.specs.Journal.{counted, IsPlain}
+use Rattle.kernel_model.specs.Kernel.{note_step}
+use Rattle.kernel_model.specs.ChangeStep.{ran_by, pass_step}
+use Rattle.machine_state.specs.Machine.{Standing}
+use Rattle.machine_state.specs.UserMemory.{writes_in}
+use Rattle.paging_units.specs.LastMoves.{last_moves}
+use Rattle.proc_calls.specs.Answered.{Entered}
+use Rattle.proc_calls.specs.Callers.{IsCaller}
+use Rattle.proc_calls.specs.Making.{with_pieces}
+use Rattle.steady_laws.specs.Ready.{IsReady, Continues, RunsMoved}
+
+-- a change behind which no page is due, where none was
+abbrev pub LeavesNone : Change → Type 0
+LeavesNone (Fork child) = ⊥
+LeavesNone (Exec image top) = ⊥
+LeavesNone _ = Unit {0}
+
+-- An entry of a process with its change, and one for which pieces were found before: none of an instruction, and none of the
+-- hands.
+abbrev pub EntryContinues : Type 0
+EntryContinues =
+    (old new : Standing) (pid : ℕ) (regs : Regs) (e : Entry) (change : Change) → IsCaller old pid → IsPlain e → LeavesNone change → Entered old new pid regs e change
+    → Continues old new (counted e)
+
+abbrev pub FoundContinues : Type 0
+FoundContinues =
+    (old new : Standing) (found : Holdings) (pid : ℕ) (regs : Regs) (e : Entry) (change : Change) → IsCaller old pid → IsPlain e → LeavesNone change
+    → Entered (with_pieces old found) new pid regs e change → Continues old new (counted e)
+
+-- An entry that goes into the journal alone.
+abbrev pub NoteContinues : Type 0
+NoteContinues =
+    (old new : Standing) (e : Entry) → IsReady old → IsPlain e → new ≡ record old { kernel = note_step old.kernel e; room = None } → Continues old new (counted e)
+
+-- Behind it the last entry counts no moves of the hands, so behind moves of them the machine goes on from before these.
+abbrev pub NoteCountsNone : Type 0
+NoteCountsNone = (old new : Standing) (e : Entry) → IsPlain e → new ≡ record old { kernel = note_step old.kernel e; room = None } → last_moves new.kernel.journal ≡ 0
+
+abbrev pub MovedNoteContinues : Type 0
+MovedNoteContinues =
+    (old between new : Standing) (moves : ℕ) (e : Entry) → RunsMoved old between moves → IsPlain e
+    → new ≡ record between { kernel = note_step between.kernel e; room = None } → Continues old new (counted e)
+
+-- An instruction that is counted; room for it, which was made before; and its writes.
+abbrev pub RanContinues : Type 0
+RanContinues =
+    (old new : Standing) (pid : ℕ) (regs : Regs) → IsReady old → new ≡ record old { kernel = ran_by old.kernel pid regs (entries.Ran pid 1); room = None }
+    → Continues old new 1
+
+abbrev pub RoomContinues : Type 0
+RoomContinues = (old new : Standing) (made : Option ℕ) → IsReady old → new ≡ record old { room = made } → Continues old new 0
+
+abbrev pub WritesContinue : Type 0
+WritesContinue =
+    (old new : Standing) (sid : ℕ) (ws : List ByteWrite) → IsReady old → new ≡ record old { kernel = writes_in old.kernel sid ws } → Continues old new 0
+
+-- A space that passes from a process to another, with no entry.
+abbrev pub PassContinues : Type 0
+PassContinues = (old new : Standing) (from to : ℕ) → IsReady old → new ≡ record old { kernel = pass_step old.kernel from to } → Continues old new 0

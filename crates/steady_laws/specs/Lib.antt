@@ -1,0 +1,9 @@
+pub mod Holders
+pub mod Coming
+pub mod Keeping
+pub mod Ready
+pub mod Entries
+pub mod Units
+pub mod Calls
+pub mod Pages
+pub mod Lines

@@ -1,0 +1,53 @@
+-- A machine goes on behind what a line of the schedule asks for, and behind what begins a run.
+use Rattle.std.specs.Prelude.{◌≡◌, ℕ, List, [], ◌∷◌, ◌++◌, length, Option, None}
+use Rattle.vm_facts.specs.declared.page.Page.{Page}
+use Rattle.vm_facts.specs.declared.page.Page.TheVariants.{Stack}
+use Rattle.io_edge.specs.FileHolding.{NamedFile}
+use Rattle.page_model.specs.Placement.{Due, Start}
+use Rattle.kernel_model.specs.Kernel.{zero_step}
+use Rattle.machine_state.specs.Beginning.{StartedFirst}
+use Rattle.machine_state.specs.Done.{Sources, IsDone}
+use Rattle.machine_state.specs.Machine.{Standing}
+use Rattle.clock_hands.specs.Forced.{Forced}
+use Rattle.clock_hands.specs.Moved.{Moved}
+use Rattle.proc_calls.specs.Filling.{FillsStart}
+use Rattle.swapper.specs.declared.Turned.{Turned}
+use Rattle.swapper.specs.Turns.{Turns}
+use Rattle.steady_laws.specs.Ready.{IsRunning, IsReady, Continues, RunsDue, RunsMoved}
+
+-- Moves of the hands, and a frame that they force.
+abbrev pub MovesContinue : Type 0
+MovesContinue =
+    (old new : Standing) (n made : ℕ) (holds : Option (List NamedFile)) (i j : Option (List ℕ)) → IsReady old → Moved n old new made holds i j → RunsMoved old new made
+
+abbrev pub ForcedContinues : Type 0
+ForcedContinues =
+    (old new : Standing) (locked : List Page) (holds : Option (List NamedFile)) (i j : Option (List ℕ)) → IsReady old → Forced locked old new holds i j
+    → RunsMoved old new (length old.kernel.place.holds)
+
+-- The end of a transfer.
+abbrev pub DoneContinues : Type 0
+DoneContinues =
+    (old new : Standing) (from : Sources) (i : Option (List ℕ)) → IsReady old → IsDone from i old.kernel new.kernel
+    → new ≡ record old { kernel = new.kernel; room = None } → Continues old new 0
+
+-- A turn of the swapper.
+abbrev pub TurnContinues : Type 0
+TurnContinues =
+    (turned : Turned) (old new : Standing) (holds : Option (List NamedFile)) (i j : Option (List ℕ)) → IsReady old → Turns turned old new holds i j → Continues old new 0
+
+-- A first process that begins: its stack page 0 is due behind those that were. The pages that are due first are filled in turn.
+abbrev pub BeginContinues : Type 0
+BeginContinues =
+    (old new : Standing) (image : ℕ) → IsRunning old → StartedFirst old new image
+    → RunsDue old new 0 (old.kernel.place.due ++ Start (Stack old.kernel.next_pid 0) ∷ [])
+
+abbrev pub ZeroContinues : Type 0
+ZeroContinues =
+    (old new : Standing) (page : Page) (ds : List Due) → IsRunning old → old.kernel.place.due ≡ Start page ∷ ds
+    → new ≡ record old { kernel = zero_step old.kernel page; room = None } → RunsDue old new 0 ds
+
+abbrev pub FillContinues : Type 0
+FillContinues =
+    (old new : Standing) (page : Page) (ds : List Due) (holds : Option (List NamedFile)) (i j : Option (List ℕ)) → IsRunning old
+    → old.kernel.place.due ≡ Start page ∷ ds → FillsStart page old new holds i j → RunsDue old new 0 ds
