@@ -23,7 +23,7 @@ use Rattle.machine_state.specs.Changing.{Resized, GaveUp, started_place, Entered
 use Rattle.machine_state.specs.Changing.{HasEnded, processes_in, residents_in}
 use Rattle.machine_state.specs.Applied.{place_in, Applied}
 use Rattle.machine_state.proofs.ProcessLists.{OnlyOne, with_self, without_self}
-use Rattle.machine_state.proofs.Goings.{tied_moved}
+use Rattle.machine_state.proofs.Moved.{tied_moved}
 
 -- What other records leave.
 module _ (v u : Tables) (next : ℕ) (ps : List Proc) (rs : List Residence) (h : HasProcesses v u next ps rs) where

@@ -36,7 +36,7 @@ use Rattle.machine_state.specs.New.{fresh_kernel}
 use Rattle.machine_state.specs.Fields.{standing_of, RunsNow, RunsInside}
 use Rattle.machine_state.specs.Beginning.{MayStart, FindsNoPlace, HoldsNone, MayLookFirst, LookedFirst, found_first, MayEnterFirst}
 use Rattle.machine_state.proofs.Shows.{sids_shown}
-use Rattle.machine_state.proofs.Knows.{known_of}
+use Rattle.machine_state.proofs.Knowing.{known_of}
 use Rattle.machine_state.proofs.Standings.{running, stands_now, whole_now}
 
 -- What is known before.

@@ -52,7 +52,7 @@ use Rattle.machine_state.proofs.Marks.{marks_placed, alone_in, set_resident}
 use Rattle.machine_state.proofs.Knows.{held_named, texts_here}
 use Rattle.machine_state.proofs.Residing.{entry_shown, seat_resides}
 use Rattle.machine_state.proofs.Reclaims.{held_is}
-use Rattle.machine_state.proofs.Standings.{images_heads}
+use Rattle.machine_state.proofs.Stills.{images_heads}
 
 abbrev forgotten : Lists → Page → ℕ → Frame → Lists
 forgotten t q f token = record t { slots = set t.slots f (tokens.Free token None); free = f ∷ without f t.free; spaces = map (placed q places.Zero) t.spaces }

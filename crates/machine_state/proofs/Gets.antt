@@ -19,18 +19,13 @@ use Rattle.page_model.specs.Dues.{DueStand, NotDue, IsDue}
 use Rattle.kernel_model.specs.Kernel.{Kernel, get_step}
 use Rattle.kernel_model.specs.Sound.{Sound}
 use Rattle.kernel_model.specs.Coupled.{beside_kernel}
-use Rattle.kernel_model.specs.Numbers.{Numbered}
 use Rattle.page_laws.proofs.Lists.Runs.{each_page_imp, pages_from_apart}
-use Rattle.kernel_laws.proofs.Sound.Steps.{plain_sound}
-use Rattle.kernel_laws.proofs.Sound.NumbersApart.{plain_numbered}
-use Rattle.page_laws.proofs.Due.Entries.{entry_due}
 use Rattle.kernel_laws.proofs.Machine.Moves.{get_coupled_step}
 use Rattle.page_laws.proofs.Bytes.Others.{get_run_same}
 use Rattle.machine_state.specs.declared.tables.Tables.{Tables}
-use Rattle.machine_state.specs.declared.machine.Machine.TheInside.{Inside}
 use Rattle.machine_state.specs.View.{Flown, in_part, inbound_flown, transfer_shown, flown_in, flown, starts_of, placement_of, frames_of}
 use Rattle.machine_state.specs.Known.{Known, MayBring}
-use Rattle.machine_state.specs.Machine.{Runs, lists_of, kernel_by, images_of, image_at, processes_of}
+use Rattle.machine_state.specs.Machine.{lists_of, kernel_by, images_of, image_at, processes_of}
 use Rattle.machine_state.specs.Moves.{BeganRead, opened}
 use Rattle.machine_state.specs.Sourced.{IsFlightSourced}
 use Rattle.machine_state.specs.Steps.{source_by}
@@ -149,30 +144,13 @@ get_kernel t w q lo n journal stopped g =
     refl
 
 -- what is due is unfilled with zeros or as its parent's page is, and what is read from its file isn't due
-reads_fresh : (p : Placement) (s : Source) (q r : Page) → DueStand p → ReadsFrom p s q r → NotDue p.due r
+pub reads_fresh : (p : Placement) (s : Source) (q r : Page) → DueStand p → ReadsFrom p s q r → NotDue p.due r
 reads_fresh p FromFile q r d e = e.2
 reads_fresh p FromSwap q r d e = go (due_at p.due r) refl
   where
     go : (o : Option Due) → due_at p.due r ≡ o → o ≡ None
     go None h = refl
     go (Some x) h = absurd (let i : IsDue p r x = d r x h in let y : Unfilled ≡ OnSwap = sym i.unfilled ∙ e in cc)
-
-pub get_runs : (m : Inside) (w : Tables) (q : Page) (lo n : ℕ) (journal : List Entry) (stopped : Bool)
-    → Runs (kernel_by m.tables m.journal.items m.stopped) (lists_of m.tables) m.tables.book.size → CanBringIn (placement_of (lists_of m.tables)) q lo n → BeganRead m.tables w q lo n → journal ≡ m.journal.items → stopped ≡ m.stopped
-    → Runs (kernel_by w (journal ++ entries.Get q lo n ∷ []) stopped) (lists_of w) w.book.size
-get_runs m w q lo n journal stopped r can g ej es =
-    let k : Kernel = kernel_by m.tables m.journal.items m.stopped in
-    let is : kernel_by w (journal ++ entries.Get q lo n ∷ []) stopped ≡ get_step k q lo n =
-    get_kernel m.tables w q lo n journal stopped g ∙ ap (λ (j : List Entry). get_step (kernel_by m.tables j stopped) q lo n) ej ∙ ap (λ (b : Bool). get_step (kernel_by m.tables m.journal.items b) q lo n) es in
-    let size : w.book.size ≡ m.tables.book.size = ap (λ (y : Tables). y.book.size) g.rest in
-    record {
-      sound = subst (λ (s : ℕ). Sound s (kernel_by w (journal ++ entries.Get q lo n ∷ []) stopped)) (sym size) (subst (Sound m.tables.book.size) (sym is)
-          (plain_sound m.tables.book.size k [] (entries.Get q lo n) r.sound can.enter can.shared (let l = can.room in omega arith)));
-      numbered = subst Numbered (sym is) (plain_numbered k [] (entries.Get q lo n) r.numbered);
-      due = subst (λ (y : Kernel). DueStand y.place) (sym is) (entry_due [] 0 k.place (entries.Get q lo n) r.sound.owner.frames can.enter
-          (each_page_imp (ReadsFrom k.place (source_for (state_of k.place q)) q) (NotDue k.place.due) (pages_from q lo n) can.reads (λ s e. reads_fresh k.place (source_for (state_of k.place q)) q s r.due e)) r.due);
-      tied = g.tied;
-    }
 
 pub get_keeps : (size : ℕ) (k : Kernel) (q : Page) (lo n : ℕ) → Sound size k → CanBringIn k.place q lo n → KeepsFlat k (get_step k q lo n)
 get_keeps size k q lo n so can images image flat c = get_coupled_step size k images image flat q lo n so can.enter can.reads c

@@ -40,8 +40,7 @@ use Rattle.kernel_laws.proofs.Machine.Swaps.{u_found, out_coupled, in_coupled_an
 use Rattle.machine_state.specs.declared.tables.Tables.{Tables}
 use Rattle.machine_state.specs.declared.machine.Machine.TheInside.{Inside}
 use Rattle.machine_state.specs.Shown.{space_shown}
-use Rattle.machine_state.specs.View.{Lists, placement_of}
-use Rattle.machine_state.specs.Tied.{Tied}
+use Rattle.machine_state.specs.View.{placement_of}
 use Rattle.machine_state.specs.Alike.{AreRecords}
 use Rattle.machine_state.specs.Lives.{space_by, space_held}
 use Rattle.machine_state.specs.Machine.{life_shown, proc_shown, Runs, Stands, lists_of, kernel_by, before_of}
@@ -50,9 +49,10 @@ use Rattle.machine_state.specs.Done.{StandsTold}
 use Rattle.machine_state.specs.Swapping.{u_block, Lasts, MovedRecord, IsUPage, AreStored, WritesU, KeepsOut, KeepsIn}
 use Rattle.machine_state.proofs.Kernels.{kernel_ext}
 use Rattle.machine_state.proofs.Lives.{HasRecord, record_of}
-use Rattle.machine_state.proofs.Standings.{Grown, pushed}
+use Rattle.machine_state.proofs.Stills.{Grown, pushed}
 use Rattle.machine_state.proofs.UserFrames.{numbered_shown}
 use Rattle.machine_state.proofs.MovedRecords.{moved_processes, moved_residents, moved_records, IsOutThere, out_there}
+use Rattle.machine_state.proofs.Moved.{tied_moved}
 
 -- The step.
 
@@ -94,24 +94,6 @@ in_is m ps journal stopped pid regs since g =
     refl
     (moved_processes m.tables.processes ps m.tables.next_pid pid regs false since g.moved)
     refl refl refl refl g.journal_is g.stopped_is
-
--- The invariant.
-
-pub tied_moved : (t : Lists) (rs : List Residence) → Tied t → Tied (record t { residents = rs })
-tied_moved t rs h = record {
-  few_frames = h.few_frames;
-  few_images = h.few_images;
-  sound = h.sound;
-  small_texts = h.small_texts;
-  few_pages = h.few_pages;
-  shared = h.shared;
-  alike = h.alike;
-  filled = h.filled;
-  counted = h.counted;
-  marked = h.marked;
-  whole = h.whole;
-  once = h.once;
-}
 
 -- what no change of records changes
 stands_by : (m : Inside) (ps : List Record) (j : List Entry) (b : Bool) → Stands m.tables m.journal.items m.stopped → before_of m.tables ≡ m.tables.book.holdings → AreRecords ps m.tables.next_pid

@@ -404,7 +404,7 @@ moved_hands t u v w locked k is rest m ef eb rw =
       place = stepped ∙ ap advance (m.place ∙ ap (λ (q : Placement). sweep q locked) r.place);
       frames = ap (λ (z : Tables). frames_of (lists_of z)) rw ∙ m.frames ∙ r.frames;
       tied = subst (λ (z : Tables). Rattle.machine_state.specs.Tied.Tied (lists_of z)) (sym rw) (record { few_frames = m.tied.few_frames; few_images = m.tied.few_images; few_pages = m.tied.few_pages; sound = m.tied.sound; small_texts = m.tied.small_texts; shared = m.tied.shared; alike = m.tied.alike; filled = m.tied.filled; counted = m.tied.counted; marked = m.tied.marked; whole = m.tied.whole; once = m.tied.once });
-      images = λ sid. ap (λ (z : Tables). image_at z sid) rw ∙ m.images sid ∙ Rattle.machine_state.proofs.Standings.images_heads t u r.heads sid;
+      images = λ sid. ap (λ (z : Tables). image_at z sid) rw ∙ m.images sid ∙ Rattle.machine_state.proofs.Stills.images_heads t u r.heads sid;
       ring = subst (λ (hs : Holdings). Rattle.machine_state.specs.Launches.AddsWrite hs t.ring w.ring) (ap (λ (z : Tables). z.book.holdings) rest)
           (subst (λ (z : Tables). Rattle.machine_state.specs.Launches.AddsWrite u.book.holdings z.ring w.ring) rest
           (subst (λ (z : Tables). Rattle.machine_state.specs.Launches.AddsWrite u.book.holdings u.ring z.ring) (sym rw) m.ring));

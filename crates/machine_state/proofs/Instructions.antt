@@ -36,7 +36,7 @@ use Rattle.machine_state.specs.Machine.{Standing, Stands, lists_of, kernel_by, i
 use Rattle.machine_state.proofs.Lives.{HasRecord, record_of}
 use Rattle.machine_state.proofs.Records.{regs_are, residents_are}
 use Rattle.machine_state.proofs.Recorded.{regs_records}
-use Rattle.machine_state.proofs.Standings.{append_some}
+use Rattle.machine_state.proofs.Stills.{append_some}
 
 -- a process that holds a space is there
 holder : (k : Kernel) (pid : ℕ) (sid : ℕ) → life_in k pid ≡ HoldsSpace sid → (p : Proc) × (numbered kept_pid pid k.processes ≡ Some p) × (p.life ≡ HoldsSpace sid)

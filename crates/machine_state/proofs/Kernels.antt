@@ -11,27 +11,19 @@ use Rattle.core_map.specs.declared.slot.Slot.TheVariants as tokens
 use Rattle.swap_book.specs.Holdings.{Holdings}
 use Rattle.page_model.specs.Pages.{frame_of}
 use Rattle.page_model.specs.Placement.{Placement, IsThere, state_of}
-use Rattle.page_model.specs.Conditions.{CanEnter, IsShared}
+use Rattle.page_model.specs.Conditions.{IsShared}
 use Rattle.page_model.specs.PageBytes.{IsWritable}
-use Rattle.page_model.specs.Dues.{DueStand}
 use Rattle.kernel_model.specs.Kernel.{Kernel, Proc, StartBytes, zero_step}
-use Rattle.kernel_model.specs.Sound.{Sound}
-use Rattle.kernel_model.specs.Numbers.{Numbered}
-use Rattle.kernel_laws.proofs.Sound.Steps.{zero_sound}
-use Rattle.kernel_laws.proofs.Sound.NumbersApart.{zero_numbered}
-use Rattle.page_laws.proofs.Due.Entries.{entry_due}
 use Rattle.machine_state.specs.declared.tables.Tables.{Tables}
-use Rattle.machine_state.specs.declared.machine.Machine.TheInside.{Inside}
 use Rattle.machine_state.specs.View.{Lists, starts_of, placement_of, frames_of}
 use Rattle.machine_state.specs.Due.{first_bytes}
 use Rattle.machine_state.specs.Steps.{evicted}
-use Rattle.machine_state.specs.Machine.{Standing, Runs, lists_of, kernel_by}
-use Rattle.machine_state.specs.Conditions.{CanZero}
+use Rattle.machine_state.specs.Machine.{lists_of, kernel_by}
 use Rattle.machine_state.proofs.Entries.{placed_heads}
 use Rattle.machine_state.proofs.Evicts.{Head}
 use Rattle.machine_state.proofs.Zeros.{Zeroing, zeroed, zeroing_lists, zero_place, zero_frames, starts_first}
 use Rattle.machine_state.proofs.Likes.{placed_alike, evicted_alike, placed_filled, evicted_filled, frame_fits}
-use Rattle.machine_state.proofs.Kept.{Ties, tied_still, still_there, evicted_there, evicted_heads, whole_rest, once_rest, left_due}
+use Rattle.machine_state.proofs.Kept.{Ties, still_there, evicted_there, evicted_heads, whole_rest, once_rest}
 use Rattle.machine_state.proofs.Marks.{marks_entered, marks_here, dirty_place, set_resident, resident_page, resident_mark}
 use Rattle.machine_state.specs.Known.{Known}
 use Rattle.machine_state.proofs.Arrives.{data_there, stack_there}
@@ -112,20 +104,3 @@ zeroed_ties t f page rest filling q k e w there none = record {
 pub zero_ties : (t u v w : Tables) (token filling : Frame) (q : Page) → Zeroing t u v w token filling q → frame_of (state_of (placement_of (lists_of t)) q) ≡ None → Ties (lists_of t) (lists_of w)
 zero_ties t u v w token filling q z none =
     subst (Ties (lists_of t)) (sym (zeroing_lists t u v w token filling q z)) (zeroed_ties (lists_of t) token.number (token_page (slot_at t.core.slots token.number)) u.core.free filling q z.known refl z.writable z.there none)
-
-pub zero_runs : (m : Inside) (u v w : Tables) (token filling : Frame) (q : Page) (journal : List Entry) (stopped : Bool)
-    → Runs (kernel_by m.tables m.journal.items m.stopped) (lists_of m.tables) m.tables.book.size → CanZero (placement_of (lists_of m.tables)) q → Zeroing m.tables u v w token filling q
-    → journal ≡ m.journal.items → stopped ≡ m.stopped
-    → Runs (kernel_by w (journal ++ entries.Zero q ∷ []) stopped) (lists_of w) w.book.size
-zero_runs m u v w token filling q journal stopped r can z ej es =
-    let k : Kernel = kernel_by m.tables m.journal.items m.stopped in
-    let is : kernel_by w (journal ++ entries.Zero q ∷ []) stopped ≡ zero_step k q =
-    zero_kernel m.tables u v w token filling q journal stopped z ∙ ap (λ (j : List Entry). zero_step (kernel_by m.tables j stopped) q) ej ∙ ap (λ (b : Bool). zero_step (kernel_by m.tables m.journal.items b) q) es in
-    let enter : CanEnter k.place q = record { there = can.there; frameless = ap frame_of can.unfilled } in
-    let size : w.book.size ≡ m.tables.book.size = ap (λ (x : Tables). x.book.size) (zeroing_rest m.tables u v w token filling q z) in
-    record {
-      sound = subst (λ (n : ℕ). Sound n (kernel_by w (journal ++ entries.Zero q ∷ []) stopped)) (sym size) (subst (Sound m.tables.book.size) (sym is) (zero_sound m.tables.book.size k q r.sound enter (writable_shared k.place q can.writable)));
-      numbered = subst Numbered (sym is) (zero_numbered k q r.numbered);
-      due = subst (λ (x : Kernel). DueStand x.place) (sym is) (entry_due [] 0 k.place (entries.Zero q) r.sound.owner.frames enter (left_due m.tables.fills.items q z.once z.first) r.due);
-      tied = tied_still (lists_of m.tables) (lists_of w) (zero_ties m.tables u v w token filling q z enter.frameless) r.tied;
-    }

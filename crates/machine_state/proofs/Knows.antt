@@ -1,5 +1,5 @@
 -- What is known of the tables of a machine that runs.
-use Rattle.std.proofs.Common.{◌≡◌, ◌≢◌, inl, inr, ℕ, ◌<◌, ◌≤◌, List, length, set, Option, Some, None, sym, ap, ◌∙◌, subst, arith}
+use Rattle.std.proofs.Common.{◌≡◌, ◌≢◌, inl, inr, ℕ, ◌<◌, ◌≤◌, List, length, set, Option, Some, None, sym, ap, ◌∙◌, arith}
 use Rattle.std.proofs.lemmas.Bool.{cases_eq}
 use Rattle.std.proofs.lemmas.List.{get_or-set_same, get_or-set_other}
 use Rattle.vm_facts.specs.declared.page.Page.{Page}
@@ -7,29 +7,15 @@ use Rattle.vm_facts.specs.declared.page.Page.TheVariants.{Text}
 use Rattle.core_map.specs.declared.slot.Slot.{Slot as Token}
 use Rattle.core_map.specs.declared.slot.Slot.TheVariants as tokens
 use Rattle.core_map.specs.Slots.{slot_at, page_of as token_page}
-use Rattle.core_map.specs.Frames.{IsSound}
 use Rattle.page_model.specs.Pages.{frame_of}
 use Rattle.page_model.specs.Placement.{state_of, IsThere}
-use Rattle.flat_state.specs.Numbers.{AllDistinct}
 use Rattle.page_laws.proofs.Lists.Local.{none_some}
 use Rattle.page_laws.proofs.Moves.Steps.{page_in}
-use Rattle.machine_state.specs.View.{Lists, pages_in, flown_at, page_by, page_held, placement_of}
+use Rattle.machine_state.specs.View.{Lists, pages_in, flown_at, page_by, placement_of}
 use Rattle.machine_state.specs.Steps.{AreTextsHere}
-use Rattle.machine_state.specs.Machine.{Runs, lists_of, kernel_by}
-use Rattle.machine_state.specs.declared.machine.Machine.TheInside.{Inside}
-use Rattle.machine_state.proofs.Shows.{sids_shown, text_within, pages_low}
-use Rattle.machine_state.proofs.Held.{flown_numbers, held_at, above_zero, below_length}
+use Rattle.machine_state.proofs.Shows.{text_within, pages_low}
+use Rattle.machine_state.proofs.Held.{held_at, above_zero, below_length}
 use Rattle.machine_state.specs.Known.{Known}
-
-pub known_of : (m : Inside) → IsSound m.tables.core.free m.tables.core.slots → Runs (kernel_by m.tables m.journal.items m.stopped) (lists_of m.tables) m.tables.book.size → Known (lists_of m.tables)
-known_of m c r = record {
-  core = c;
-  owns = r.sound.owner.frames;
-  aside = r.sound.owner.aside;
-  tied = r.tied;
-  differ = subst AllDistinct (sids_shown m.tables.core.slots m.tables.spaces) r.numbered.spaces_differ;
-  numbers = flown_numbers m.tables.ring;
-}
 
 -- the frame that holds a page, as the map says
 pub holds_not_away : (s : Token) (q : Page) → token_page s ≡ Some q → s ≢ tokens.Away

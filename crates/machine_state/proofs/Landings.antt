@@ -42,7 +42,7 @@ use Rattle.machine_state.proofs.Likes.{placed_alike, placed_filled, frame_fits}
 use Rattle.machine_state.proofs.Kept.{Ties, tied_still, still_there}
 use Rattle.machine_state.proofs.Flights.{InFlight, in_flight}
 use Rattle.machine_state.proofs.Lands.{Landing, land_is, land_frames}
-use Rattle.machine_state.proofs.Standings.{images_heads}
+use Rattle.machine_state.proofs.Stills.{images_heads}
 use Rattle.machine_state.proofs.Marks.{placed_mark, marks_placed, marks_here, alone_in, set_resident, resident_page, resident_mark}
 use Rattle.machine_state.proofs.Knows.{texts_here}
 use Rattle.machine_state.proofs.Comes.{shared_entry}

@@ -46,7 +46,7 @@ use Rattle.machine_state.proofs.Held.{flown_more, flown_last}
 use Rattle.machine_state.proofs.Arrives.{page_shown}
 use Rattle.machine_state.proofs.Likes.{frame_fits}
 use Rattle.machine_state.proofs.Opens.{open_last, join_snoc}
-use Rattle.machine_state.proofs.Standings.{images_heads}
+use Rattle.machine_state.proofs.Stills.{images_heads}
 use Rattle.machine_state.proofs.Residing.{Resides, seat_resides, resides_state, resides_seat}
 use Rattle.machine_state.proofs.Turning.{Turning, turn_is, turn_frames, turn_heads, turn_tied}
 

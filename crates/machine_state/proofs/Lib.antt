@@ -102,3 +102,12 @@ pub mod Growing
 pub mod Asked
 pub mod Showings
 pub mod Hands
+pub mod Knowing
+pub mod ZeroRuns
+pub mod ReclaimRuns
+pub mod GetRuns
+pub mod WriteStanding
+pub mod Stills
+pub mod Moved
+pub mod ResizedMaps
+pub mod Outcomes

@@ -26,7 +26,8 @@ use Rattle.machine_state.specs.Machine.{Runs, Stands, lists_of, kernel_by, image
 use Rattle.machine_state.specs.Launches.{HaveOwnBlocks, IsOwnWrite, AddsWrite, MovedOn}
 use Rattle.machine_state.proofs.Kernels.{kernel_ext}
 use Rattle.machine_state.proofs.Sources.{own_place}
-use Rattle.machine_state.proofs.Standings.{Still, appended, stands_on, sourced_more}
+use Rattle.machine_state.proofs.Standings.{stands_on}
+use Rattle.machine_state.proofs.Stills.{Still, appended, sourced_more}
 
 -- What is known of such a step.
 pub record Moving (m : Inside) (u : Tables) (p : Placement) (locked : List Page) (e : Entry) : Type 0 where

@@ -1,5 +1,5 @@
 -- A page that a frame still holds is usable again.
-use Rattle.std.proofs.Common.{◌≡◌, ◌≢◌, inl, inr, ℕ, ◌-◌, ◌<◌, Bool, true, false, List, [], ◌∷◌, ◌++◌, length, map, set, Option, Some, None, IsSome, refl, sym, ap, ◌∙◌, subst, arith}
+use Rattle.std.proofs.Common.{◌≡◌, ◌≢◌, inl, inr, ℕ, ◌-◌, ◌<◌, Bool, true, false, List, [], ◌∷◌, ◌++◌, length, map, set, Option, Some, None, IsSome, refl, sym, ap, ◌∙◌, subst}
 use Rattle.std.specs.List.{range_with_len}
 use Rattle.std.proofs.lemmas.Bool.{cases_eq}
 use Rattle.std.proofs.lemmas.List.{length-set, get_or-set_same, get_or-set_other}
@@ -20,40 +20,30 @@ use Rattle.page_model.specs.Pages.{Slot, Zeros, frame_of}
 use Rattle.page_model.specs.Placement.{Placement, slot_of, state_of, mark_of, page_of, IsThere, put}
 use Rattle.page_model.specs.Moves.{reclaim, reclaim_to}
 use Rattle.page_model.specs.Conditions.{IsShared}
-use Rattle.page_model.specs.Dues.{DueStand}
 use Rattle.kernel_model.specs.Kernel.{Kernel, reclaim_step}
 use Rattle.kernel_model.specs.Sound.{Sound}
-use Rattle.kernel_model.specs.Numbers.{Numbered}
 use Rattle.page_laws.proofs.Lists.Local.{none_some}
 use Rattle.std.proofs.lemmas.Option.{same_Some}
 use Rattle.page_laws.proofs.Moves.Steps.{page_in}
-use Rattle.kernel_laws.proofs.Sound.Steps.{plain_sound}
-use Rattle.kernel_laws.proofs.Sound.NumbersApart.{plain_numbered}
-use Rattle.page_laws.proofs.Due.Entries.{entry_due}
 use Rattle.kernel_laws.proofs.Machine.Moves.{reclaim_coupled_step}
 use Rattle.page_laws.proofs.Bytes.Others.{reclaim_same}
 use Rattle.machine_state.specs.declared.tables.Tables.{Tables}
-use Rattle.machine_state.specs.declared.machine.Machine.TheInside.{Inside}
 use Rattle.machine_state.specs.Shown.{changed_shown, slot_shown, text_shown, entry_in, changed_named}
 use Rattle.table_view.specs.Shown.{is_away, idle_state, state_shown}
 use Rattle.machine_state.specs.View.{Lists, Flown, text_place_by, flown_at, page_by, bytes_by, page_held, bytes_held, placement_of, frames_of}
 use Rattle.machine_state.specs.Known.{Known}
 use Rattle.machine_state.specs.Steps.{revived, reclaimed, dirty_shown}
 use Rattle.machine_state.specs.Moves.{RevivedPage}
-use Rattle.machine_state.specs.Machine.{Runs, lists_of, kernel_by}
+use Rattle.machine_state.specs.Machine.{lists_of, kernel_by}
 use Rattle.machine_state.specs.Conditions.{KeepsFlat, SameEverywhere}
-use Rattle.machine_state.proofs.Entries.{placed_heads}
 use Rattle.machine_state.proofs.Shows.{slot_or, data_shown, stack_shown, text_at, text_within, SameLists, segments_are}
 use Rattle.machine_state.proofs.Finds.{holding_set}
 use Rattle.machine_state.proofs.Held.{held_at, above_zero, below_length, placement_ext}
 use Rattle.machine_state.proofs.Arrives.{page_shown, Arrives, arrives_moved, arrived}
 use Rattle.machine_state.proofs.Evicts.{frames_same}
-use Rattle.machine_state.proofs.Likes.{placed_alike, placed_filled, frame_fits}
-use Rattle.machine_state.proofs.Kept.{Ties, tied_still, still_there}
 use Rattle.machine_state.proofs.Comes.{shared_entry}
 use Rattle.machine_state.proofs.Kernels.{kernel_ext}
-use Rattle.machine_state.proofs.Marks.{placed_mark, entry_is, marks_placed, marks_here, marks_revived, set_resident}
-use Rattle.machine_state.proofs.Knows.{texts_here}
+use Rattle.machine_state.proofs.Marks.{placed_mark}
 use Rattle.text_table.specs.Texts.{Text as SharedText}
 
 -- The entry of an invalid page.
@@ -201,7 +191,7 @@ pub record Reclaiming (t u : Tables) (q : Page) (f : ℕ) : Type 0 where
   pub entry : InvalidEntry (lists_of t) q f
   pub revived_it : RevivedPage t u q f (dirty_shown t.spaces t.texts q)
 
-reclaiming_lists : (t u : Tables) (q : Page) (f : ℕ) (r : Reclaiming t u q f) → lists_of u ≡ reclaimed (lists_of t) q f (revived (slot_at t.core.slots f) q (dirty_shown t.spaces t.texts q)) (dirty_shown t.spaces t.texts q)
+pub reclaiming_lists : (t u : Tables) (q : Page) (f : ℕ) (r : Reclaiming t u q f) → lists_of u ≡ reclaimed (lists_of t) q f (revived (slot_at t.core.slots f) q (dirty_shown t.spaces t.texts q)) (dirty_shown t.spaces t.texts q)
 reclaiming_lists t u q f r =
     ap lists_of r.revived_it.rest
     ∙ ap (λ (ss : List Token). record (lists_of t) { slots = ss; free = u.core.free; spaces = u.spaces }) r.revived_it.slots
@@ -223,43 +213,10 @@ reclaim_kernel t u q f journal stopped r =
     refl
     refl
 
-revived_mark : (ss : List Places) (ts : List SharedText) (f : ℕ) (q : Page) → dirty_shown ss ts q ≡ placed_mark ts (places.Frame f true (dirty_shown ss ts q)) q
+pub revived_mark : (ss : List Places) (ts : List SharedText) (f : ℕ) (q : Page) → dirty_shown ss ts q ≡ placed_mark ts (places.Frame f true (dirty_shown ss ts q)) q
 revived_mark ss ts f (Data n v) = refl
 revived_mark ss ts f (Stack n v) = refl
 revived_mark ss ts f (Text i v) = refl
-
-pub reclaim_runs : (m : Inside) (u : Tables) (q : Page) (f : ℕ) (journal : List Entry) (stopped : Bool)
-    → Runs (kernel_by m.tables m.journal.items m.stopped) (lists_of m.tables) m.tables.book.size → IsShared (placement_of (lists_of m.tables)) q → Reclaiming m.tables u q f → journal ≡ m.journal.items → stopped ≡ m.stopped
-    → Runs (kernel_by u (journal ++ entries.Reclaim q ∷ []) stopped) (lists_of u) u.book.size
-reclaim_runs m u q f journal stopped r sh g ej es =
-    let k : Kernel = kernel_by m.tables m.journal.items m.stopped in
-    let is : kernel_by u (journal ++ entries.Reclaim q ∷ []) stopped ≡ reclaim_step k q =
-    reclaim_kernel m.tables u q f journal stopped g ∙ ap (λ (j : List Entry). reclaim_step (kernel_by m.tables j stopped) q) ej ∙ ap (λ (b : Bool). reclaim_step (kernel_by m.tables m.journal.items b) q) es in
-    let size : u.book.size ≡ m.tables.book.size = ap (λ (x : Tables). x.book.size) g.revived_it.rest in
-    let s : Token = revived (slot_at m.tables.core.slots f) q (dirty_shown m.tables.spaces m.tables.texts q) in
-    let ties : Ties (lists_of m.tables) (lists_of u) = subst (Ties (lists_of m.tables)) (sym (reclaiming_lists m.tables u q f g)) (record {
-      slots = length-set m.tables.core.slots f s;
-      facts = refl;
-      heads = placed_heads m.tables.spaces q (places.Frame f true (dirty_shown m.tables.spaces m.tables.texts q));
-      entries = λ w h. still_there m.tables.spaces q w (places.Frame f true (dirty_shown m.tables.spaces m.tables.texts q)) h;
-      alike = λ h. placed_alike m.tables.spaces q (places.Frame f true (dirty_shown m.tables.spaces m.tables.texts q)) h;
-      filled = λ h. placed_filled (lists_of m.tables).facts m.tables.spaces q (places.Frame f true (dirty_shown m.tables.spaces m.tables.texts q)) (frame_fits q f true (dirty_shown m.tables.spaces m.tables.texts q)) h;
-      counts = λ i. refl;
-      marked = λ k. marks_placed (lists_of m.tables) (reclaimed (lists_of m.tables) q f s (dirty_shown m.tables.spaces m.tables.texts q)) q f (places.Frame f true (dirty_shown m.tables.spaces m.tables.texts q))
-          (texts_here (lists_of m.tables) g.known) (λ h d. get_or-set_other m.tables.core.slots f h s tokens.Away d) refl (λ i v d l. refl) (λ h x. g.known.core.unique h f q x g.entry.held)
-          (λ a r mark h. let y = marks_revived (lists_of m.tables) f q (slot_at m.tables.core.slots f) k refl g.entry.held a r mark (set_resident m.tables.core.slots f s a r mark h) in
-          marks_here m.tables.spaces m.tables.texts (places.Frame f true (dirty_shown m.tables.spaces m.tables.texts q)) q r mark (entry_is (entry_in m.tables.spaces q) (places.Frame f false g.entry.changed) g.entry.entry) y.0
-          (y.1 ∙ revived_mark m.tables.spaces m.tables.texts f q)) k;
-      whole = λ x. x;
-      once = λ x. x;
-    }) in
-    record {
-      sound = subst (λ (n : ℕ). Sound n (kernel_by u (journal ++ entries.Reclaim q ∷ []) stopped)) (sym size) (subst (Sound m.tables.book.size) (sym is)
-          (plain_sound m.tables.book.size k [] (entries.Reclaim q) r.sound tt sh (let l = r.sound.few_transfers in omega arith)));
-      numbered = subst Numbered (sym is) (plain_numbered k [] (entries.Reclaim q) r.numbered);
-      due = subst (λ (x : Kernel). DueStand x.place) (sym is) (entry_due [] 0 k.place (entries.Reclaim q) r.sound.owner.frames tt tt r.due);
-      tied = tied_still (lists_of m.tables) (lists_of u) ties r.tied;
-    }
 
 pub reclaim_keeps : (size : ℕ) (k : Kernel) (q : Page) → Sound size k → KeepsFlat k (reclaim_step k q)
 reclaim_keeps size k q so images image flat c = reclaim_coupled_step size k images image flat q so c

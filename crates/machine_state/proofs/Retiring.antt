@@ -27,7 +27,7 @@ use Rattle.machine_state.specs.Launches.{RetiredPage, MovedOn}
 use Rattle.machine_state.proofs.Finds.{holding_set}
 use Rattle.machine_state.proofs.Likes.{frame_fits}
 use Rattle.machine_state.proofs.Landings.{rested_shown, text_mark}
-use Rattle.machine_state.proofs.Standings.{images_heads}
+use Rattle.machine_state.proofs.Stills.{images_heads}
 use Rattle.machine_state.proofs.Residing.{Resides, resides_state}
 use Rattle.machine_state.proofs.Turning.{Turning, turn_is, turn_frames, turn_heads, turn_tied}
 

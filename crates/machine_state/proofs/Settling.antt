@@ -1,5 +1,5 @@
 -- What a machine keeps through the end of a transfer, for those that follow.
-use Rattle.std.proofs.Common.{◌≡◌, ◌↔◌, refl, ℕ, suc, ◌*◌, ◌<◌, ◌≤◌, Bool, false, List, [], ◌∷◌, length, Option, None, Result, Ok, Err, IfErr, OnOk, sym, ap, ◌∙◌, subst, arith}
+use Rattle.std.proofs.Common.{◌≡◌, ◌↔◌, refl, ℕ, suc, ◌*◌, ◌<◌, ◌≤◌, Bool, false, List, [], ◌∷◌, length, Option, None, Result, Err, sym, ap, ◌∙◌, subst, arith}
 use Rattle.vm_facts.specs.declared.page.Page.TheVariants.{Text}
 use Rattle.io_edge.specs.FileHolding.{NamedFile}
 use Rattle.flat_state.specs.Flat.{NamedImage}
@@ -18,14 +18,6 @@ use Rattle.machine_state.specs.Conditions.{HasStopped}
 use Rattle.machine_state.specs.Files.{AreImages}
 use Rattle.machine_state.specs.Done.{Sources, sources, IsDone, ImageAfter, KeepsThrough, StopsFor, SwapAfter}
 use Rattle.machine_state.specs.Settled.{SettledBy, EndsWhile, IsSameBeside, StopsSettling}
-
-pub on_ok : {A E P Q : Type 0} (r : Result A E) → (P → Q) → OnOk r P → OnOk r Q
-on_ok (Ok x) f h = f h
-on_ok (Err e) f h = h
-
-pub if_err : {A : Type 0} {P Q : Stop → Type 0} (r : Result A Stop) → ((stop : Stop) → P stop → Q stop) → IfErr r P → IfErr r Q
-if_err (Ok x) f h = h
-if_err (Err stop) f h = f stop h
 
 pub beside_done : (old new : Standing) → new ≡ record old { kernel = new.kernel; room = None } → IsSameBeside old new
 beside_done old new r = record {

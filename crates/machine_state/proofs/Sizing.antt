@@ -1,5 +1,5 @@
 -- A space has other sizes: of the placement, that is `cut_space`.
-use Rattle.std.proofs.Common.{◌≡◌, ◌≢◌, inl, inr, ℕ, zero, suc, ◌+◌, ◌-◌, ◌<◌, ◌≤◌, ◌==◌, Bool, true, false, cond, List, [], ◌∷◌, ◌++◌, length, map, take, set, get_or, Option, Some, None, IsSome, slice_get, option_map, refl, sym, ap, ◌∙◌, subst, arith}
+use Rattle.std.proofs.Common.{◌≡◌, ◌≢◌, inl, inr, ℕ, zero, suc, ◌+◌, ◌-◌, ◌<◌, ◌≤◌, ◌==◌, Bool, true, false, cond, List, [], ◌∷◌, ◌++◌, length, map, take, Option, Some, None, IsSome, slice_get, option_map, refl, sym, ap, ◌∙◌, subst, arith}
 use Rattle.std.specs.Prelude.{replicate}
 use Rattle.std.specs.List.{range_with_len}
 use Rattle.std.proofs.lemmas.Bool.{cases_eq}
@@ -53,6 +53,7 @@ use Rattle.machine_state.proofs.Evicts.{frames_same}
 use Rattle.machine_state.proofs.Knows.{held_named}
 use Rattle.machine_state.proofs.Rising.{or_none, IsOfSpace, data_of_space, stack_of_space, absent_entry}
 use Rattle.machine_state.proofs.Forgets.{all_dropped_rests, dropped_more}
+use Rattle.machine_state.proofs.ResizedMaps.{sizes_sids}
 
 -- A segment.
 
@@ -116,24 +117,6 @@ by_image (suc n) (suc v) w (x ∷ xs) e = by_image n v w xs e
 
 sized_image : (n v w : ℕ) (xs : List Place) → slice_get (resized xs n) v ≡ Some (places.Image w) → slice_get xs v ≡ Some (places.Image w)
 sized_image n v w xs e = by_image n v w xs (sym (ap (λ (ys : List Place). slice_get ys v) (resized_is n xs)) ∙ e)
-
--- All spaces.
-
-pub sizes_set : (ss : List Places) (i d s : ℕ) (x : Places) → i < length ss → set ss i (with_sizes d s (get_or ss i x)) ≡ with_sizes_at ss i d s
-sizes_set [] i d s x l = absurd (omega arith)
-sizes_set (y ∷ ys) zero d s x l = refl
-sizes_set (y ∷ ys) (suc i) d s x l = ap (λ (zs : List Places). y ∷ zs) (sizes_set ys i d s x (omega arith))
-
--- a space that keeps its number
-pub number_kept : (ss : List Places) (i : ℕ) (d x : Places) → i < length ss → x.sid ≡ (get_or ss i d).sid → sids_of (set ss i x) ≡ sids_of ss
-number_kept [] i d x l e = refl
-number_kept (y ∷ ys) zero d x l e = ap (λ (n : ℕ). n ∷ sids_of ys) e
-number_kept (y ∷ ys) (suc i) d x l e = ap (λ (ns : List ℕ). y.sid ∷ ns) (number_kept ys i d x (omega arith) e)
-
-pub sizes_sids : (ss : List Places) (i d s : ℕ) → sids_of (with_sizes_at ss i d s) ≡ sids_of ss
-sizes_sids [] i d s = refl
-sizes_sids (x ∷ xs) zero d s = refl
-sizes_sids (x ∷ xs) (suc i) d s = ap (λ (ns : List ℕ). x.sid ∷ ns) (sizes_sids xs i d s)
 
 apart_at : (n m i : ℕ) (ns : List ℕ) → IsAbsent n ns → slice_get ns i ≡ Some m → n ≢ m
 apart_at n m i [] h e k = absurd cc

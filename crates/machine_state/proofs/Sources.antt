@@ -48,7 +48,7 @@ use Rattle.machine_state.specs.Moves.{HasSource, AreFrom}
 use Rattle.machine_state.proofs.Rising.{IsOfSpace, data_of_space, stack_of_space, absent_entry, or_none}
 use Rattle.machine_state.proofs.Settles.{facts_low, found_hit, found_miss, found_image}
 use Rattle.machine_state.proofs.Shows.{slot_or, data_shown, stack_shown, text_at, text_within, pages_hit, pages_miss}
-use Rattle.machine_state.proofs.Standings.{parts_still}
+use Rattle.machine_state.proofs.Stills.{parts_still}
 
 -- The images by their numbers.
 

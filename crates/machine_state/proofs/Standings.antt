@@ -1,38 +1,22 @@
 -- What holds of a machine beside its kernel is kept by its steps.
-use Rattle.std.proofs.Common.{◌≡◌, ◌≢◌, inl, inr, ℕ, ◌+◌, ◌-◌, ◌<◌, ◌≤◌, ◌==◌, Bool, true, false, List, [], ◌∷◌, ◌++◌, length, map, take, Option, Some, None, Vec, refl, sym, ap, ◌∙◌, subst, arith}
-use Rattle.std.proofs.lemmas.Bool.{cases_eq}
-use Rattle.std.proofs.lemmas.List.{length-append}
+use Rattle.std.proofs.Common.{◌≡◌, ℕ, ◌<◌, ◌≤◌, Bool, false, List, length, map, Option, Some, None, Vec, sym, ap, ◌∙◌, subst}
 use Rattle.std.specs.Vec.{vec_len, vec_capacity}
 use Rattle.vm_facts.specs.declared.entry.Entry.{Entry}
-use Rattle.vm_facts.specs.declared.entry.Entry.TheVariants.{Ran, Hands}
-use Rattle.flat_state.specs.Journal.{join_by, append_after, append}
 use Rattle.proc_table.specs.declared.process.Proc.{Proc as Record}
 use Rattle.machine_state.specs.Joined.{instructions_in, last_says}
-use Rattle.vm_facts.specs.declared.page.Page.{Page}
-use Rattle.vm_facts.specs.declared.page.Page.TheVariants.{Data, Stack, Text}
 use Rattle.vm_facts.specs.declared.params.Params.{Params}
-use Rattle.core_map.specs.declared.slot.Slot.{Slot as Token}
-use Rattle.space_map.specs.Space.{Places}
 use Rattle.swap_book.specs.Holdings.{Holdings}
 use Rattle.swap_book.specs.Book.{Book}
-use Rattle.transfer_ring.specs.declared.transfer.Inbound.{Inbound}
-use Rattle.transfer_ring.specs.declared.transfer.Source.{Source as From}
-use Rattle.transfer_ring.specs.declared.transfer.Source.TheVariants as froms
 use Rattle.transfer_ring.specs.declared.transfer.Transfer.{Transfer as Flight}
-use Rattle.transfer_ring.specs.declared.transfer.Transfer.TheVariants as flights
-use Rattle.page_model.specs.Pages.{numbered}
-use Rattle.page_model.specs.Placement.{Source, space_number, image_in}
 use Rattle.kernel_model.specs.Kernel.{Kernel}
 use Rattle.machine_state.specs.declared.tables.Tables.{Tables}
 use Rattle.machine_state.specs.declared.machine.Machine.TheInside.{Inside}
-use Rattle.machine_state.specs.Shown.{space_shown}
-use Rattle.machine_state.specs.Sourced.{ImageNamed, AreNames, IsRangeOf, named_at, IsSourced, AreSourcedIn, IsFlightSourced, AreSourced}
-use Rattle.machine_state.specs.View.{source_shown}
-use Rattle.machine_state.specs.Machine.{Standing, Runs, Stands, WereFound, lists_of, kernel_by, images_of, image_at, image_shown, before_of}
+use Rattle.machine_state.specs.Sourced.{ImageNamed, AreNames, AreSourced}
+use Rattle.machine_state.specs.Machine.{Standing, Runs, Stands, WereFound, lists_of, kernel_by, images_of, image_at, before_of}
 use Rattle.machine_state.specs.Alike.{AreRecords}
 use Rattle.machine_state.specs.Fields.{standing_of, HasRoom, RunsNow, RunsInside}
-use Rattle.machine_state.proofs.Entries.{Head, head_of}
-use Rattle.machine_state.proofs.Shows.{hit, miss}
+use Rattle.machine_state.proofs.Entries.{head_of}
+use Rattle.machine_state.proofs.Stills.{Grown, Still, images_heads, sourced_still, still_before, still_images}
 
 -- a machine that runs, with no pieces found for an entry to come
 pub running : (m : Inside) (s : Standing) → RunsInside m → standing_of m ≡ s → s.kernel.stopped ≡ false → s.before ≡ s.kernel.holdings → Runs (kernel_by m.tables m.journal.items m.stopped) (lists_of m.tables) m.tables.book.size
@@ -47,32 +31,6 @@ stands_now m s h e r = h (ap (λ (x : Standing). x.kernel.stopped) e ∙ r)
 pub whole_now : (m : Inside) (s : Standing) → standing_of m ≡ s → s.before ≡ s.kernel.holdings → before_of m.tables ≡ m.tables.book.holdings
 whole_now m s e w = ap (λ (x : Standing). x.before) e ∙ w ∙ sym (ap (λ (x : Standing). x.kernel.holdings) e)
 
--- a journal with one more entry isn't empty
-ran_some : (b : Bool) (p m q n : ℕ) → join_by b p m q n ≢ []
-ran_some true p m q n h = absurd cc
-ran_some false p m q n h = absurd cc
-
-behind_ran : (f : Entry) (j : List Entry) (q n : ℕ) → append_after f j (Ran q n) ≢ []
-behind_ran (Ran p m) [] q n h = ran_some (p == q) p m q n h
-behind_ran _ [] q n h = absurd cc
-behind_ran f (g ∷ j) q n h = absurd cc
-
-behind_hands : (f : Entry) (j : List Entry) (n : ℕ) → append_after f j (Hands n) ≢ []
-behind_hands (Hands m) [] n h = absurd cc
-behind_hands _ [] n h = absurd cc
-behind_hands f (g ∷ j) n h = absurd cc
-
-last_some : (j : List Entry) (e : Entry) → j ++ e ∷ [] ≢ []
-last_some [] e h = absurd cc
-last_some (f ∷ j) e h = absurd cc
-
-pub append_some : (j : List Entry) (e : Entry) → append j e ≢ []
-append_some [] (Ran q n) h = absurd cc
-append_some (f ∷ j) (Ran q n) h = behind_ran f j q n h
-append_some [] (Hands n) h = absurd cc
-append_some (f ∷ j) (Hands n) h = behind_hands f j n h
-append_some j e h = last_some j e h
-
 -- no room was made for an instruction
 pub no_room : {A : Type 0} (room : Option ℕ) (journal : Vec Entry A) (limit : ℕ) → room ≡ None → HasRoom room journal limit
 no_room None journal limit e = tt
@@ -82,31 +40,6 @@ no_room (Some pid) journal limit e = absurd cc
 pub room_of : (m : Inside) (pid : ℕ) → RunsNow m → m.room ≡ Some pid → last_says (instructions_in pid) m.journal.items ≡ None → (length m.journal.items < m.tables.params.journal) × (vec_len m.journal < vec_capacity m.journal)
 room_of m pid n e = subst (λ (o : Option ℕ). HasRoom o m.journal m.tables.params.journal) e n.room
 
--- what no step but those of processes changes
-pub record Still (t w : Tables) : Type 0 where
-  pub params : w.params ≡ t.params
-  pub images : w.images.items ≡ t.images.items
-  pub book : w.book ≡ t.book
-  pub found : w.found ≡ t.found
-  pub processes : w.processes ≡ t.processes
-  pub next_pid : w.next_pid ≡ t.next_pid
-  pub next_sid : w.next_sid ≡ t.next_sid
-
--- a journal that fits, and has entries where it had
-pub record Grown (old after : List Entry) (limit : ℕ) : Type 0 where
-  pub within : length after ≤ limit
-  pub some : after ≡ [] → old ≡ []
-
-pub still_along : (t w v : Tables) → w ≡ v → Still t v → Still t w
-still_along t w v e s = subst (Still t) (sym e) s
-
-pub still_images : (t w : Tables) → Still t w → images_of w ≡ images_of t
-still_images t w s = ap (map image_shown) s.images
-
-pub still_before : (t w : Tables) → Still t w → before_of w ≡ before_of t
-still_before t w s =
-    ap (λ (b : Book). take (length b.holdings - w.found) b.holdings) s.book ∙ ap (λ (n : ℕ). take (length t.book.holdings - n) t.book.holdings) s.found
-
 pub rest_of : (m : Inside) (s : Standing) (w : Tables) (k : Kernel) (now room : Option ℕ) → standing_of m ≡ s → Still m.tables w → now ≡ room
     → (let z : Standing = record { kernel = k; params = w.params; images = images_of w; before = before_of w; room = now } in z) ≡ record s { kernel = k; room = room }
 rest_of m s w k now room e z r =
@@ -115,61 +48,6 @@ rest_of m s w k now room e z r =
     ∙ ap (λ (x : List ImageNamed). let z : Standing = record { kernel = k; params = m.tables.params; images = x; before = before_of w; room = room } in z) (still_images m.tables w z)
     ∙ ap (λ (x : Holdings). let z : Standing = record { kernel = k; params = m.tables.params; images = images_of m.tables; before = x; room = room } in z) (still_before m.tables w z)
     ∙ ap (λ (x : Standing). record x { kernel = k; room = room }) e
-
-pub pushed : (old now after : List Entry) (e : Entry) (limit : ℕ) → now ≡ old → after ≡ now ++ e ∷ [] → length old < limit → Grown old after limit
-pushed old now after e limit a b l =
-    let x : length after ≡ length now + 1 = ap length b ∙ length-append now (e ∷ []) in
-    let y : length now ≡ length old = ap length a in
-    record { within = omega arith; some = λ h. absurd (let z : length after ≡ 0 = ap length h in omega arith) }
-
--- an entry that is appended, or joined to the last
-pub appended : (old after : List Entry) (e : Entry) (limit : ℕ) → after ≡ append old e → length after ≤ limit → Grown old after limit
-appended old after e limit a l = record { within = l; some = λ h. absurd (append_some old e (sym a ∙ h)) }
-
--- The images of the spaces go by their heads.
-
-pub image_heads : (a b : List Token) (ss rs : List Places) (n : ℕ) → map head_of ss ≡ map head_of rs → image_in (numbered space_number n (map (space_shown a) ss)) ≡ image_in (numbered space_number n (map (space_shown b) rs))
-image_heads a b [] [] n e = refl
-image_heads a b [] (r ∷ rs) n e = absurd cc
-image_heads a b (s ∷ ss) [] n e = absurd cc
-image_heads a b (s ∷ ss) (r ∷ rs) n e =
-    let x : head_of s ≡ head_of r = cc in
-    let y : map head_of ss ≡ map head_of rs = cc in
-    let same : s.sid ≡ r.sid = ap (λ (h : Head). h.sid) x in
-    elim (cases_eq s.sid n) [
-      | inl i ↦ ap image_in (hit n (space_shown a s) (map (space_shown a) ss) i) ∙ ap (λ (h : Head). h.image) x ∙ sym (ap image_in (hit n (space_shown b r) (map (space_shown b) rs) (sym same ∙ i)))
-      | inr d ↦ ap image_in (miss n (space_shown a s) (map (space_shown a) ss) d) ∙ image_heads a b ss rs n y ∙ sym (ap image_in (miss n (space_shown b r) (map (space_shown b) rs) (λ i. d (same ∙ i))))
-    ]
-
-pub images_heads : (t w : Tables) → map head_of w.spaces ≡ map head_of t.spaces → (sid : ℕ) → image_at w sid ≡ image_at t sid
-images_heads t w e sid = image_heads w.core.slots t.core.slots w.spaces t.spaces sid e
-
--- Sources stay where the images of the spaces do.
-
-one_still : (ns : List ImageNamed) (f g : ℕ → ℕ) (hs : Holdings) (size : ℕ) (q : Page) (x : From) → ((sid : ℕ) → g sid ≡ f sid) → IsSourced ns f hs size q x → IsSourced ns g hs size q x
-one_still ns f g hs size q (froms.Swap block) e h = h
-one_still ns f g hs size (Data sid v) (froms.File id offset count) e h = subst (λ (i : ℕ). IsRangeOf (named_at ns i) false v id offset count) (sym (e sid)) h
-one_still ns f g hs size (Stack sid v) (froms.File id offset count) e h = h
-one_still ns f g hs size (Text i v) (froms.File id offset count) e h = h
-
-pub parts_still : (ns : List ImageNamed) (f g : ℕ → ℕ) (hs : Holdings) (size : ℕ) (s : Source) (xs : List Inbound) → ((sid : ℕ) → g sid ≡ f sid) → AreSourcedIn ns f hs size s xs → AreSourcedIn ns g hs size s xs
-parts_still ns f g hs size s [] e h = tt
-parts_still ns f g hs size s (x ∷ xs) e h = (h.0, one_still ns f g hs size x.page x.source e h.1, parts_still ns f g hs size s xs e h.2)
-
-flight_still : (ns : List ImageNamed) (f g : ℕ → ℕ) (hs : Holdings) (size : ℕ) (t : Flight) → ((sid : ℕ) → g sid ≡ f sid) → IsFlightSourced ns f hs size t → IsFlightSourced ns g hs size t
-flight_still ns f g hs size (flights.Read demanded parts) e h = parts_still ns f g hs size (source_shown parts.items) parts.items e h
-flight_still ns f g hs size (flights.Write parts) e h = h
-
-pub sourced_still : (ns : List ImageNamed) (f g : ℕ → ℕ) (hs : Holdings) (size : ℕ) (ts : List Flight) → ((sid : ℕ) → g sid ≡ f sid) → AreSourced ns f hs size ts → AreSourced ns g hs size ts
-sourced_still ns f g hs size [] e h = tt
-sourced_still ns f g hs size (t ∷ ts) e h = (flight_still ns f g hs size t e h.0, sourced_still ns f g hs size ts e h.1)
-
-pub sourced_more : (ns : List ImageNamed) (f : ℕ → ℕ) (hs : Holdings) (size : ℕ) (ts : List Flight) (x : Flight) → AreSourced ns f hs size ts → IsFlightSourced ns f hs size x → AreSourced ns f hs size (ts ++ x ∷ [])
-sourced_more ns f hs size [] x h n = (n, tt)
-sourced_more ns f hs size (t ∷ ts) x h n = (h.0, sourced_more ns f hs size ts x h.1 n)
-
-pub sourced_tail : (ns : List ImageNamed) (f : ℕ → ℕ) (hs : Holdings) (size : ℕ) (ts : List Flight) (x : Flight) → AreSourced ns f hs size (x ∷ ts) → AreSourced ns f hs size ts
-sourced_tail ns f hs size ts x h = h.1
 
 -- The whole, from the part that a step changes.
 

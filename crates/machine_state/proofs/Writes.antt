@@ -22,16 +22,14 @@ use Rattle.kernel_laws.proofs.Sound.Steps.{write_sound}
 use Rattle.kernel_laws.proofs.Sound.NumbersApart.{write_numbered}
 use Rattle.page_laws.proofs.Due.Changes.{touch_due}
 use Rattle.machine_state.specs.declared.tables.Tables.{Tables}
-use Rattle.machine_state.specs.declared.machine.Machine.TheInside.{Inside}
 use Rattle.machine_state.specs.Shown.{slot_shown, entry_in, placed}
 use Rattle.table_view.specs.Shown.{is_away, idle_state, state_shown}
 use Rattle.machine_state.specs.View.{Lists, placement_of, frames_of}
 use Rattle.machine_state.specs.Known.{Known}
 use Rattle.machine_state.specs.Moves.{WroteByte}
-use Rattle.machine_state.specs.Machine.{Standing, Runs, Stands, lists_of, kernel_by, before_of, images_of, image_at}
-use Rattle.machine_state.specs.Fields.{standing_of}
+use Rattle.machine_state.specs.Machine.{Runs, Stands, lists_of, kernel_by, before_of, images_of, image_at}
 use Rattle.swap_book.specs.Holdings.{Holdings}
-use Rattle.machine_state.proofs.Standings.{images_heads, sourced_still}
+use Rattle.machine_state.proofs.Stills.{images_heads, sourced_still}
 use Rattle.machine_state.proofs.Entries.{head_of, placed_heads}
 use Rattle.machine_state.proofs.Shows.{slot_or, data_shown, stack_shown}
 use Rattle.machine_state.proofs.Likes.{placed_alike, placed_filled, frame_fits}
@@ -154,9 +152,3 @@ write_stands t u q f at byte j b s w =
       named = s.named;
       numbers = s.numbers;
     })
-
-pub write_standing : (m : Inside) (u : Tables) (q : Page) (f at byte : ℕ) → Writing m.tables u q f at byte
-    → standing_of (record m { tables = u }) ≡ record (standing_of m) { kernel = write_step (standing_of m).kernel q f at byte }
-write_standing m u q f at byte w =
-    ap (λ (x : Tables). standing_of (record m { tables = x })) w.wrote.rest
-    ∙ ap (λ (k : Kernel). record (standing_of m) { kernel = k }) (write_kernel m.tables (wrote_tables m.tables u) q f at byte m.journal.items m.stopped (wrote_itself m.tables u q f at byte w))

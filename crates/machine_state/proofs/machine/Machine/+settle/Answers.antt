@@ -6,7 +6,8 @@ use Rattle.vm_facts.specs.declared.stop.Stop.{Stop}
 use Rattle.machine_state.specs.Sourced.{ImageNamed}
 use Rattle.machine_state.specs.Files.{AreFiles}
 use Rattle.machine_state.specs.Done.{Sources, sources, IsDone}
-use Rattle.machine_state.proofs.Settling.{on_ok, if_err, GoesOn, goes_on, beside_done, same_sources, one_more, one_stopped, stopped_first, through}
+use Rattle.machine_state.proofs.Settling.{GoesOn, goes_on, beside_done, same_sources, one_more, one_stopped, stopped_first, through}
+use Rattle.machine_state.proofs.Outcomes.{on_ok, if_err}
 use Rattle.machine_state.proofs.machine.Machine.+settle.Goals as goal
 
 pub returns-in_err-done-clause-stops : goal.returns-in_err-done-clause-stops

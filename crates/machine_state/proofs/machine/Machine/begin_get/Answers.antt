@@ -11,10 +11,12 @@ use Rattle.machine_state.specs.View.{placement_of}
 use Rattle.machine_state.specs.Machine.{Standing, Runs, lists_of, kernel_by, images_of, image_at, before_of}
 use Rattle.machine_state.specs.Sourced.{IsFlightSourced, AreSourced}
 use Rattle.machine_state.specs.Conditions.{CanBringIn, KeepsFlat, SameOutside}
-use Rattle.machine_state.proofs.Knows.{known_of}
-use Rattle.machine_state.proofs.Standings.{no_room, running, stands_now, whole_now, Still, still_along, stands_on, rest_of, pushed, sourced_more}
+use Rattle.machine_state.proofs.Knowing.{known_of}
+use Rattle.machine_state.proofs.Standings.{no_room, running, stands_now, whole_now, stands_on, rest_of}
+use Rattle.machine_state.proofs.Stills.{Still, still_along, pushed, sourced_more}
 use Rattle.machine_state.proofs.Sources.{run_sources}
-use Rattle.machine_state.proofs.Gets.{get_kernel, get_runs, get_keeps, get_same}
+use Rattle.machine_state.proofs.Gets.{get_kernel, get_keeps, get_same}
+use Rattle.machine_state.proofs.GetRuns.{get_runs}
 use Rattle.machine_state.proofs.machine.Machine.begin_get.Goals as goal
 
 pub read_run-requires-clause-known : goal.read_run-requires-clause-known

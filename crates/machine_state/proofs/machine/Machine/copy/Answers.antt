@@ -14,10 +14,12 @@ use Rattle.machine_state.specs.Calls.{CanCopy}
 use Rattle.machine_state.specs.Conditions.{KeepsFlat, SameElsewhere}
 use Rattle.machine_state.specs.Launches.{CopiedFrame}
 use Rattle.machine_state.proofs.Evicts.{head_below}
-use Rattle.machine_state.proofs.Knows.{known_of, texts_here, not_held}
+use Rattle.machine_state.proofs.Knows.{texts_here, not_held}
+use Rattle.machine_state.proofs.Knowing.{known_of}
 use Rattle.machine_state.proofs.Residing.{Resides, seat_resides}
 use Rattle.machine_state.proofs.Copying.{Copying, copying_rest, copy_ties, copy_kernel, copy_runs, copy_keeps, copy_same}
-use Rattle.machine_state.proofs.Standings.{no_room, running, stands_now, whole_now, Still, still_along, stands_same, rest_of, pushed}
+use Rattle.machine_state.proofs.Standings.{no_room, running, stands_now, whole_now, stands_same, rest_of}
+use Rattle.machine_state.proofs.Stills.{Still, still_along, pushed}
 use Rattle.machine_state.proofs.machine.Machine.copy.Goals as goal
 
 pub copy_frame-copy-requires-clause-frame : goal.copy_frame-copy-requires-clause-frame

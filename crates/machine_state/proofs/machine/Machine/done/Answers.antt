@@ -14,8 +14,9 @@ use Rattle.machine_state.specs.declared.tables.Tables.{Tables}
 use Rattle.machine_state.specs.Sourced.{AreSourced}
 use Rattle.machine_state.specs.Files.{AreFiles, AreImages}
 use Rattle.machine_state.specs.Machine.{Standing, lists_of, kernel_by, image_at, images_of, before_of}
-use Rattle.machine_state.proofs.Knows.{known_of}
-use Rattle.machine_state.proofs.Standings.{no_room, running, stands_now, whole_now, Still, still_along, stands_on, pushed}
+use Rattle.machine_state.proofs.Knowing.{known_of}
+use Rattle.machine_state.proofs.Standings.{no_room, running, stands_now, whole_now, stands_on}
+use Rattle.machine_state.proofs.Stills.{Still, still_along, pushed}
 use Rattle.machine_state.proofs.Reaches.{reachable}
 use Rattle.machine_state.proofs.Dones.{Came, came, done_back, was_lists, back_known, Doing, done_kernel, done_runs, Before, head_sourced, rest_sourced, done_image, done_told, spoiled_image, done_keeps}
 use Rattle.machine_state.proofs.FailedReads.{file_failed, swap_read_failed}

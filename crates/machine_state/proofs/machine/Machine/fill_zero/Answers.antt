@@ -8,11 +8,14 @@ use Rattle.machine_state.specs.Conditions.{CanZero, KeepsFlat, SameElsewhere}
 use Rattle.machine_state.specs.declared.tables.Tables.{Tables}
 use Rattle.machine_state.specs.Known.{Known}
 use Rattle.machine_state.proofs.Evicts.{head_below}
-use Rattle.machine_state.proofs.Knows.{known_of, texts_here, not_held}
+use Rattle.machine_state.proofs.Knows.{texts_here, not_held}
+use Rattle.machine_state.proofs.Knowing.{known_of}
 use Rattle.machine_state.proofs.Zeros.{Zeroing}
 use Rattle.machine_state.proofs.ZeroKeeps.{zero_keeps, zero_same}
-use Rattle.machine_state.proofs.Kernels.{zeroing_rest, zero_ties, zero_kernel, zero_runs}
-use Rattle.machine_state.proofs.Standings.{no_room, running, stands_now, whole_now, Still, still_along, stands_same, rest_of, pushed}
+use Rattle.machine_state.proofs.Kernels.{zeroing_rest, zero_ties, zero_kernel}
+use Rattle.machine_state.proofs.ZeroRuns.{zero_runs}
+use Rattle.machine_state.proofs.Standings.{no_room, running, stands_now, whole_now, stands_same, rest_of}
+use Rattle.machine_state.proofs.Stills.{Still, still_along, pushed}
 use Rattle.machine_state.proofs.machine.Machine.fill_zero.Goals as goal
 
 pub take_frame-token-requires-clause-texts : goal.take_frame-token-requires-clause-texts

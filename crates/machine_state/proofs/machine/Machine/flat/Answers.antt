@@ -4,7 +4,8 @@ use Rattle.kernel_model.specs.ChangeStep.{change_step}
 use Rattle.machine_state.specs.declared.tables.Tables.{Tables}
 use Rattle.machine_state.specs.Applying.{facts_named}
 use Rattle.machine_state.specs.Machine.{Standing, kernel_by}
-use Rattle.machine_state.proofs.Standings.{no_room, stands_now, pushed}
+use Rattle.machine_state.proofs.Standings.{no_room, stands_now}
+use Rattle.machine_state.proofs.Stills.{pushed}
 use Rattle.machine_state.proofs.FlatSteps.{ready_of, made_of, flat_record, flat_may, flat_kernel, flat_stands}
 use Rattle.machine_state.proofs.Wholes.{changes_whole}
 use Rattle.machine_state.proofs.machine.Machine.flat.Goals as goal

@@ -13,7 +13,7 @@ use Rattle.machine_state.specs.Calls.{CanMove}
 use Rattle.machine_state.specs.Conditions.{KeepsFlat, SameEverywhere}
 use Rattle.machine_state.specs.Launches.{MovedOn}
 use Rattle.machine_state.specs.Joined.{moves_in, last_says}
-use Rattle.machine_state.proofs.Knows.{known_of}
+use Rattle.machine_state.proofs.Knowing.{known_of}
 use Rattle.machine_state.proofs.Puttings.{all_blocks}
 use Rattle.machine_state.proofs.Hands.{hands_low, hand_few, hand_keeps, hand_alike}
 use Rattle.machine_state.proofs.Joins.{moves_kind, last_is, joined_within}

@@ -13,11 +13,12 @@ use Rattle.machine_state.specs.Steps.{dirty_shown}
 use Rattle.machine_state.specs.Calls.{CanPush}
 use Rattle.machine_state.specs.Conditions.{KeepsFlat, SameEverywhere}
 use Rattle.machine_state.specs.Launches.{MayPutOut, MovedOn, put_out}
-use Rattle.machine_state.proofs.Knows.{known_of}
+use Rattle.machine_state.proofs.Knowing.{known_of}
 use Rattle.machine_state.proofs.Dirty.{dirty_is}
 use Rattle.machine_state.proofs.Puttings.{push_is, push_seat, push_there, push_may, push_few, push_keeps, push_alike, all_blocks}
 use Rattle.machine_state.proofs.MovesOn.{Moving, moved_still, moving_kernel, moving_stands}
-use Rattle.machine_state.proofs.Standings.{no_room, running, stands_now, whole_now, rest_of, pushed}
+use Rattle.machine_state.proofs.Standings.{no_room, running, stands_now, whole_now, rest_of}
+use Rattle.machine_state.proofs.Stills.{pushed}
 use Rattle.machine_state.proofs.machine.Machine.push.Goals as goal
 
 pub put_out-requires-clause-known : goal.put_out-requires-clause-known

@@ -15,12 +15,15 @@ use Rattle.machine_state.specs.Known.{Known}
 use Rattle.machine_state.specs.Machine.{Standing, Runs, lists_of, kernel_by}
 use Rattle.machine_state.specs.Moves.{RevivedPage}
 use Rattle.machine_state.specs.Conditions.{CanReclaim, KeepsFlat, SameEverywhere}
-use Rattle.machine_state.proofs.Knows.{known_of, text_low}
+use Rattle.machine_state.proofs.Knows.{text_low}
+use Rattle.machine_state.proofs.Knowing.{known_of}
 use Rattle.machine_state.proofs.Entries.{head_of, placed_heads}
-use Rattle.machine_state.proofs.Standings.{no_room, running, stands_now, whole_now, Still, still_along, stands_same, rest_of, pushed}
+use Rattle.machine_state.proofs.Standings.{no_room, running, stands_now, whole_now, stands_same, rest_of}
+use Rattle.machine_state.proofs.Stills.{Still, still_along, pushed}
 use Rattle.machine_state.proofs.Revives.{below_held}
 use Rattle.machine_state.proofs.Evicts.{held_above}
-use Rattle.machine_state.proofs.Reclaims.{InvalidEntry, invalid_entry, Reclaiming, reclaim_kernel, reclaim_runs, reclaim_keeps, reclaim_alike}
+use Rattle.machine_state.proofs.Reclaims.{InvalidEntry, invalid_entry, Reclaiming, reclaim_kernel, reclaim_keeps, reclaim_alike}
+use Rattle.machine_state.proofs.ReclaimRuns.{reclaim_runs}
 use Rattle.machine_state.proofs.machine.Machine.reclaim.Goals as goal
 
 pub frame_of-frame-requires : goal.frame_of-frame-requires

@@ -12,7 +12,8 @@ use Rattle.machine_state.specs.Machine.{Standing, lists_of}
 use Rattle.machine_state.specs.UserMemory.{IsOwnPage, AreWhole}
 use Rattle.machine_state.proofs.Standings.{stands_now}
 use Rattle.machine_state.proofs.Touches.{InFrame, in_frame}
-use Rattle.machine_state.proofs.Writes.{Writing, write_stands, write_standing}
+use Rattle.machine_state.proofs.Writes.{Writing, write_stands}
+use Rattle.machine_state.proofs.WriteStanding.{write_standing}
 use Rattle.machine_state.proofs.UserFrames.{known_by, own_home, held_whole}
 use Rattle.machine_state.proofs.machine.Machine.write_byte.Goals as goal
 

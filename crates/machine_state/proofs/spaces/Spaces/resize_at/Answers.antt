@@ -2,7 +2,7 @@ use Rattle.std.proofs.Common.{◌≡◌, ◌<◌, ◌∙◌, ℕ, List, length, 
 use Rattle.space_map.specs.Space.{Places}
 use Rattle.machine_state.specs.Rising.{AreRising}
 use Rattle.machine_state.specs.Sizes.{with_sizes, with_sizes_at}
-use Rattle.machine_state.proofs.Sizing.{sizes_set, number_kept}
+use Rattle.machine_state.proofs.ResizedMaps.{sizes_set, number_kept}
 use Rattle.machine_state.proofs.spaces.Spaces.resize_at.Goals as goal
 
 pub invariant_of-self : goal.invariant_of-self

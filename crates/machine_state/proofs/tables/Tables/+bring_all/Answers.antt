@@ -19,7 +19,7 @@ use Rattle.machine_state.specs.Moves.{BroughtPage, HasSource, AreFrom, opened}
 use Rattle.machine_state.specs.Steps.{evicted, source_by}
 use Rattle.machine_state.proofs.Entries.{head_of, placed_heads}
 use Rattle.machine_state.proofs.Kept.{evicted_heads}
-use Rattle.machine_state.proofs.Standings.{images_heads}
+use Rattle.machine_state.proofs.Stills.{images_heads}
 use Rattle.machine_state.proofs.Knows.{texts_here}
 use Rattle.machine_state.proofs.Sources.{SameSources, back_sources, from_snoc, from_still, has_still}
 use Rattle.machine_state.proofs.Opens.{Brings, brings, pages_snoc}

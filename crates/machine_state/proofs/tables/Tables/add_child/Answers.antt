@@ -1,5 +1,5 @@
 use Rattle.machine_state.specs.Machine.{life_shown}
-use Rattle.machine_state.proofs.Settling.{on_ok}
+use Rattle.machine_state.proofs.Outcomes.{on_ok}
 use Rattle.machine_state.proofs.Lineage.{found_there, has_child}
 use Rattle.machine_state.proofs.tables.Tables.add_child.Goals as goal
 

@@ -1,7 +1,7 @@
 use Rattle.std.proofs.Common.{sym, ap, subst}
 use Rattle.machine_state.specs.declared.tables.Tables.{Tables}
 use Rattle.machine_state.specs.Applied.{MayApply, AppliesAs}
-use Rattle.machine_state.proofs.Settling.{on_ok}
+use Rattle.machine_state.proofs.Outcomes.{on_ok}
 use Rattle.machine_state.proofs.Applies.{keep_all, sleep_all, reap_all, lend_all}
 use Rattle.machine_state.proofs.tables.Tables.apply.Goals as goal
 

@@ -1,4 +1,4 @@
-use Rattle.machine_state.proofs.Settling.{on_ok}
+use Rattle.machine_state.proofs.Outcomes.{on_ok}
 use Rattle.machine_state.proofs.Applies.{fork_some, fork_there, fork_all}
 use Rattle.machine_state.proofs.tables.Tables.fork.Goals as goal
 

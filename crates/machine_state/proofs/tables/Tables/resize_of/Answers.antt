@@ -1,4 +1,4 @@
-use Rattle.machine_state.proofs.Settling.{on_ok}
+use Rattle.machine_state.proofs.Outcomes.{on_ok}
 use Rattle.machine_state.proofs.Applies.{resize_some, resize_there, resize_settled, resize_all}
 use Rattle.machine_state.proofs.tables.Tables.resize_of.Goals as goal
 
