@@ -3,7 +3,7 @@ use Rattle.std.proofs.Common.{◌≡◌, ◌<◌, List, [], ◌∷◌, ◌++◌,
 use Rattle.std.specs.Prelude.{string_bytes}
 use Rattle.io_edge.specs.FileHolding.{NamedFile, HasRange}
 use Rattle.aout_image.specs.Image.{IsSound, file_length_of}
-use Rattle.machine_state.specs.declared.named.Named.{Named}
+use Rattle.machine_state.specs.Named.{Named}
 use Rattle.machine_state.specs.Files.{AreFiles}
 use Rattle.machine_state.specs.Machine.{image_shown}
 use Rattle.machine_state.specs.New.{AreSound}

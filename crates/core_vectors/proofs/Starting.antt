@@ -7,7 +7,7 @@ use Rattle.vm_facts.specs.declared.stop.NoMemory.{NoMemory}
 use Rattle.aout_image.specs.declared.Image.{Image}
 use Rattle.io_edge.specs.FileHolding.{NamedFile}
 use Rattle.machine_state.specs.Files.{AreFiles}
-use Rattle.machine_state.specs.declared.named.Named.{Named}
+use Rattle.machine_state.specs.Named.{Named}
 use Rattle.machine_state.specs.Machine.{Standing, image_shown}
 use Rattle.machine_state.specs.New.{fresh_kernel}
 use Rattle.machine_state.specs.Sourced.{ImageNamed}

@@ -1,7 +1,7 @@
 -- What the calls of the core ask for.
 use Rattle.std.specs.Prelude.{ℕ, ◌≤◌, List, map, length, Option, All}
 use Rattle.io_edge.specs.FileHolding.{NamedFile}
-use Rattle.machine_state.specs.declared.named.Named.{Named}
+use Rattle.machine_state.specs.Named.{Named}
 use Rattle.machine_state.specs.Files.{AreFiles}
 use Rattle.machine_state.specs.Machine.{image_shown}
 use Rattle.machine_state.specs.New.{AreSound}

@@ -29,25 +29,25 @@ use Rattle.page_laws.proofs.Bytes.Others.{filled_same}
 use Rattle.kernel_laws.proofs.Sound.Steps.{copy_sound}
 use Rattle.kernel_laws.proofs.Sound.NumbersApart.{copy_numbered}
 use Rattle.kernel_laws.proofs.Machine.Moves.{copy_coupled}
-use Rattle.machine_state.specs.declared.tables.Tables.{Tables}
+use Rattle.kernel_tables.specs.declared.tables.Tables.{Tables}
 use Rattle.machine_state.specs.declared.machine.Machine.TheInside.{Inside}
-use Rattle.machine_state.specs.declared.fill.DueFill.{DueFill}
-use Rattle.machine_state.specs.declared.fill.DueFill.TheVariants as fills
-use Rattle.machine_state.specs.View.{Lists, flown_at, bytes_by, due_shown, starts_of, placement_of, frames_of}
-use Rattle.machine_state.specs.Due.{DueOnce}
-use Rattle.machine_state.specs.Steps.{taken, seated}
-use Rattle.machine_state.specs.Moves.{TookFrame, SeatedPage, FinishedFill}
-use Rattle.machine_state.specs.Machine.{Runs, lists_of, kernel_by}
-use Rattle.machine_state.specs.Known.{Known}
-use Rattle.machine_state.specs.Calls.{CanCopy}
-use Rattle.machine_state.specs.Conditions.{KeepsFlat, SameElsewhere}
-use Rattle.machine_state.proofs.Evicts.{Head}
-use Rattle.machine_state.proofs.Fills.{Took, took_is, fill_is, seat_frames}
-use Rattle.machine_state.proofs.Held.{bytes_at}
-use Rattle.machine_state.proofs.Zeros.{zeroed, took_lists, seated_lists, finished_lists}
-use Rattle.machine_state.proofs.Kernels.{kernel_ext, writable_shared, zeroed_ties}
-use Rattle.machine_state.proofs.Kept.{Ties, tied_still, none_due}
-use Rattle.machine_state.proofs.Residing.{Resides, seat_resides}
+use Rattle.kernel_tables.specs.declared.fill.DueFill.{DueFill}
+use Rattle.kernel_tables.specs.declared.fill.DueFill.TheVariants as fills
+use Rattle.kernel_tables.specs.View.{Lists, flown_at, bytes_by, due_shown, starts_of, placement_of, frames_of}
+use Rattle.kernel_tables.specs.Due.{DueOnce}
+use Rattle.kernel_tables.specs.Steps.{taken, seated}
+use Rattle.kernel_tables.specs.Moves.{TookFrame, SeatedPage, FinishedFill}
+use Rattle.kernel_tables.specs.Machine.{Runs, lists_of, kernel_by}
+use Rattle.kernel_tables.specs.Known.{Known}
+use Rattle.kernel_tables.specs.Calls.{CanCopy}
+use Rattle.kernel_tables.specs.Conditions.{KeepsFlat, SameElsewhere}
+use Rattle.kernel_tables.proofs.Evicts.{Head}
+use Rattle.kernel_tables.proofs.Fills.{Took, took_is, fill_is, seat_frames}
+use Rattle.kernel_tables.proofs.Held.{bytes_at}
+use Rattle.kernel_tables.proofs.Zeros.{zeroed, took_lists, seated_lists, finished_lists}
+use Rattle.kernel_tables.proofs.Kernels.{kernel_ext, writable_shared, zeroed_ties}
+use Rattle.kernel_tables.proofs.Kept.{Ties, tied_still, none_due}
+use Rattle.table_steps.proofs.Residing.{Resides, seat_resides}
 
 -- What is due.
 
@@ -143,7 +143,7 @@ copy_kernel t u v w token copy q parent f others journal stopped z =
     kernel_ext (kernel_by w (journal ++ entries.Copy q ∷ []) stopped) (copy_step (kernel_by t journal stopped) q)
     (copy_place t u v w token copy q parent f others z)
     (ap (λ (x : Tables). x.book.holdings) rest)
-    (ap (λ (x : Tables). Rattle.machine_state.specs.Machine.processes_of x.processes x.next_pid) rest)
+    (ap (λ (x : Tables). Rattle.kernel_tables.specs.Machine.processes_of x.processes x.next_pid) rest)
     (ap (λ (x : Tables). x.next_pid) rest)
     (ap (λ (x : Tables). x.next_sid) rest)
     (ap (λ (x : Lists). starts_of x.fills) (copying_lists t u v w token copy q parent f others z) ∙ starts_next t.fills.items q parent others z.due)

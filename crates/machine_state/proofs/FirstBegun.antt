@@ -19,16 +19,16 @@ use Rattle.kernel_model.specs.Start.{begin_place, begin_step}
 use Rattle.kernel_laws.proofs.Sound.NumbersApart.{begin_numbered}
 use Rattle.kernel_laws.proofs.Sound.Begins.{begin_sound}
 use Rattle.kernel_laws.proofs.Kept.Begins.{begins_due}
-use Rattle.machine_state.specs.declared.tables.Tables.{Tables}
+use Rattle.kernel_tables.specs.declared.tables.Tables.{Tables}
 use Rattle.machine_state.specs.declared.machine.Machine.TheInside.{Inside}
-use Rattle.machine_state.specs.Tied.{Tied}
-use Rattle.machine_state.specs.Sourced.{ImageNamed, AreNames, named_at, AreSourced}
-use Rattle.machine_state.specs.View.{Lists, placement_of, frames_of, starts_of}
-use Rattle.machine_state.specs.Machine.{Standing, Runs, lists_of, kernel_by, images_of, image_at, image_shown, before_of, processes_of, residents_of}
+use Rattle.kernel_tables.specs.Tied.{Tied}
+use Rattle.kernel_tables.specs.Sourced.{ImageNamed, AreNames, named_at, AreSourced}
+use Rattle.kernel_tables.specs.View.{Lists, placement_of, frames_of, starts_of}
+use Rattle.kernel_tables.specs.Machine.{Standing, Runs, lists_of, kernel_by, images_of, image_at, image_shown, before_of, processes_of, residents_of}
 use Rattle.machine_state.specs.Fields.{standing_of, HasRoom, RunsNow}
-use Rattle.machine_state.specs.Changing.{EnteredImage, started_place, processes_in, residents_in}
+use Rattle.kernel_tables.specs.Changing.{EnteredImage, started_place, processes_in, residents_in}
 use Rattle.machine_state.specs.Beginning.{StartedFirst, found_first, BeganFirst}
-use Rattle.machine_state.proofs.Kernels.{kernel_ext}
+use Rattle.kernel_tables.proofs.Kernels.{kernel_ext}
 use Rattle.machine_state.proofs.FirstBegins.{Before, same_number, new_first, same_named}
 use Rattle.machine_state.proofs.AddedRing.{ring_added, beside_ring}
 

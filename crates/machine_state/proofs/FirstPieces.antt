@@ -20,15 +20,15 @@ use Rattle.page_model.specs.Placement.{Placement, slots_of, sharers}
 use Rattle.page_model.specs.Place.{facts_numbered}
 use Rattle.kernel_model.specs.Asks.{text_asked, begin_asks}
 use Rattle.machine_state.specs.declared.pieces.Want.{Want}
-use Rattle.machine_state.specs.declared.named.Named.{Named}
-use Rattle.machine_state.specs.declared.tables.Tables.{Tables}
-use Rattle.machine_state.specs.Machine.{lists_of}
-use Rattle.machine_state.specs.Alike.{facts_in}
-use Rattle.machine_state.specs.View.{Lists, placement_of}
+use Rattle.kernel_tables.specs.declared.named.Named.{Named}
+use Rattle.kernel_tables.specs.declared.tables.Tables.{Tables}
+use Rattle.kernel_tables.specs.Machine.{lists_of}
+use Rattle.kernel_tables.specs.Alike.{facts_in}
+use Rattle.kernel_tables.specs.View.{Lists, placement_of}
 use Rattle.machine_state.specs.Wants.{CanAsk, wanted_of, fits_for, book_asked}
 use Rattle.machine_state.specs.Beginning.{HoldsNone, MayLookFirst, LookedFirst}
-use Rattle.machine_state.proofs.Shows.{texts_shown, text_length}
-use Rattle.machine_state.proofs.AddedTied.{facts_pages}
+use Rattle.kernel_tables.proofs.Shows.{texts_shown, text_length}
+use Rattle.kernel_tables.proofs.AddedTied.{facts_pages}
 
 abbrev want : Owner → ℕ → Want
 want owner blocks = record { owner = owner; blocks = blocks }

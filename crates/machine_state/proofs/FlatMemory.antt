@@ -22,7 +22,7 @@ use Rattle.kernel_model.specs.Sound.{TextFits}
 use Rattle.kernel_model.specs.Coupled.{Coupled, Fits, IsSized, beside_kernel, memory_of, text_of, data_bytes_in, stack_bytes_in}
 use Rattle.page_laws.proofs.Bytes.Pages.{keeps_at}
 use Rattle.page_laws.proofs.Moves.Steps.{page_in}
-use Rattle.machine_state.specs.UserMemory.{bytes_of, text_len, data_len, stack_len, spot_in, read_by_state, read_page, read_spot, may_write_by, may_write_spot, kernel_answers}
+use Rattle.kernel_tables.specs.UserMemory.{bytes_of, text_len, data_len, stack_len, spot_in, read_by_state, read_page, read_spot, may_write_by, may_write_spot, kernel_answers}
 
 -- a byte of a segment is one of its page
 byte_there : (bytes : List ℕ) (i : ℕ) → slice_index bytes i ≡ slice_index (page_at (i / 1024) bytes) (i % 1024)

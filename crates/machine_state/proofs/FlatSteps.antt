@@ -37,31 +37,31 @@ use Rattle.kernel_model.specs.Unit.{has_lender}
 use Rattle.kernel_laws.proofs.Sound.Allowed.{new_number, may_change, wants_these, ready_sound}
 use Rattle.kernel_laws.proofs.Sound.NumbersApart.{flat_numbered}
 use Rattle.kernel_laws.proofs.Sound.Changes.{Unhanded, change_unhanded}
-use Rattle.machine_state.specs.declared.tables.Tables.{Tables}
-use Rattle.machine_state.specs.declared.named.Named.{Named}
+use Rattle.kernel_tables.specs.declared.tables.Tables.{Tables}
+use Rattle.kernel_tables.specs.declared.named.Named.{Named}
 use Rattle.machine_state.specs.declared.machine.Machine.TheInside.{Inside}
 use Rattle.machine_state.specs.Fields.{standing_of, RunsInside}
-use Rattle.machine_state.specs.declared.fill.DueFill.{DueFill}
-use Rattle.machine_state.specs.View.{Lists, due_shown, placement_of, frames_of}
-use Rattle.machine_state.specs.Known.{Known}
-use Rattle.machine_state.specs.Sourced.{ImageNamed, AreNames, AreSourced}
-use Rattle.machine_state.specs.Moves.{LeftRegs}
-use Rattle.machine_state.specs.Calls.{life_in}
-use Rattle.machine_state.specs.Machine.{Standing, WereFound, Stands, lists_of, kernel_by, images_of, image_shown, image_at}
-use Rattle.machine_state.specs.Machine.{before_of}
-use Rattle.machine_state.specs.Changing.{processes_in, process_in}
-use Rattle.machine_state.specs.Applying.{facts_named, IsEntryOf, MayAct, CanApply}
-use Rattle.machine_state.specs.Applied.{place_in, NamesNext, MayApply, Applied, AppliesAs}
-use Rattle.machine_state.proofs.Shows.{sids_shown}
-use Rattle.machine_state.proofs.Lives.{pid_of, HasRecord, record_of}
-use Rattle.machine_state.proofs.Records.{regs_are, residents_are}
-use Rattle.machine_state.proofs.Recorded.{regs_records}
-use Rattle.machine_state.proofs.UserFrames.{known_by}
-use Rattle.machine_state.proofs.Kernels.{kernel_ext}
+use Rattle.kernel_tables.specs.declared.fill.DueFill.{DueFill}
+use Rattle.kernel_tables.specs.View.{Lists, due_shown, placement_of, frames_of}
+use Rattle.kernel_tables.specs.Known.{Known}
+use Rattle.kernel_tables.specs.Sourced.{ImageNamed, AreNames, AreSourced}
+use Rattle.kernel_tables.specs.Moves.{LeftRegs}
+use Rattle.kernel_tables.specs.Calls.{life_in}
+use Rattle.kernel_tables.specs.Machine.{Standing, WereFound, Stands, lists_of, kernel_by, images_of, image_shown, image_at}
+use Rattle.kernel_tables.specs.Machine.{before_of}
+use Rattle.kernel_tables.specs.Changing.{processes_in, process_in}
+use Rattle.kernel_tables.specs.Applying.{facts_named, IsEntryOf, MayAct, CanApply}
+use Rattle.table_steps.specs.Applied.{place_in, NamesNext, MayApply, Applied, AppliesAs}
+use Rattle.kernel_tables.proofs.Shows.{sids_shown}
+use Rattle.kernel_tables.proofs.Lives.{pid_of, HasRecord, record_of}
+use Rattle.kernel_tables.proofs.Records.{regs_are, residents_are}
+use Rattle.kernel_tables.proofs.Recorded.{regs_records}
+use Rattle.kernel_tables.proofs.UserFrames.{known_by}
+use Rattle.kernel_tables.proofs.Kernels.{kernel_ext}
 use Rattle.machine_state.proofs.Standings.{stands_now}
 use Rattle.machine_state.proofs.FlightsStay.{Behind, sourced_behind}
-use Rattle.machine_state.proofs.ProcessLists.{OnlyOne, only_one, found_number, regs_after, regs_lender, regs_count, regs_pids, regs_there}
-use Rattle.machine_state.proofs.ProcessLists.{regs_lives}
+use Rattle.table_steps.proofs.ProcessLists.{OnlyOne, only_one, found_number, regs_after, regs_lender, regs_count, regs_pids, regs_there}
+use Rattle.table_steps.proofs.ProcessLists.{regs_lives}
 
 -- The entry.
 

@@ -42,9 +42,9 @@ use Rattle.page_laws.proofs.Ownership.Changes.{dropped_pages, added_other, remov
 use Rattle.kernel_model.specs.ChangeStep.{text_given_back, given_back_unless, holdings_after}
 use Rattle.kernel_laws.proofs.Machine.Shapes.{shape_in, Shaped, image_kept, shaped_by_puts}
 use Rattle.kernel_laws.proofs.Machine.Takes.{still_found}
-use Rattle.machine_state.specs.Sourced.{ImageNamed, IsOwnBlock, IsRangeOf, named_at, IsSourced, AreSourcedIn, AreOwnBlocks}
-use Rattle.machine_state.specs.Sourced.{AreSourced}
-use Rattle.machine_state.specs.View.{source_shown, in_part, out_part, transfer_shown}
+use Rattle.kernel_tables.specs.Sourced.{ImageNamed, IsOwnBlock, IsRangeOf, named_at, IsSourced, AreSourcedIn, AreOwnBlocks}
+use Rattle.kernel_tables.specs.Sourced.{AreSourced}
+use Rattle.kernel_tables.specs.View.{source_shown, in_part, out_part, transfer_shown}
 
 -- Blocks. What is given back moves no piece that is kept.
 

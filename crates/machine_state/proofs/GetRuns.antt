@@ -15,13 +15,13 @@ use Rattle.page_laws.proofs.Lists.Runs.{each_page_imp}
 use Rattle.kernel_laws.proofs.Sound.Steps.{plain_sound}
 use Rattle.kernel_laws.proofs.Sound.NumbersApart.{plain_numbered}
 use Rattle.page_laws.proofs.Due.Entries.{entry_due}
-use Rattle.machine_state.specs.declared.tables.Tables.{Tables}
+use Rattle.kernel_tables.specs.declared.tables.Tables.{Tables}
 use Rattle.machine_state.specs.declared.machine.Machine.TheInside.{Inside}
-use Rattle.machine_state.specs.View.{placement_of}
-use Rattle.machine_state.specs.Machine.{Runs, lists_of, kernel_by}
-use Rattle.machine_state.specs.Moves.{BeganRead}
-use Rattle.machine_state.specs.Conditions.{CanBringIn}
-use Rattle.machine_state.proofs.Gets.{get_kernel, reads_fresh}
+use Rattle.kernel_tables.specs.View.{placement_of}
+use Rattle.kernel_tables.specs.Machine.{Runs, lists_of, kernel_by}
+use Rattle.kernel_tables.specs.Moves.{BeganRead}
+use Rattle.kernel_tables.specs.Conditions.{CanBringIn}
+use Rattle.table_steps.proofs.Gets.{get_kernel, reads_fresh}
 
 pub get_runs : (m : Inside) (w : Tables) (q : Page) (lo n : ℕ) (journal : List Entry) (stopped : Bool)
     → Runs (kernel_by m.tables m.journal.items m.stopped) (lists_of m.tables) m.tables.book.size → CanBringIn (placement_of (lists_of m.tables)) q lo n → BeganRead m.tables w q lo n → journal ≡ m.journal.items → stopped ≡ m.stopped

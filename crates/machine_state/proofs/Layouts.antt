@@ -10,7 +10,7 @@ use Rattle.page_model.specs.Placement.{Placement, space_number, state_of, image_
 use Rattle.page_model.specs.Moves.{touch, touch_to}
 use Rattle.kernel_model.specs.Kernel.{Kernel, write_step}
 use Rattle.kernel_laws.proofs.Machine.Shapes.{touch_shaped, image_kept, sizes_kept}
-use Rattle.machine_state.specs.UserMemory.{bytes_of, IsLaidOut}
+use Rattle.kernel_tables.specs.UserMemory.{bytes_of, IsLaidOut}
 
 changed_kept : {A : Type 0} (number : A → ℕ) (n : ℕ) (change : A → A) (g : A → ℕ) → ((x : A) → g (change x) ≡ g x) → (xs : List A) → map g (changed number n change xs) ≡ map g xs
 changed_kept number n change g e [] = refl

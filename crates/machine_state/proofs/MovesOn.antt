@@ -18,16 +18,16 @@ use Rattle.kernel_model.specs.Numbers.{Numbered}
 use Rattle.page_laws.proofs.Due.Entries.{entry_due}
 use Rattle.kernel_laws.proofs.Sound.Steps.{entry_sound}
 use Rattle.kernel_laws.proofs.Sound.NumbersApart.{plain_numbered}
-use Rattle.machine_state.specs.declared.tables.Tables.{Tables}
+use Rattle.kernel_tables.specs.declared.tables.Tables.{Tables}
 use Rattle.machine_state.specs.declared.machine.Machine.TheInside.{Inside}
-use Rattle.machine_state.specs.Sourced.{ImageNamed, IsFlightSourced, AreOwnBlocks, AreSourced}
-use Rattle.machine_state.specs.View.{placement_of, starts_of}
-use Rattle.machine_state.specs.Machine.{Runs, Stands, lists_of, kernel_by, images_of, image_at, before_of, processes_of}
-use Rattle.machine_state.specs.Launches.{HaveOwnBlocks, IsOwnWrite, AddsWrite, MovedOn}
-use Rattle.machine_state.proofs.Kernels.{kernel_ext}
-use Rattle.machine_state.proofs.Sources.{own_place}
+use Rattle.kernel_tables.specs.Sourced.{ImageNamed, IsFlightSourced, AreOwnBlocks, AreSourced}
+use Rattle.kernel_tables.specs.View.{placement_of, starts_of}
+use Rattle.kernel_tables.specs.Machine.{Runs, Stands, lists_of, kernel_by, images_of, image_at, before_of, processes_of}
+use Rattle.kernel_tables.specs.Launches.{HaveOwnBlocks, IsOwnWrite, AddsWrite, MovedOn}
+use Rattle.kernel_tables.proofs.Kernels.{kernel_ext}
+use Rattle.table_steps.proofs.Sources.{own_place}
 use Rattle.machine_state.proofs.Standings.{stands_on}
-use Rattle.machine_state.proofs.Stills.{Still, appended, sourced_more}
+use Rattle.kernel_tables.proofs.Stills.{Still, appended, sourced_more}
 
 -- What is known of such a step.
 pub record Moving (m : Inside) (u : Tables) (p : Placement) (locked : List Page) (e : Entry) : Type 0 where

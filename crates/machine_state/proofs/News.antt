@@ -25,27 +25,27 @@ use Rattle.page_laws.proofs.Starts.{start_hands}
 use Rattle.kernel_laws.proofs.Pieces.Starts.{start_found}
 use Rattle.page_laws.proofs.Due.Changes.{none_due}
 use Rattle.table_view.specs.Shown.{state_shown}
-use Rattle.machine_state.specs.Found.{cached_by, frame_holding}
-use Rattle.machine_state.specs.View.{Lists, pages_in, text_slot, texts_of, page_by, bytes_by, page_held, bytes_held, placement_of, frames_of, transfer_shown, flown, starts_of}
-use Rattle.machine_state.specs.New.{fresh_kernel, AreSound}
-use Rattle.machine_state.specs.Machine.{Standing, Runs, Stands, images_of, image_at, before_of, lists_of, kernel_by, processes_of, residents_of}
-use Rattle.machine_state.specs.Alike.{AreRecords}
-use Rattle.machine_state.specs.Sourced.{AreNames, AreSourced}
+use Rattle.kernel_tables.specs.Found.{cached_by, frame_holding}
+use Rattle.kernel_tables.specs.View.{Lists, pages_in, text_slot, texts_of, page_by, bytes_by, page_held, bytes_held, placement_of, frames_of, transfer_shown, flown, starts_of}
+use Rattle.kernel_tables.specs.New.{fresh_kernel, AreSound}
+use Rattle.kernel_tables.specs.Machine.{Standing, Runs, Stands, images_of, image_at, before_of, lists_of, kernel_by, processes_of, residents_of}
+use Rattle.kernel_tables.specs.Alike.{AreRecords}
+use Rattle.kernel_tables.specs.Sourced.{AreNames, AreSourced}
 use Rattle.proc_table.specs.declared.process.Proc.{Proc as Record}
-use Rattle.machine_state.proofs.Recorded.{no_records}
+use Rattle.kernel_tables.proofs.Recorded.{no_records}
 use Rattle.swap_book.specs.Holdings.{Holdings}
 use Rattle.swap_book.specs.declared.Held.{Held}
 use Rattle.vm_facts.specs.declared.params.Params.{Params}
 use Rattle.vm_facts.specs.declared.entry.Entry.{Entry}
 use Rattle.space_map.specs.Space.{Places}
 use Rattle.transfer_ring.specs.declared.transfer.Transfer.{Transfer as Flight}
-use Rattle.machine_state.specs.declared.tables.Tables.{Tables}
-use Rattle.machine_state.specs.declared.named.Named.{Named as ImageNamed}
-use Rattle.machine_state.specs.declared.fill.DueFill.{DueFill}
-use Rattle.machine_state.proofs.Kernels.{kernel_ext}
-use Rattle.machine_state.proofs.Finds.{holding_none}
-use Rattle.machine_state.proofs.Shows.{pages_hit, pages_miss}
-use Rattle.machine_state.proofs.Held.{placement_ext}
+use Rattle.kernel_tables.specs.declared.tables.Tables.{Tables}
+use Rattle.kernel_tables.specs.declared.named.Named.{Named as ImageNamed}
+use Rattle.kernel_tables.specs.declared.fill.DueFill.{DueFill}
+use Rattle.kernel_tables.proofs.Kernels.{kernel_ext}
+use Rattle.kernel_tables.proofs.Finds.{holding_none}
+use Rattle.kernel_tables.proofs.Shows.{pages_hit, pages_miss}
+use Rattle.kernel_tables.proofs.Held.{placement_ext}
 
 -- The tables' lists.
 abbrev pub new_lists : List Image → ℕ → Lists

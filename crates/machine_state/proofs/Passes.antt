@@ -10,13 +10,13 @@ use Rattle.kernel_model.specs.Numbers.{Numbered}
 use Rattle.kernel_model.specs.Sound.{Sound, has_life, lives_in, lives as are_alive}
 use Rattle.kernel_laws.proofs.Sound.Steps.{pass_sound}
 use Rattle.kernel_laws.proofs.Sound.NumbersApart.{pass_numbered}
-use Rattle.machine_state.specs.declared.tables.Tables.{Tables}
-use Rattle.machine_state.specs.Applying.{MayPass}
-use Rattle.machine_state.specs.Sourced.{AreNames, AreSourced}
-use Rattle.machine_state.specs.Tied.{Tied}
-use Rattle.machine_state.specs.View.{Lists, placement_of}
-use Rattle.machine_state.specs.Machine.{Standing, Stands, WereFound, lists_of, kernel_by, images_of, before_of}
-use Rattle.machine_state.specs.Changing.{HasProcesses, processes_in, residents_in, life_at, passed_procs}
+use Rattle.kernel_tables.specs.declared.tables.Tables.{Tables}
+use Rattle.kernel_tables.specs.Applying.{MayPass}
+use Rattle.kernel_tables.specs.Sourced.{AreNames, AreSourced}
+use Rattle.kernel_tables.specs.Tied.{Tied}
+use Rattle.kernel_tables.specs.View.{Lists, placement_of}
+use Rattle.kernel_tables.specs.Machine.{Standing, Stands, WereFound, lists_of, kernel_by, images_of, before_of}
+use Rattle.kernel_tables.specs.Changing.{HasProcesses, processes_in, residents_in, life_at, passed_procs}
 
 -- who gives and who takes lives
 pub giver_lives : (o : Option Proc) (taker : Life) (from : ℕ) → MayPass (life_of_proc o) taker from → lives_in o ≡ true

@@ -16,18 +16,18 @@ use Rattle.kernel_model.specs.Numbers.{Numbered}
 use Rattle.kernel_laws.proofs.Sound.Steps.{plain_sound}
 use Rattle.kernel_laws.proofs.Sound.NumbersApart.{plain_numbered}
 use Rattle.page_laws.proofs.Due.Entries.{entry_due}
-use Rattle.machine_state.specs.declared.tables.Tables.{Tables}
+use Rattle.kernel_tables.specs.declared.tables.Tables.{Tables}
 use Rattle.machine_state.specs.declared.machine.Machine.TheInside.{Inside}
-use Rattle.machine_state.specs.Shown.{entry_in}
-use Rattle.machine_state.specs.View.{placement_of}
-use Rattle.machine_state.specs.Steps.{revived, reclaimed, dirty_shown}
-use Rattle.machine_state.specs.Machine.{Runs, lists_of, kernel_by}
-use Rattle.machine_state.proofs.Entries.{placed_heads}
-use Rattle.machine_state.proofs.Likes.{placed_alike, placed_filled, frame_fits}
-use Rattle.machine_state.proofs.Kept.{Ties, tied_still, still_there}
-use Rattle.machine_state.proofs.Marks.{entry_is, marks_placed, marks_here, marks_revived, set_resident}
-use Rattle.machine_state.proofs.Knows.{texts_here}
-use Rattle.machine_state.proofs.Reclaims.{Reclaiming, reclaim_kernel, reclaiming_lists, revived_mark}
+use Rattle.kernel_tables.specs.Shown.{entry_in}
+use Rattle.kernel_tables.specs.View.{placement_of}
+use Rattle.kernel_tables.specs.Steps.{revived, reclaimed, dirty_shown}
+use Rattle.kernel_tables.specs.Machine.{Runs, lists_of, kernel_by}
+use Rattle.kernel_tables.proofs.Entries.{placed_heads}
+use Rattle.kernel_tables.proofs.Likes.{placed_alike, placed_filled, frame_fits}
+use Rattle.kernel_tables.proofs.Kept.{Ties, tied_still, still_there}
+use Rattle.kernel_tables.proofs.Marks.{entry_is, marks_placed, marks_here, marks_revived, set_resident}
+use Rattle.kernel_tables.proofs.Knows.{texts_here}
+use Rattle.table_steps.proofs.Reclaims.{Reclaiming, reclaim_kernel, reclaiming_lists, revived_mark}
 
 pub reclaim_runs : (m : Inside) (u : Tables) (q : Page) (f : ℕ) (journal : List Entry) (stopped : Bool)
     → Runs (kernel_by m.tables m.journal.items m.stopped) (lists_of m.tables) m.tables.book.size → IsShared (placement_of (lists_of m.tables)) q → Reclaiming m.tables u q f → journal ≡ m.journal.items → stopped ≡ m.stopped

@@ -12,12 +12,12 @@ use Rattle.kernel_model.specs.Kernel.{Kernel, done_step}
 use Rattle.kernel_model.specs.Sound.{TextFits}
 use Rattle.kernel_laws.proofs.Machine.Shapes.{done_shaped, sizes_kept}
 use Rattle.page_laws.proofs.Moves.Transfers.{land_all_rest}
-use Rattle.machine_state.specs.Sourced.{ImageNamed}
-use Rattle.machine_state.specs.Machine.{Standing}
-use Rattle.machine_state.specs.Conditions.{HasStopped}
-use Rattle.machine_state.specs.Files.{AreImages}
-use Rattle.machine_state.specs.Done.{Sources, sources, IsDone, ImageAfter, KeepsThrough, StopsFor, SwapAfter}
-use Rattle.machine_state.specs.Settled.{SettledBy, EndsWhile, IsSameBeside, StopsSettling}
+use Rattle.kernel_tables.specs.Sourced.{ImageNamed}
+use Rattle.kernel_tables.specs.Machine.{Standing}
+use Rattle.kernel_tables.specs.Conditions.{HasStopped}
+use Rattle.kernel_tables.specs.Files.{AreImages}
+use Rattle.kernel_tables.specs.Done.{Sources, sources, IsDone, ImageAfter, KeepsThrough, StopsFor, SwapAfter}
+use Rattle.kernel_tables.specs.Settled.{SettledBy, EndsWhile, IsSameBeside, StopsSettling}
 
 pub beside_done : (old new : Standing) → new ≡ record old { kernel = new.kernel; room = None } → IsSameBeside old new
 beside_done old new r = record {

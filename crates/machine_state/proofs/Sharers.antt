@@ -8,10 +8,10 @@ use Rattle.proc_table.specs.Records.{Lowest}
 use Rattle.space_map.specs.Space.{Places}
 use Rattle.page_model.specs.Pages.{SpacePages, numbered}
 use Rattle.page_model.specs.Placement.{Placement, space_number}
-use Rattle.machine_state.specs.Shown.{space_shown}
-use Rattle.machine_state.specs.Rising.{sids_of, IsBelowAll, AreRising}
-use Rattle.machine_state.specs.Sharing.{IsSharer, first_sharer}
-use Rattle.machine_state.proofs.Shows.{hit, miss}
+use Rattle.kernel_tables.specs.Shown.{space_shown}
+use Rattle.kernel_tables.specs.Rising.{sids_of, IsBelowAll, AreRising}
+use Rattle.kernel_tables.specs.Sharing.{IsSharer, first_sharer}
+use Rattle.kernel_tables.proofs.Shows.{hit, miss}
 
 -- The loop over the spaces.
 

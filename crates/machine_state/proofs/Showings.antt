@@ -23,20 +23,20 @@ use Rattle.page_laws.proofs.Ownership.Pages.{seated_alone}
 use Rattle.kernel_model.specs.Asks.{HasSpace}
 use Rattle.table_view.specs.Shown.{is_away, idle_state, state_shown, MarkShown, ShowsMark}
 use Rattle.table_view.specs.Views.{IsNamedBy, ShowsPage, ShowsSpace}
-use Rattle.machine_state.specs.Shown.{entry_in, space_shown}
-use Rattle.machine_state.specs.View.{Lists, pages_in, text_place, text_place_by, page_by, page_flown, flown_at, placement_of}
-use Rattle.machine_state.specs.Known.{Known}
-use Rattle.machine_state.specs.Alike.{IsLikeFirst, IsFilled}
-use Rattle.machine_state.specs.Rising.{sids_of, AreRising}
-use Rattle.machine_state.specs.PlaceOf.{text_if, place_of}
+use Rattle.kernel_tables.specs.Shown.{entry_in, space_shown}
+use Rattle.kernel_tables.specs.View.{Lists, pages_in, text_place, text_place_by, page_by, page_flown, flown_at, placement_of}
+use Rattle.kernel_tables.specs.Known.{Known}
+use Rattle.kernel_tables.specs.Alike.{IsLikeFirst, IsFilled}
+use Rattle.kernel_tables.specs.Rising.{sids_of, AreRising}
+use Rattle.kernel_tables.specs.PlaceOf.{text_if, place_of}
 use Rattle.machine_state.specs.Showing.{ShowsCore}
-use Rattle.machine_state.proofs.Held.{held_at, above_zero, below_length, not_flown, holds_length}
+use Rattle.kernel_tables.proofs.Held.{held_at, above_zero, below_length, not_flown, holds_length}
 use Rattle.machine_state.proofs.Dirty.{dirty_is}
-use Rattle.machine_state.proofs.Residing.{Resides, resides, resides_seat}
-use Rattle.machine_state.proofs.Rising.{found_entry, data_of_space, stack_of_space, found_here}
-use Rattle.machine_state.proofs.PlaceStates.{TellsState, place_tells}
-use Rattle.machine_state.proofs.Entries.{text_hit}
-use Rattle.machine_state.proofs.UserFrames.{numbered_shown, at_each, at_sid, facts_pages, get_past, get_within, get_spaces}
+use Rattle.table_steps.proofs.Residing.{Resides, resides, resides_seat}
+use Rattle.kernel_tables.proofs.Rising.{found_entry, data_of_space, stack_of_space, found_here}
+use Rattle.kernel_tables.proofs.PlaceStates.{TellsState, place_tells}
+use Rattle.kernel_tables.proofs.Entries.{text_hit}
+use Rattle.kernel_tables.proofs.UserFrames.{numbered_shown, at_each, at_sid, facts_pages, get_past, get_within, get_spaces}
 
 none_moves : (n : ℕ) → n ≡ 0 → false ≡ ltb 0 n
 none_moves n e = grind (arith, nat_tests)

@@ -13,14 +13,14 @@ use Rattle.kernel_model.specs.Numbers.{Numbered}
 use Rattle.kernel_laws.proofs.Sound.Steps.{zero_sound}
 use Rattle.kernel_laws.proofs.Sound.NumbersApart.{zero_numbered}
 use Rattle.page_laws.proofs.Due.Entries.{entry_due}
-use Rattle.machine_state.specs.declared.tables.Tables.{Tables}
+use Rattle.kernel_tables.specs.declared.tables.Tables.{Tables}
 use Rattle.machine_state.specs.declared.machine.Machine.TheInside.{Inside}
-use Rattle.machine_state.specs.View.{placement_of}
-use Rattle.machine_state.specs.Machine.{Runs, lists_of, kernel_by}
-use Rattle.machine_state.specs.Conditions.{CanZero}
-use Rattle.machine_state.proofs.Zeros.{Zeroing}
-use Rattle.machine_state.proofs.Kept.{tied_still, left_due}
-use Rattle.machine_state.proofs.Kernels.{writable_shared, zero_kernel, zero_ties, zeroing_rest}
+use Rattle.kernel_tables.specs.View.{placement_of}
+use Rattle.kernel_tables.specs.Machine.{Runs, lists_of, kernel_by}
+use Rattle.kernel_tables.specs.Conditions.{CanZero}
+use Rattle.kernel_tables.proofs.Zeros.{Zeroing}
+use Rattle.kernel_tables.proofs.Kept.{tied_still, left_due}
+use Rattle.kernel_tables.proofs.Kernels.{writable_shared, zero_kernel, zero_ties, zeroing_rest}
 
 pub zero_runs : (m : Inside) (u v w : Tables) (token filling : Frame) (q : Page) (journal : List Entry) (stopped : Bool)
     → Runs (kernel_by m.tables m.journal.items m.stopped) (lists_of m.tables) m.tables.book.size → CanZero (placement_of (lists_of m.tables)) q → Zeroing m.tables u v w token filling q

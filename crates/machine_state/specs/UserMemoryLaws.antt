@@ -31,8 +31,8 @@ use Rattle.kernel_laws.proofs.Machine.Shapes.{touch_shaped, image_kept, sizes_ke
 use Rattle.std.specs.Borrow.{MutBor}
 use Rattle.machine_state.specs.declared.user_memory.Layout.{Layout}
 use Rattle.machine_state.specs.Lent.{WroteThrough}
-use Rattle.machine_state.specs.Machine.{Standing}
-use Rattle.machine_state.specs.UserMemory.{bytes_of, stack_len, spot_in, read_by_state, read_page, read_spot, may_write_by, may_write_spot, kernel_answers, write_by_state, write_page, write_spot, write_in, writes_in, AreWhole, IsWritten, AreWritten, Wrote}
+use Rattle.kernel_tables.specs.Machine.{Standing}
+use Rattle.kernel_tables.specs.UserMemory.{bytes_of, stack_len, spot_in, read_by_state, read_page, read_spot, may_write_by, may_write_spot, kernel_answers, write_by_state, write_page, write_spot, write_in, writes_in, AreWhole, IsWritten, AreWritten, Wrote}
 
 -- A touch keeps the state of each page.
 

@@ -4,11 +4,11 @@ ghost use Rattle.vm_facts.specs.declared.entry.Entry.TheVariants.{Refused};
 ghost use Rattle.swap_book.specs.Holdings.{Holdings};
 ghost use Rattle.kernel_model.specs.Kernel.{note_step};
 ghost use Rattle.machine_state.specs.Wants.{CanAsk, found_for, fits_for};
-ghost use Rattle.machine_state.specs.Conditions.{HasStopped, KeepsFlat, SameEverywhere};
+ghost use Rattle.kernel_tables.specs.Conditions.{HasStopped, KeepsFlat, SameEverywhere};
 
 use crate::machine::Machine;
-use crate::notes;
 use crate::pieces::{self, Want};
+use table_steps::notes;
 use vm_facts::{Entry, Stop};
 
 impl Machine {

@@ -7,14 +7,14 @@ ghost use Rattle.flat_state.specs.declared.change.Change.TheVariants.{Keep};
 ghost use Rattle.kernel_model.specs.Kernel.{note_step};
 ghost use Rattle.kernel_model.specs.ChangeStep.{change_step, pass_step, ran_by};
 ghost use Rattle.kernel_model.specs.Sound.{lives};
-ghost use Rattle.machine_state.specs.Applying.{CanApply, ChangesWhole, MayPass, facts_named};
-ghost use Rattle.machine_state.specs.Calls.{IsNote, life_in};
-ghost use Rattle.machine_state.specs.Conditions.{HasStopped, KeepsFlat, ChangesFlat, SameEverywhere};
-ghost use Rattle.machine_state.specs.UserMemory.{CanLend};
+ghost use Rattle.kernel_tables.specs.Applying.{CanApply, ChangesWhole, MayPass, facts_named};
+ghost use Rattle.kernel_tables.specs.Calls.{IsNote, life_in};
+ghost use Rattle.kernel_tables.specs.Conditions.{HasStopped, KeepsFlat, ChangesFlat, SameEverywhere};
+ghost use Rattle.kernel_tables.specs.UserMemory.{CanLend};
 
 use crate::machine::Machine;
-use crate::{joining, notes};
 use flat_state::Change;
+use table_steps::{applying, joining, notes};
 use vm_facts::{Entry, Regs, Stop};
 
 impl Machine {
@@ -112,7 +112,7 @@ impl Machine {
         let _frames = self.tables.core.frames();
         self.tables.set_regs(pid, regs);
         let since = self.journal.len() as u32 + 1;
-        let applied = self.tables.apply(self.alloc, pid, change, since);
+        let applied = applying::apply(&mut self.tables, self.alloc, pid, change, since);
         notes::or_break_off(&mut self.stopped, applied)?;
         self.tables.found = 0;
         self.journal.push_reserved(e);

@@ -6,7 +6,7 @@ ghost use Rattle.page_model.specs.Pages.{numbered};
 ghost use Rattle.kernel_model.specs.Kernel.{Kernel};
 ghost use Rattle.kernel_model.specs.Sound.{TextFits};
 ghost use Rattle.kernel_model.specs.Coupled.{Coupled, text_of};
-ghost use Rattle.machine_state.specs.UserMemory.{kernel_answers};
+ghost use Rattle.kernel_tables.specs.UserMemory.{kernel_answers};
 
 /// Where a machine stands for a flat state, the memory of each of its spaces answers what the flat space does, at every
 /// address where it doesn't miss; so do its tests of writes.

@@ -1,31 +1,29 @@
 //! The machine and its steps.
 ghost use Rattle.std.specs.Prelude.{◌≡◌, ◌⊎◌, ◌<◌, ◌≤◌, ◌↔◌, true, false, [], length, map, None, IfOk, OnOk, OnErr, IfErr, Ok, Err};
-ghost use Rattle.machine_state.specs.New.{fresh_kernel, AreSound};
+ghost use Rattle.kernel_tables.specs.New.{fresh_kernel, AreSound};
 ghost use Rattle.kernel_model.specs.Kernel.{zero_step, get_step, reclaim_step};
 ghost use Rattle.page_model.specs.Dues.{DueStand};
 ghost use Rattle.flat_state.specs.PageNames.{pages_from};
 ghost use Rattle.kernel_model.specs.Numbers.{Numbered};
 ghost use Rattle.kernel_model.specs.Sound.{Sound};
-ghost use Rattle.machine_state.specs.Machine.{image_shown};
-ghost use Rattle.machine_state.specs.Sourced.{AreNames};
+ghost use Rattle.kernel_tables.specs.Machine.{image_shown};
+ghost use Rattle.kernel_tables.specs.Sourced.{AreNames};
 ghost use Rattle.machine_state.specs.Texts.{TextsStand};
 ghost use Rattle.page_model.specs.Swapper.{is_settled};
-ghost use Rattle.machine_state.specs.Settled.{SettledBy, IsSameBeside, StopsSettling};
-ghost use Rattle.machine_state.specs.Files.{AreFiles};
-ghost use Rattle.machine_state.specs.Done.{sources, IsDone, KeepsThrough, ImageAfter, SwapAfter, StopsFor, CountsPages, CountsReads, CountsWrites};
-ghost use Rattle.machine_state.specs.Conditions.{CanZero, CanBringIn, CanReclaim, HasStopped, KeepsFlat, SameElsewhere, SameEverywhere, SameOutside};
+ghost use Rattle.kernel_tables.specs.Settled.{SettledBy, IsSameBeside, StopsSettling};
+ghost use Rattle.kernel_tables.specs.Files.{AreFiles};
+ghost use Rattle.kernel_tables.specs.Done.{sources, IsDone, KeepsThrough, ImageAfter, SwapAfter, StopsFor, CountsPages, CountsReads, CountsWrites};
+ghost use Rattle.kernel_tables.specs.Conditions.{CanZero, CanBringIn, CanReclaim, HasStopped, KeepsFlat, SameElsewhere, SameEverywhere, SameOutside};
 
-use crate::named::Named;
-use crate::spaces::Spaces;
-use crate::tables::Tables;
-use crate::{fill, landing, notes, reading};
 use core_map::CoreMap;
 use io_edge::{Files, SwapDev};
+use kernel_tables::{Named, Spaces, Tables, fill_frame};
 use proc_table::ProcTable;
 use std::alloc::Global;
 use std::collections::VecDeque;
 use std::marker::Model;
 use swap_book::SwapBook;
+use table_steps::{landing, notes, reading};
 use text_table::TextTable;
 use transfer_ring::{Finished, Transfer, TransferRing};
 use vm_facts::{Entry, NoMemory, Page, Params, Stop};
@@ -47,7 +45,7 @@ pub struct Machine {
 }
 
 impl Model for Machine {
-    ghost use Rattle.machine_state.specs.Machine.{Standing};
+    ghost use Rattle.kernel_tables.specs.Machine.{Standing};
 
     ghost Value = { Standing };
 
@@ -152,7 +150,7 @@ impl Machine {
         )?;
         let _frames = self.tables.core.frames();
         let token = self.tables.take_frame();
-        let filled = fill::fill_frame(token, &self.tables.fills);
+        let filled = fill_frame(token, &self.tables.fills);
         self.tables.seat(filled, page, true);
         self.tables.finish_fill();
         self.journal.push_reserved(Entry::Zero { page });
@@ -206,7 +204,7 @@ impl Machine {
         )?;
         let parts = notes::or_stop(reading::room_in(self.alloc, n))?;
         let _frames = self.tables.core.frames();
-        self.tables.read_run(parts, page, lo, n);
+        reading::read_run(&mut self.tables, parts, page, lo, n);
         self.journal.push_reserved(Entry::Get { page, lo, n });
         Ok(())
     }
@@ -250,7 +248,7 @@ impl Machine {
         match self.tables.ring.complete_oldest(files, swap) {
             Finished::Done(transfer) => {
                 landing::look(&transfer);
-                self.tables.land(transfer);
+                landing::land(&mut self.tables, transfer);
                 self.journal.push_reserved(Entry::Done);
                 Ok(true)
             }
@@ -275,7 +273,7 @@ impl Machine {
         requires { self.now.kernel.stopped ≡ false }
         ensures { result ≡ is_settled self.now.kernel.place sid }
     {
-        self.tables.is_settled(sid)
+        landing::is_settled(&self.tables, sid)
     }
 
     /// Transfers end, one after another, until the space is settled.

@@ -6,43 +6,41 @@ ghost use Rattle.vm_facts.specs.declared.entry.Entry.TheVariants.{Hands};
 ghost use Rattle.flat_state.specs.Journal.{append};
 ghost use Rattle.kernel_model.specs.Kernel.{copy_step, push_step, hand_step};
 ghost use Rattle.core_map.specs.Slots.{slot_at, is_resident};
-ghost use Rattle.machine_state.specs.Calls.{CanCopy, CanPush, CanMove};
-ghost use Rattle.machine_state.specs.Conditions.{HasStopped, KeepsFlat, SameElsewhere, SameEverywhere};
-ghost use Rattle.machine_state.specs.Launches.{CopiedFrame};
-ghost use Rattle.machine_state.specs.Shown.{entry_in, is_frame, frame_named};
-ghost use Rattle.machine_state.specs.Steps.{AreTextsHere, dirty_shown};
+ghost use Rattle.kernel_tables.specs.Calls.{CanCopy, CanPush, CanMove};
+ghost use Rattle.kernel_tables.specs.Conditions.{HasStopped, KeepsFlat, SameElsewhere, SameEverywhere};
+ghost use Rattle.kernel_tables.specs.Launches.{CopiedFrame};
+ghost use Rattle.kernel_tables.specs.Shown.{entry_in, is_frame, frame_named};
+ghost use Rattle.kernel_tables.specs.Steps.{AreTextsHere, dirty_shown};
 
 use crate::machine::Machine;
-use crate::tables::{Tables, number_of};
-use crate::{joining, landing, launching, notes};
 use frame_state::Resident;
+use kernel_tables::{Tables, number_of};
+use table_steps::{joining, landing, launching, notes};
 use vm_facts::{Entry, Page, Stop};
 
-impl Tables {
-    // The first free frame gets the bytes of a page that is in a frame off the free list.
-    fn copy_frame(&mut self, page: Page) -> Resident
-        requires frame { IsTrue (is_frame (entry_in self.old.spaces page)) }
-        requires resident { IsTrue (is_resident (slot_at self.old.core.slots (frame_named (entry_in self.old.spaces page)))) }
-        requires free { 0 < length self.old.core.free }
-        requires texts { AreTextsHere self.old.core.slots }
-        ensures { CopiedFrame self.old self.new (frame_named (entry_in self.old.spaces page)) result }
-    {
-        let (frame, _changed) = self.spaces.frame_of(page);
-        let mut copy = self.take_frame().reclaim();
-        copy.bytes_mut().copy_from_slice(self.core.bytes(frame));
-        copy
-    }
+// The first free frame gets the bytes of a page that is in a frame off the free list.
+fn copy_frame(tables: &mut Tables, page: Page) -> Resident
+    requires frame { IsTrue (is_frame (entry_in tables.old.spaces page)) }
+    requires resident { IsTrue (is_resident (slot_at tables.old.core.slots (frame_named (entry_in tables.old.spaces page)))) }
+    requires free { 0 < length tables.old.core.free }
+    requires texts { AreTextsHere tables.old.core.slots }
+    ensures { CopiedFrame tables.old tables.new (frame_named (entry_in tables.old.spaces page)) result }
+{
+    let (frame, _changed) = tables.spaces.frame_of(page);
+    let mut copy = tables.take_frame().reclaim();
+    copy.bytes_mut().copy_from_slice(tables.core.bytes(frame));
+    copy
+}
 
-    // How many pages are written for a page that is put out: so many where it is dirty, and else none.
-    fn written_of(&self, page: Page, n: u32) -> u32
-        requires { (image v : ℕ) → page ≡ TextPage image v → (1 ≤ image) × (image ≤ 16) × (v < 2048) }
-        ensures { result ≡ cond (dirty_shown self.now.spaces self.now.texts page) n 0 }
-    {
-        if landing::is_dirty(&self.spaces, &self.texts, page) {
-            n
-        } else {
-            0
-        }
+// How many pages are written for a page that is put out: so many where it is dirty, and else none.
+fn written_of(tables: &Tables, page: Page, n: u32) -> u32
+    requires { (image v : ℕ) → page ≡ TextPage image v → (1 ≤ image) × (image ≤ 16) × (v < 2048) }
+    ensures { result ≡ cond (dirty_shown tables.now.spaces tables.now.texts page) n 0 }
+{
+    if landing::is_dirty(&tables.spaces, &tables.texts, page) {
+        n
+    } else {
+        0
     }
 }
 
@@ -66,7 +64,7 @@ impl Machine {
             self.tables.params.journal,
         )?;
         let _frames = self.tables.core.frames();
-        let copy = self.tables.copy_frame(parent);
+        let copy = copy_frame(&mut self.tables, parent);
         self.tables.seat(copy, child, true);
         self.tables.finish_fill();
         self.journal.push_reserved(Entry::Copy { page: child });
@@ -94,8 +92,8 @@ impl Machine {
         )?;
         let parts = notes::or_stop(launching::room_in(self.alloc, n))?;
         let _frames = self.tables.core.frames();
-        let written = self.tables.written_of(lo, n);
-        self.tables.put_out(parts, lo, number_of(lo), written);
+        let written = written_of(&self.tables, lo, n);
+        launching::put_out(&mut self.tables, parts, lo, number_of(lo), written);
         self.journal.push_reserved(Entry::Put { lo, n });
         Ok(())
     }
@@ -122,7 +120,7 @@ impl Machine {
         )?;
         let parts = notes::or_stop(launching::room_in(self.alloc, n))?;
         let _frames = self.tables.core.frames();
-        self.tables.move_hands(locked, parts, lo, n);
+        launching::move_hands(&mut self.tables, locked, parts, lo, n);
         joining::add_move(&mut self.journal);
         Ok(())
     }

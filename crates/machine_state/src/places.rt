@@ -1,20 +1,14 @@
 //! What the machine tells of the places of pages.
-ghost use Rattle.std.specs.Prelude.{◌≡◌, ◌↔◌, ◌<◌, false, map, IsSome, IfSome};
+ghost use Rattle.std.specs.Prelude.{◌≡◌, ◌↔◌, ◌<◌, false, IsSome, IfSome};
 ghost use Rattle.core_map.specs.Slots.{slot_at};
-ghost use Rattle.vm_facts.specs.declared.page.Page.TheVariants.{Text as TextPage};
 ghost use Rattle.page_model.specs.Placement.{IsThere, state_of, filling_of};
-ghost use Rattle.machine_state.specs.New.{AreSound};
 ghost use Rattle.table_view.specs.Shown.{is_away, idle_state, state_shown};
-ghost use Rattle.machine_state.specs.Alike.{AreRecords};
-ghost use Rattle.machine_state.specs.Lives.{AreMarked};
-ghost use Rattle.machine_state.specs.Shown.{entry_in};
-ghost use Rattle.machine_state.specs.View.{pages_in, text_place};
-ghost use Rattle.machine_state.specs.Machine.{lists_of, processes_of, residents_of};
-ghost use Rattle.machine_state.specs.PlaceOf.{place_of, is_blank, is_zero_place, names_zeros};
+ghost use Rattle.kernel_tables.specs.Alike.{AreRecords};
+ghost use Rattle.kernel_tables.specs.Lives.{AreMarked};
+ghost use Rattle.kernel_tables.specs.Machine.{processes_of, residents_of};
+ghost use Rattle.kernel_tables.specs.PlaceOf.{place_of, is_blank};
 
 use crate::machine::Machine;
-use crate::named::Named;
-use crate::tables::Tables;
 use core_map::{CoreMap, Whose};
 use proc_table::ProcTable;
 use vax_pte::Place;
@@ -45,74 +39,6 @@ fn state_shown(core: &CoreMap, place: Place) -> PageState
         Place::Swap => PageState::OnSwap,
         Place::Frame { f, valid: true, .. } => PageState::Valid(f),
         Place::Frame { f, changed, .. } => idle_state(core, f, changed),
-    }
-}
-
-// Whether a place says that its page has zeros.
-fn is_zero_place(place: Option<Place>) -> bool
-    ensures { result ≡ is_zero_place place }
-{
-    matches!(place, Some(Place::Zero))
-}
-
-// How many pages the text of an image has; none where there is no such image.
-fn text_pages_in(images: &[Named], image: u32) -> u32
-    requires { AreSound (map (λ image. image.facts) images.now) }
-    ensures { result ≡ pages_in 1 image (map (λ image. image.facts) images.now) }
-{
-    if image == 0 {
-        return 0;
-    }
-    match images.get(image as usize - 1) {
-        Some(named) => named.facts.text_pages(),
-        None => 0,
-    }
-}
-
-impl Tables {
-    /// Where a page of text is: as the first space that shares it has it, or in a frame that still holds it.
-    pub(crate) fn text_place(&self, image: u32, v: u32) -> Place
-        ensures { result ≡ text_place self.now.spaces self.now.core.slots (TextPage image v) v }
-    {
-        if let Some(place) = self.spaces.entry(Page::Text { image, v }) {
-            return place;
-        }
-        let _frames = self.core.frames();
-        match self.core.find_text(image, v) {
-            Some(f) => Place::Frame {
-                f,
-                valid: false,
-                changed: false,
-            },
-            None => Place::Image(v),
-        }
-    }
-
-    // Where a page is; None where no live space and no image has it.
-    fn place_of(&self, page: Page) -> Option<Place>
-        requires { AreSound (lists_of self.now).facts }
-        ensures { result ≡ place_of (lists_of self.now) page }
-    {
-        match page {
-            Page::Text { image, v } => {
-                if v < text_pages_in(self.images.as_slice(), image) {
-                    Some(self.text_place(image, v))
-                } else {
-                    None
-                }
-            }
-            Page::Data { .. } | Page::Stack { .. } => self.spaces.entry(page),
-        }
-    }
-
-    // Whether the entry of a data or stack page says that it has zeros.
-    fn is_zero(&self, page: Page) -> bool
-        ensures { result ≡ names_zeros page (entry_in self.now.spaces page) }
-    {
-        match page {
-            Page::Text { .. } => false,
-            Page::Data { .. } | Page::Stack { .. } => is_zero_place(self.spaces.entry(page)),
-        }
     }
 }
 

@@ -3,17 +3,16 @@ ghost use Rattle.std.specs.Prelude.{◌≡◌, ◌<◌, true, false, [], ◌∷�
 ghost use Rattle.aout_image.specs.Image.{IsSound};
 ghost use Rattle.flat_state.specs.Flat.{start_page, start_regs};
 ghost use Rattle.machine_state.specs.Beginning.{MayStart, StartedFirst, FindsNoPlace, MayLookFirst, LookedFirst, MayEnterFirst, BeganFirst};
-ghost use Rattle.machine_state.specs.Conditions.{HasBrokenOff};
+ghost use Rattle.kernel_tables.specs.Conditions.{HasBrokenOff};
 
 use crate::machine::Machine;
-use crate::named::Named;
-use crate::pieces::{Want, image_wants};
-use crate::tables::Tables;
-use crate::{notes, pieces};
+use crate::pieces::{self, Want, image_wants};
 use flat_model::{Arguments, start_page, start_regs};
+use kernel_tables::{Named, Tables};
 use proc_table::Life;
 use std::alloc::Global;
 use swap_book::Owner;
+use table_steps::notes;
 use vm_facts::{Bytes, NoMemory, Regs, Stop};
 
 // The registers and the stack page 0 with which an image starts, its name being the one argument.
@@ -30,37 +29,35 @@ fn start_of(alloc: Global, named: &Named) -> Result<(Regs, Bytes), NoMemory>
     Ok((start_regs(named.facts.entry, &arguments), top))
 }
 
-impl Tables {
-    // The pieces of a first process are found, and with them nothing is done yet.
-    fn find_first(&mut self, pid: u32, image: u32) -> Result<bool, NoMemory>
-        requires { MayLookFirst self.old pid image }
-        ensures looked { IfOk result (λ fits. LookedFirst self.old self.new pid image fits) }
-        ensures err { OnErr result (self.new ≡ self.old) }
-    {
-        let facts = self.images[image as usize - 1].facts;
-        let [text, data, stack] = image_wants(&facts, image, self.next_sid);
-        let u = Want {
-            owner: Owner::U(pid),
-            blocks: 2,
-        };
-        if self.texts.sharers(image) > 0 {
-            pieces::find_all(&mut self.book, &[data, stack, u], true)
-        } else {
-            pieces::find_all(&mut self.book, &[text, data, stack, u], true)
-        }
+// The pieces of a first process are found, and with them nothing is done yet.
+fn find_first(tables: &mut Tables, pid: u32, image: u32) -> Result<bool, NoMemory>
+    requires { MayLookFirst tables.old pid image }
+    ensures looked { IfOk result (λ fits. LookedFirst tables.old tables.new pid image fits) }
+    ensures err { OnErr result (tables.new ≡ tables.old) }
+{
+    let facts = tables.images[image as usize - 1].facts;
+    let [text, data, stack] = image_wants(&facts, image, tables.next_sid);
+    let u = Want {
+        owner: Owner::U(pid),
+        blocks: 2,
+    };
+    if tables.texts.sharers(image) > 0 {
+        pieces::find_all(&mut tables.book, &[data, stack, u], true)
+    } else {
+        pieces::find_all(&mut tables.book, &[text, data, stack, u], true)
     }
+}
 
-    // A first process starts, whose pieces were found.
-    fn start_first(&mut self, alloc: Global, image: u32) -> Result<(), NoMemory>
-        requires { MayEnterFirst self.old image }
-        ensures began { OnOk result (BeganFirst self.old self.new image) }
-        ensures params { self.new.params ≡ self.old.params }
-        ensures images { self.new.images ≡ self.old.images }
-    {
-        let (regs, top) = start_of(alloc, &self.images[image as usize - 1])?;
-        let sid = self.enter_image(alloc, image, top)?;
-        self.add_process(0, regs, Life::Holds(sid), 0)
-    }
+// A first process starts, whose pieces were found.
+fn start_first(tables: &mut Tables, alloc: Global, image: u32) -> Result<(), NoMemory>
+    requires { MayEnterFirst tables.old image }
+    ensures began { OnOk result (BeganFirst tables.old tables.new image) }
+    ensures params { tables.new.params ≡ tables.old.params }
+    ensures images { tables.new.images ≡ tables.old.images }
+{
+    let (regs, top) = start_of(alloc, &tables.images[image as usize - 1])?;
+    let sid = tables.enter_image(alloc, image, top)?;
+    tables.add_process(0, regs, Life::Holds(sid), 0)
 }
 
 impl Machine {
@@ -77,11 +74,11 @@ impl Machine {
         ensures cause { OnErr result (result ≡ Err Stop.NoMemory) }
     {
         let _frames = self.tables.core.frames();
-        let found = self.tables.find_first(pid, image);
+        let found = find_first(&mut self.tables, pid, image);
         if !notes::or_break_off(&mut self.stopped, found)? {
             return Ok(false);
         }
-        let started = self.tables.start_first(self.alloc, image);
+        let started = start_first(&mut self.tables, self.alloc, image);
         notes::or_break_off(&mut self.stopped, started)?;
         self.tables.found = 0;
         Ok(true)

@@ -6,19 +6,18 @@ ghost use Rattle.swap_book.specs.declared.Owner.TheVariants.{U as UOwner};
 ghost use Rattle.swap_book.specs.Holdings.{block_in};
 ghost use Rattle.page_model.specs.Pages.{numbered};
 ghost use Rattle.kernel_model.specs.Kernel.{out_step};
-ghost use Rattle.machine_state.specs.Lives.{space_held};
-ghost use Rattle.machine_state.specs.Calls.{CanGoOut, CanComeIn};
-ghost use Rattle.machine_state.specs.Conditions.{HasStopped};
-ghost use Rattle.machine_state.specs.Done.{CountsReads, CountsWrites};
-ghost use Rattle.machine_state.specs.Swapping.{IsIn, WritesU, SwapBehind, CallsNone, KeepsOut, KeepsIn, MovedRecord, IsUPage};
+ghost use Rattle.kernel_tables.specs.Lives.{space_held};
+ghost use Rattle.kernel_tables.specs.Calls.{CanGoOut, CanComeIn};
+ghost use Rattle.kernel_tables.specs.Conditions.{HasStopped};
+ghost use Rattle.kernel_tables.specs.Done.{CountsReads, CountsWrites};
+ghost use Rattle.kernel_tables.specs.Swapping.{IsIn, WritesU, SwapBehind, CallsNone, KeepsOut, KeepsIn, MovedRecord, IsUPage};
 
 use crate::machine::Machine;
-use crate::processes::record_of;
-use crate::tables::Tables;
-use crate::{notes, u_pages};
 use io_edge::{Moved, SwapDev};
+use kernel_tables::{Tables, record_of, regs_in, u_page};
 use proc_table::{Life, Proc, ProcTable};
 use swap_book::Owner;
+use table_steps::notes;
 use vm_facts::{Entry, Regs, Stop};
 
 // The registers in the record of a process that is out.
@@ -60,32 +59,30 @@ fn next_place(journal: &[Entry], limit: u32) -> u32
     }
 }
 
-impl Tables {
-    // The first of the two blocks of a process's u page.
-    fn u_block(&self, pid: u32) -> u32
-        requires { IsSome (block_in self.now.book.holdings (UOwner pid) 0) }
-        ensures { Some result ≡ block_in self.now.book.holdings (UOwner pid) 0 }
-    {
-        match self.book.block_of(Owner::U(pid), 0) {
-            Some(block) => block,
-            None => unreachable!(),
-        }
+// The first of the two blocks of a process's u page.
+fn u_block(tables: &Tables, pid: u32) -> u32
+    requires { IsSome (block_in tables.now.book.holdings (UOwner pid) 0) }
+    ensures { Some result ≡ block_in tables.now.book.holdings (UOwner pid) 0 }
+{
+    match tables.book.block_of(Owner::U(pid), 0) {
+        Some(block) => block,
+        None => unreachable!(),
     }
+}
 
-    // The u page of a process that holds a space.
-    fn u_page_of(&self, pid: u32) -> [u8; 1024]
-        requires holds { (sid : ℕ) × (space_held (find pid self.now.processes) ≡ Some sid) × IsSome (numbered (λ s. s.sid) sid self.now.spaces) }
-        ensures { IsUPage self.now pid result }
-    {
-        let process = self.process(pid);
-        let Life::Holds(sid) = process.state else {
-            unreachable!()
-        };
-        let Some(space) = self.spaces.find(sid) else {
-            unreachable!()
-        };
-        u_pages::u_page(&process.regs, space.data_pages(), space.stack_pages())
-    }
+// The u page of a process that holds a space.
+fn u_page_of(tables: &Tables, pid: u32) -> [u8; 1024]
+    requires holds { (sid : ℕ) × (space_held (find pid tables.now.processes) ≡ Some sid) × IsSome (numbered (λ s. s.sid) sid tables.now.spaces) }
+    ensures { IsUPage tables.now pid result }
+{
+    let process = tables.process(pid);
+    let Life::Holds(sid) = process.state else {
+        unreachable!()
+    };
+    let Some(space) = tables.spaces.find(sid) else {
+        unreachable!()
+    };
+    u_page(&process.regs, space.data_pages(), space.stack_pages())
 }
 
 impl Machine {
@@ -115,8 +112,8 @@ impl Machine {
             &mut self.room,
             self.tables.params.journal,
         )?;
-        let page = self.tables.u_page_of(pid);
-        let block = self.tables.u_block(pid);
+        let page = u_page_of(&self.tables, pid);
+        let block = u_block(&self.tables, pid);
         match swap.write(block, &page) {
             Moved::Done => {
                 let since = next_place(self.journal.as_slice(), self.tables.params.journal);
@@ -156,12 +153,12 @@ impl Machine {
             &mut self.room,
             self.tables.params.journal,
         )?;
-        let block = self.tables.u_block(pid);
+        let block = u_block(&self.tables, pid);
         let mut page = [0u8; 1024];
         match swap.read(block, &mut page) {
             Moved::Done => {
                 let since = next_place(self.journal.as_slice(), self.tables.params.journal);
-                let regs = u_pages::regs_in(&page);
+                let regs = regs_in(&page);
                 move_record(&mut self.tables.processes, pid, regs, false, since);
                 self.journal.push_reserved(Entry::SwapIn { pid });
                 Ok(())

@@ -8,12 +8,12 @@ ghost use Rattle.page_model.specs.Placement.{space_number, state_of, image_of};
 ghost use Rattle.page_model.specs.PageBytes.{IsWritable};
 ghost use Rattle.page_model.specs.Ownership.{OwnsFrames};
 ghost use Rattle.kernel_model.specs.Kernel.{frame_bytes, write_step, HoldsSpace};
-ghost use Rattle.machine_state.specs.Calls.{life_in};
-ghost use Rattle.machine_state.specs.UserMemory.{spot_in, page_in, read_page, valid_frame, may_write_by, NamesFrames, IsOwnPage, IsLaidOut, HasLengths, CanLend, IsHeld, AreWhole, WrotePage};
+ghost use Rattle.kernel_tables.specs.Calls.{life_in};
+ghost use Rattle.kernel_tables.specs.UserMemory.{spot_in, page_in, read_page, valid_frame, may_write_by, NamesFrames, IsOwnPage, IsLaidOut, HasLengths, CanLend, IsHeld, AreWhole, WrotePage};
 
 use crate::machine::Machine;
-use crate::spaces::Spaces;
 use flat_state::{PAGE, Spot, locate};
+use kernel_tables::Spaces;
 use space_map::SpaceMap;
 use vm_facts::{ByteRead, MayWrite, Memory, Page};
 
@@ -252,7 +252,7 @@ impl SpaceMemory<'_> {
 }
 
 impl Memory for SpaceMemory<'_> {
-    ghost use Rattle.machine_state.specs.UserMemory.{kernel_answers};
+    ghost use Rattle.kernel_tables.specs.UserMemory.{kernel_answers};
     ghost use Rattle.machine_state.specs.Lent.{WroteThrough};
 
     ghost answers = { λ m. kernel_answers m.machine.now.kernel m.layout.sid };

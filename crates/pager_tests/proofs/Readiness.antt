@@ -21,7 +21,7 @@ use Rattle.page_model.specs.Conditions.{IsShared}
 use Rattle.page_model.specs.Dues.{NotDue}
 use Rattle.page_model.specs.Rank.{HasRoom}
 use Rattle.kernel_model.specs.Kernel.{zero_step}
-use Rattle.machine_state.specs.declared.named.Named.{Named}
+use Rattle.machine_state.specs.Named.{Named}
 use Rattle.machine_state.specs.Sourced.{ImageNamed}
 use Rattle.machine_state.specs.Machine.{Standing, image_shown}
 use Rattle.machine_state.specs.New.{fresh_kernel}

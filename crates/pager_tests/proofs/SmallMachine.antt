@@ -9,7 +9,7 @@ use Rattle.io_edge.specs.FileHolding.{NamedFile, bytes_at}
 use Rattle.page_model.specs.Placement.{Placement, start_placement}
 use Rattle.page_model.specs.Place.{filled, facts_numbered}
 use Rattle.kernel_model.specs.Start.{begin_place}
-use Rattle.machine_state.specs.declared.named.Named.{Named}
+use Rattle.machine_state.specs.Named.{Named}
 use Rattle.machine_state.specs.Sourced.{ImageNamed}
 use Rattle.machine_state.specs.Machine.{Standing, image_shown}
 use Rattle.machine_state.specs.New.{fresh_kernel}

@@ -7,7 +7,7 @@ use Rattle.aout_image.specs.Image.{IsSound}
 use Rattle.flat_state.specs.Flat.{NamedImage}
 use Rattle.machine_state.specs.Machine.{Standing, image_shown}
 use Rattle.machine_state.specs.Sourced.{ImageNamed}
-use Rattle.machine_state.specs.declared.named.Named.{Named}
+use Rattle.machine_state.specs.Named.{Named}
 use Rattle.machine_state.specs.Applying.{facts_named}
 use Rattle.machine_state.specs.New.{AreSound}
 use Rattle.machine_state.proofs.AddedImage.{sound_number}

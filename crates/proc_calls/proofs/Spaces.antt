@@ -32,7 +32,7 @@ use Rattle.kernel_model.specs.Asks.{text_asked, image_pieces, image_asked}
 use Rattle.kernel_laws.proofs.Flat.Numbered.{absent_none}
 use Rattle.kernel_laws.proofs.Sound.Allowed.{new_number}
 use Rattle.machine_state.specs.declared.pieces.Want.{Want}
-use Rattle.machine_state.specs.declared.named.Named.{Named}
+use Rattle.machine_state.specs.Named.{Named}
 use Rattle.machine_state.specs.Machine.{Standing, image_shown}
 use Rattle.machine_state.specs.Sourced.{ImageNamed, named_at}
 use Rattle.machine_state.specs.Applying.{facts_named}

@@ -8,7 +8,7 @@ use Rattle.flat_model.specs.declared.calls.Reply.{Reply}
 use Rattle.flat_model.specs.declared.calls.Reply.TheVariants.{Fails, Does}
 use Rattle.flat_model.specs.Calls.{path_image, string_from, string_limit, execve_of}
 use Rattle.machine_state.specs.Sourced.{ImageNamed}
-use Rattle.machine_state.specs.declared.named.Named.{Named}
+use Rattle.machine_state.specs.Named.{Named}
 
 -- how a computation was refused, if it was
 abbrev pub refusal_of : {A : Type 0} → Result A Refused → Result (Unit {0}) Refused

@@ -3,7 +3,7 @@ use Rattle.std.specs.Prelude.{IfOk}
 use Rattle.vm_facts.specs.declared.page.Page.TheVariants.{Stack, Text}
 use Rattle.page_model.specs.Placement.{Placement}
 use Rattle.page_model.specs.Place.{filled}
-use Rattle.machine_state.specs.declared.named.Named.{Named}
+use Rattle.machine_state.specs.Named.{Named}
 use Rattle.machine_state.specs.Calls.{CanPush}
 use Rattle.machine_state.specs.Conditions.{CanZero, CanBringIn}
 use Rattle.pager_tests.proofs.SmallMachine.{HasBegun, small, fresh, has_begun, can_zero, can_push, can_get}

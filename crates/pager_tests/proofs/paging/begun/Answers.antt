@@ -1,6 +1,6 @@
 use Rattle.std.proofs.Common.{rules, ◌≡◌, List, [], ◌∷◌, map, subst}
 use Rattle.std.specs.Prelude.{IfOk}
-use Rattle.machine_state.specs.declared.named.Named.{Named}
+use Rattle.machine_state.specs.Named.{Named}
 use Rattle.pager_tests.proofs.Readiness.{fresh, has_started}
 use Rattle.pager_tests.proofs.paging.begun.Goals as goal
 

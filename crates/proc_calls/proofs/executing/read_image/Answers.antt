@@ -7,7 +7,7 @@ use Rattle.flat_model.specs.Calls.{execve_of}
 use Rattle.flat_model.specs.declared.calls.Reply.TheVariants.{Fails}
 use Rattle.machine_state.specs.Machine.{Standing}
 use Rattle.machine_state.specs.Sourced.{ImageNamed}
-use Rattle.machine_state.specs.declared.named.Named.{Named}
+use Rattle.machine_state.specs.Named.{Named}
 use Rattle.machine_state.specs.Applying.{facts_named}
 use Rattle.machine_state.specs.New.{AreSound}
 use Rattle.machine_state.specs.UserMemory.{kernel_answers}

@@ -1,7 +1,7 @@
 use Rattle.std.proofs.Common.{◌≡◌, ℕ, Option, Some, None, Result, Ok, Err, refl, sym, ap, ◌∙◌, ◌-◌, subst}
 use Rattle.user_vax.specs.declared.refused.Refused.{Refused}
 use Rattle.aout_image.specs.declared.Image.{Image}
-use Rattle.machine_state.specs.declared.named.Named.{Named}
+use Rattle.machine_state.specs.Named.{Named}
 use Rattle.flat_model.specs.declared.calls.Reply.TheVariants.{Fails}
 use Rattle.proc_calls.proofs.Names.{ExecveBy, execve_is, got, started}
 use Rattle.proc_calls.proofs.reading.execve_at.Goals as goal

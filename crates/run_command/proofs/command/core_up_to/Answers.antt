@@ -1,7 +1,7 @@
 use Rattle.std.proofs.Common.{◌≡◌, map, sym, ◌∙◌, subst}
 use Rattle.machine_state.specs.Machine.{image_shown}
 use Rattle.machine_state.specs.New.{AreSound}
-use Rattle.machine_state.specs.declared.named.Named.{Named}
+use Rattle.machine_state.specs.Named.{Named}
 use Rattle.vm_core.specs.Cores.{Underway}
 use Rattle.run_command.specs.Naming.{shown_as}
 use Rattle.run_command.specs.Machines.{machine_up_to}

@@ -6,16 +6,16 @@ use Rattle.page_model.specs.Placement.{Source}
 use Rattle.page_model.specs.PageBytes.{ReadsFrom}
 use Rattle.flat_state.specs.PageNames.{pages_from}
 use Rattle.kernel_model.specs.Kernel.{Kernel, get_step}
-use Rattle.machine_state.specs.declared.tables.Tables.{Tables}
-use Rattle.machine_state.specs.View.{placement_of}
-use Rattle.machine_state.specs.Machine.{Standing, Runs, lists_of, kernel_by, images_of, image_at, before_of}
-use Rattle.machine_state.specs.Sourced.{IsFlightSourced, AreSourced}
-use Rattle.machine_state.specs.Conditions.{CanBringIn, KeepsFlat, SameOutside}
+use Rattle.kernel_tables.specs.declared.tables.Tables.{Tables}
+use Rattle.kernel_tables.specs.View.{placement_of}
+use Rattle.kernel_tables.specs.Machine.{Standing, Runs, lists_of, kernel_by, images_of, image_at, before_of}
+use Rattle.kernel_tables.specs.Sourced.{IsFlightSourced, AreSourced}
+use Rattle.kernel_tables.specs.Conditions.{CanBringIn, KeepsFlat, SameOutside}
 use Rattle.machine_state.proofs.Knowing.{known_of}
 use Rattle.machine_state.proofs.Standings.{no_room, running, stands_now, whole_now, stands_on, rest_of}
-use Rattle.machine_state.proofs.Stills.{Still, still_along, pushed, sourced_more}
-use Rattle.machine_state.proofs.Sources.{run_sources}
-use Rattle.machine_state.proofs.Gets.{get_kernel, get_keeps, get_same}
+use Rattle.kernel_tables.proofs.Stills.{Still, still_along, pushed, sourced_more}
+use Rattle.table_steps.proofs.Sources.{run_sources}
+use Rattle.table_steps.proofs.Gets.{get_kernel, get_keeps, get_same}
 use Rattle.machine_state.proofs.GetRuns.{get_runs}
 use Rattle.machine_state.proofs.machine.Machine.begin_get.Goals as goal
 
@@ -39,7 +39,7 @@ invariant_of-self-2 c _ =
     let t : Tables = c.self.inside.tables in
     let r = running c.self.inside c.args.self.now c.self.invariant c.self.view_is c.requires.running c.requires.whole in
     let can : CanBringIn (placement_of (lists_of t)) c.args.page c.args.lo c.args.n = subst (λ (s : Standing). CanBringIn s.kernel.place c.args.page c.args.lo c.args.n) (sym c.self.view_is) c.requires.can in
-    let w : Tables = c.read_run.new.self in
+    let w : Tables = c.read_run.new.tables in
     let now = stands_now c.self.inside c.args.self.now c.self.invariant c.self.view_is c.requires.running in
     let whole = whole_now c.self.inside c.args.self.now c.self.view_is c.requires.whole in
     let e = c.read_run.ensures.rest in
@@ -59,7 +59,7 @@ invariant_of-self-2 c _ =
 pub returns-clause-rest : goal.returns-clause-rest
 returns-clause-rest c =
     let t : Tables = c.self.inside.tables in
-    let w : Tables = c.read_run.new.self in
+    let w : Tables = c.read_run.new.tables in
     let e = c.read_run.ensures.rest in
     let s : Still t w = still_along _ _ _ e (record { params = refl; images = refl; book = refl; found = refl; processes = refl; next_pid = refl; next_sid = refl }) in
     rest_of c.self.inside c.args.self.now w _ _ _ c.self.view_is s c.make_room.ensures.room
@@ -68,7 +68,7 @@ pub returns-clause-step : goal.returns-clause-step
 returns-clause-step c =
     let t : Tables = c.self.inside.tables in
     let k : Kernel = kernel_by t c.self.inside.journal.items c.self.inside.stopped in
-    let w : Tables = c.read_run.new.self in
+    let w : Tables = c.read_run.new.tables in
     let is : kernel_by w c.push_reserved.new.self.items c.self.inside.stopped ≡ get_step k c.args.page c.args.lo c.args.n =
     ap (λ (j : List Entry). kernel_by w j c.self.inside.stopped) c.push_reserved.ensures.items
     ∙ get_kernel t w c.args.page c.args.lo c.args.n c.make_room.new.journal.items c.self.inside.stopped c.read_run.ensures
@@ -81,7 +81,7 @@ returns-clause-keeps c =
     let r = running c.self.inside c.args.self.now c.self.invariant c.self.view_is c.requires.running c.requires.whole in
     let can : CanBringIn (placement_of (lists_of t)) c.args.page c.args.lo c.args.n = subst (λ (s : Standing). CanBringIn s.kernel.place c.args.page c.args.lo c.args.n) (sym c.self.view_is) c.requires.can in
     let k : Kernel = kernel_by t c.self.inside.journal.items c.self.inside.stopped in
-    let w : Tables = c.read_run.new.self in
+    let w : Tables = c.read_run.new.tables in
     let is : kernel_by w c.push_reserved.new.self.items c.self.inside.stopped ≡ get_step k c.args.page c.args.lo c.args.n =
     ap (λ (j : List Entry). kernel_by w j c.self.inside.stopped) c.push_reserved.ensures.items
     ∙ get_kernel t w c.args.page c.args.lo c.args.n c.make_room.new.journal.items c.self.inside.stopped c.read_run.ensures
@@ -94,7 +94,7 @@ returns-clause-same c =
     let r = running c.self.inside c.args.self.now c.self.invariant c.self.view_is c.requires.running c.requires.whole in
     let can : CanBringIn (placement_of (lists_of t)) c.args.page c.args.lo c.args.n = subst (λ (s : Standing). CanBringIn s.kernel.place c.args.page c.args.lo c.args.n) (sym c.self.view_is) c.requires.can in
     let k : Kernel = kernel_by t c.self.inside.journal.items c.self.inside.stopped in
-    let w : Tables = c.read_run.new.self in
+    let w : Tables = c.read_run.new.tables in
     let is : kernel_by w c.push_reserved.new.self.items c.self.inside.stopped ≡ get_step k c.args.page c.args.lo c.args.n =
     ap (λ (j : List Entry). kernel_by w j c.self.inside.stopped) c.push_reserved.ensures.items
     ∙ get_kernel t w c.args.page c.args.lo c.args.n c.make_room.new.journal.items c.self.inside.stopped c.read_run.ensures

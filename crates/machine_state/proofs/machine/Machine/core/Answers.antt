@@ -1,9 +1,9 @@
 use Rattle.std.proofs.Common.{subst}
-use Rattle.machine_state.specs.declared.tables.Tables.{Tables}
-use Rattle.machine_state.specs.Machine.{Standing, lists_of}
+use Rattle.kernel_tables.specs.declared.tables.Tables.{Tables}
+use Rattle.kernel_tables.specs.Machine.{Standing, lists_of}
 use Rattle.machine_state.specs.Showing.{ShowsCore}
 use Rattle.machine_state.proofs.Standings.{stands_now}
-use Rattle.machine_state.proofs.UserFrames.{known_by}
+use Rattle.kernel_tables.proofs.UserFrames.{known_by}
 use Rattle.machine_state.proofs.Showings.{core_shows}
 use Rattle.machine_state.proofs.machine.Machine.core.Goals as goal
 

@@ -5,18 +5,18 @@ use Rattle.transfer_ring.specs.declared.transfer.Finished.TheVariants as answers
 use Rattle.page_model.specs.Placement.{FromSwap, FromFile}
 use Rattle.kernel_model.specs.Kernel.{Kernel, done_step}
 use Rattle.kernel_model.specs.Sound.{TextFits}
-use Rattle.machine_state.specs.Known.{Known}
-use Rattle.machine_state.specs.View.{transfer_shown}
-use Rattle.machine_state.specs.Done.{sources, ReadsTold, StandsTold, ImageAfter, SpoilsAfter, OldestReadsFrom}
+use Rattle.kernel_tables.specs.Known.{Known}
+use Rattle.kernel_tables.specs.View.{transfer_shown}
+use Rattle.kernel_tables.specs.Done.{sources, ReadsTold, StandsTold, ImageAfter, SpoilsAfter, OldestReadsFrom}
 use Rattle.machine_state.proofs.Ends.{brought}
 use Rattle.transfer_ring.specs.declared.transfer.Transfer.{Transfer as Flight}
-use Rattle.machine_state.specs.declared.tables.Tables.{Tables}
-use Rattle.machine_state.specs.Sourced.{AreSourced}
-use Rattle.machine_state.specs.Files.{AreFiles, AreImages}
-use Rattle.machine_state.specs.Machine.{Standing, lists_of, kernel_by, image_at, images_of, before_of}
+use Rattle.kernel_tables.specs.declared.tables.Tables.{Tables}
+use Rattle.kernel_tables.specs.Sourced.{AreSourced}
+use Rattle.kernel_tables.specs.Files.{AreFiles, AreImages}
+use Rattle.kernel_tables.specs.Machine.{Standing, lists_of, kernel_by, image_at, images_of, before_of}
 use Rattle.machine_state.proofs.Knowing.{known_of}
 use Rattle.machine_state.proofs.Standings.{no_room, running, stands_now, whole_now, stands_on}
-use Rattle.machine_state.proofs.Stills.{Still, still_along, pushed}
+use Rattle.kernel_tables.proofs.Stills.{Still, still_along, pushed}
 use Rattle.machine_state.proofs.Reaches.{reachable}
 use Rattle.machine_state.proofs.Dones.{Came, came, done_back, was_lists, back_known, Doing, done_kernel, done_runs, Before, head_sourced, rest_sourced, done_image, done_told, spoiled_image, done_keeps}
 use Rattle.machine_state.proofs.FailedReads.{file_failed, swap_read_failed}
@@ -49,7 +49,7 @@ invariant_of-self-in-Done g c _ =
     let whole = whole_now c.self.inside c.args.self.now c.self.view_is c.requires.whole in
     let e : Came t.ring (g.F.Files.holds c.args.files.now) (g.D.SwapDev.image c.args.swap.now) (g.D.SwapDev.image c.complete_oldest.new.swap) (answers.Done c.in-Done.transfer) = came t.ring (g.F.Files.holds c.args.files.now) (g.D.SwapDev.image c.args.swap.now) (g.D.SwapDev.image c.complete_oldest.new.swap) (answers.Done c.in-Done.transfer) c.in-Done.ensures.ends (λ i. let x = i in cc) in
     let n : Flight = c.in-Done.transfer in
-    let w : Tables = c.land.new.self in
+    let w : Tables = c.land.new.tables in
     let l : List Flight = c.complete_oldest.new.self in
     let d : Doing t w l e.oldest n = record {
       known = k;
@@ -85,7 +85,7 @@ returns-in-Done-clause-step g c _ =
     let whole = whole_now c.self.inside c.args.self.now c.self.view_is c.requires.whole in
     let e : Came t.ring (g.F.Files.holds c.args.files.now) (g.D.SwapDev.image c.args.swap.now) (g.D.SwapDev.image c.complete_oldest.new.swap) (answers.Done c.in-Done.transfer) = came t.ring (g.F.Files.holds c.args.files.now) (g.D.SwapDev.image c.args.swap.now) (g.D.SwapDev.image c.complete_oldest.new.swap) (answers.Done c.in-Done.transfer) c.in-Done.ensures.ends (λ i. let x = i in cc) in
     let n : Flight = c.in-Done.transfer in
-    let w : Tables = c.land.new.self in
+    let w : Tables = c.land.new.tables in
     let l : List Flight = c.complete_oldest.new.self in
     let d : Doing t w l e.oldest n = record {
       known = k;
@@ -124,7 +124,7 @@ returns-in-Done-clause-keeps g c images flat loads fits stands =
     let whole = whole_now c.self.inside c.args.self.now c.self.view_is c.requires.whole in
     let e : Came t.ring (g.F.Files.holds c.args.files.now) (g.D.SwapDev.image c.args.swap.now) (g.D.SwapDev.image c.complete_oldest.new.swap) (answers.Done c.in-Done.transfer) = came t.ring (g.F.Files.holds c.args.files.now) (g.D.SwapDev.image c.args.swap.now) (g.D.SwapDev.image c.complete_oldest.new.swap) (answers.Done c.in-Done.transfer) c.in-Done.ensures.ends (λ i. let x = i in cc) in
     let n : Flight = c.in-Done.transfer in
-    let w : Tables = c.land.new.self in
+    let w : Tables = c.land.new.tables in
     let l : List Flight = c.complete_oldest.new.self in
     let d : Doing t w l e.oldest n = record {
       known = k;

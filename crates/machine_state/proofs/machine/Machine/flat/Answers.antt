@@ -1,11 +1,11 @@
 use Rattle.std.proofs.Common.{◌≡◌, List, [], ◌∷◌, ◌++◌, length, ap, ◌∙◌, arith}
 use Rattle.vm_facts.specs.declared.entry.Entry.{Entry}
 use Rattle.kernel_model.specs.ChangeStep.{change_step}
-use Rattle.machine_state.specs.declared.tables.Tables.{Tables}
-use Rattle.machine_state.specs.Applying.{facts_named}
-use Rattle.machine_state.specs.Machine.{Standing, kernel_by}
+use Rattle.kernel_tables.specs.declared.tables.Tables.{Tables}
+use Rattle.kernel_tables.specs.Applying.{facts_named}
+use Rattle.kernel_tables.specs.Machine.{Standing, kernel_by}
 use Rattle.machine_state.proofs.Standings.{no_room, stands_now}
-use Rattle.machine_state.proofs.Stills.{pushed}
+use Rattle.kernel_tables.proofs.Stills.{pushed}
 use Rattle.machine_state.proofs.FlatSteps.{ready_of, made_of, flat_record, flat_may, flat_kernel, flat_stands}
 use Rattle.machine_state.proofs.Wholes.{changes_whole}
 use Rattle.machine_state.proofs.machine.Machine.flat.Goals as goal
@@ -28,7 +28,7 @@ invariant_of-self-2 c _ =
     let same : length c.make_room.new.journal.items ≡ length c.self.inside.journal.items = ap length c.make_room.ensures.same in
     record {
       stands = flat_stands c.self.inside.tables c.set_regs.new.self c.self.inside.journal.items c.self.inside.stopped c.args.pid c.args.regs.now c.args.e c.args.change r c.set_regs.ensures
-          c.apply-applied.new.self _ applies (omega (arith, same, c.len.ensures)) c.push_reserved.new.self.items c.or_break_off.new.stopped
+          c.apply-applied.new.tables _ applies (omega (arith, same, c.len.ensures)) c.push_reserved.new.self.items c.or_break_off.new.stopped
           (c.push_reserved.ensures.items ∙ ap (λ (j : List Entry). j ++ c.args.e ∷ []) c.make_room.ensures.same)
           c.in_ok-or_break_off.ensures.same
           (pushed c.self.inside.journal.items c.make_room.new.journal.items c.push_reserved.new.self.items _ c.self.inside.tables.params.journal
@@ -43,20 +43,20 @@ returns-clause-step c =
     let applies = made_of c.apply-applied.result _ c.in_ok-or_break_off.ensures.made c.apply-applied.ensures.applied in
     let same : length c.make_room.new.journal.items ≡ length c.self.inside.journal.items = ap length c.make_room.ensures.same in
     flat_kernel c.self.inside.tables c.set_regs.new.self c.self.inside.journal.items c.self.inside.stopped c.args.pid c.args.regs.now c.args.e c.args.change r c.set_regs.ensures
-    c.apply-applied.new.self _ applies (omega (arith, same, c.len.ensures)) c.push_reserved.new.self.items c.or_break_off.new.stopped
+    c.apply-applied.new.tables _ applies (omega (arith, same, c.len.ensures)) c.push_reserved.new.self.items c.or_break_off.new.stopped
     (c.push_reserved.ensures.items ∙ ap (λ (j : List Entry). j ++ c.args.e ∷ []) c.make_room.ensures.same)
     c.in_ok-or_break_off.ensures.same
     ∙ ap (λ (s : Standing). change_step (facts_named s.images) s.kernel c.args.pid c.args.regs.now c.args.e c.args.change) c.self.view_is
 
 pub returns-clause-keeps : goal.returns-clause-keeps
 returns-clause-keeps c =
-    let w : Tables = record c.apply-applied.new.self { found = 0 } in
+    let w : Tables = record c.apply-applied.new.tables { found = 0 } in
     let r = ready_of c.self.inside c.args.self.now c.args.pid c.args.e c.args.change c.self.invariant c.self.view_is c.requires.running c.requires.can c.frames-frames.ensures.sound in
     let applies = made_of c.apply-applied.result _ c.in_ok-or_break_off.ensures.made c.apply-applied.ensures.applied in
     let same : length c.make_room.new.journal.items ≡ length c.self.inside.journal.items = ap length c.make_room.ensures.same in
     changes_whole c.args.self.now (record c.args.self.now { kernel = kernel_by w c.push_reserved.new.self.items c.or_break_off.new.stopped }) c.args.pid c.args.regs.now c.args.e c.args.change
     (flat_kernel c.self.inside.tables c.set_regs.new.self c.self.inside.journal.items c.self.inside.stopped c.args.pid c.args.regs.now c.args.e c.args.change r c.set_regs.ensures
-    c.apply-applied.new.self _ applies (omega (arith, same, c.len.ensures)) c.push_reserved.new.self.items c.or_break_off.new.stopped
+    c.apply-applied.new.tables _ applies (omega (arith, same, c.len.ensures)) c.push_reserved.new.self.items c.or_break_off.new.stopped
     (c.push_reserved.ensures.items ∙ ap (λ (j : List Entry). j ++ c.args.e ∷ []) c.make_room.ensures.same)
     c.in_ok-or_break_off.ensures.same
     ∙ ap (λ (s : Standing). change_step (facts_named s.images) s.kernel c.args.pid c.args.regs.now c.args.e c.args.change) c.self.view_is)

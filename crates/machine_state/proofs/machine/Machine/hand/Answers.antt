@@ -5,18 +5,18 @@ use Rattle.flat_state.specs.Journal.{append}
 use Rattle.page_model.specs.Placement.{Placement}
 use Rattle.page_model.specs.Hands.{hand_move}
 use Rattle.kernel_model.specs.Kernel.{Kernel, hand_step}
-use Rattle.machine_state.specs.declared.tables.Tables.{Tables}
-use Rattle.machine_state.specs.View.{placement_of}
-use Rattle.machine_state.specs.Known.{Known}
-use Rattle.machine_state.specs.Machine.{Standing, lists_of, kernel_by}
-use Rattle.machine_state.specs.Calls.{CanMove}
-use Rattle.machine_state.specs.Conditions.{KeepsFlat, SameEverywhere}
-use Rattle.machine_state.specs.Launches.{MovedOn}
-use Rattle.machine_state.specs.Joined.{moves_in, last_says}
+use Rattle.kernel_tables.specs.declared.tables.Tables.{Tables}
+use Rattle.kernel_tables.specs.View.{placement_of}
+use Rattle.kernel_tables.specs.Known.{Known}
+use Rattle.kernel_tables.specs.Machine.{Standing, lists_of, kernel_by}
+use Rattle.kernel_tables.specs.Calls.{CanMove}
+use Rattle.kernel_tables.specs.Conditions.{KeepsFlat, SameEverywhere}
+use Rattle.kernel_tables.specs.Launches.{MovedOn}
+use Rattle.table_steps.specs.Joined.{moves_in, last_says}
 use Rattle.machine_state.proofs.Knowing.{known_of}
-use Rattle.machine_state.proofs.Puttings.{all_blocks}
-use Rattle.machine_state.proofs.Hands.{hands_low, hand_few, hand_keeps, hand_alike}
-use Rattle.machine_state.proofs.Joins.{moves_kind, last_is, joined_within}
+use Rattle.table_steps.proofs.Puttings.{all_blocks}
+use Rattle.table_steps.proofs.Hands.{hands_low, hand_few, hand_keeps, hand_alike}
+use Rattle.table_steps.proofs.Joins.{moves_kind, last_is, joined_within}
 use Rattle.machine_state.proofs.MovesOn.{Moving, moved_still, moving_kernel, moving_stands}
 use Rattle.machine_state.proofs.Standings.{no_room, running, stands_now, whole_now, rest_of}
 use Rattle.machine_state.proofs.machine.Machine.hand.Goals as goal
@@ -68,8 +68,8 @@ invariant_of-self-2 c _ =
     let k : Known (lists_of t) = known_of c.self.inside c.frames-frames.ensures.sound r in
     let can : CanMove (placement_of (lists_of t)) c.args.locked.now c.args.lo c.args.n = subst (λ (s : Standing). CanMove s.kernel.place c.args.locked.now c.args.lo c.args.n) (sym c.self.view_is) c.requires.can in
     let p : Placement = hand_move (placement_of (lists_of t)) c.args.locked.now in
-    let m : MovedOn t c.move_hands.new.self p = c.move_hands.ensures in
-    let g : Moving c.self.inside c.move_hands.new.self p c.args.locked.now (entries.Hands 1) = record {
+    let m : MovedOn t c.move_hands.new.tables p = c.move_hands.ensures in
+    let g : Moving c.self.inside c.move_hands.new.tables p c.args.locked.now (entries.Hands 1) = record {
       runs = r;
       moved = m;
       is = refl;
@@ -83,7 +83,7 @@ invariant_of-self-2 c _ =
     let now = stands_now c.self.inside c.args.self.now c.self.invariant c.self.view_is c.requires.running in
     let whole = whole_now c.self.inside c.args.self.now c.self.view_is c.requires.whole in
     record {
-      stands = moving_stands c.self.inside c.move_hands.new.self p c.args.locked.now (entries.Hands 1) c.add_move.new.journal.items c.self.inside.stopped g now.stands whole ej refl
+      stands = moving_stands c.self.inside c.move_hands.new.tables p c.args.locked.now (entries.Hands 1) c.add_move.new.journal.items c.self.inside.stopped g now.stands whole ej refl
           (joined_within moves_in (λ (count : ℕ). entries.Hands count) moves_kind c.self.inside.journal.items c.add_move.new.journal.items t.params.journal ej now.stands.within (λ h. (c.in_ok-make_room_to_move.ensures.has_room h).0));
       none_lost = now.none_lost;
       room = no_room _ _ _ c.make_room_to_move.ensures.room;
@@ -96,8 +96,8 @@ returns-clause-rest c =
     let k : Known (lists_of t) = known_of c.self.inside c.frames-frames.ensures.sound r in
     let can : CanMove (placement_of (lists_of t)) c.args.locked.now c.args.lo c.args.n = subst (λ (s : Standing). CanMove s.kernel.place c.args.locked.now c.args.lo c.args.n) (sym c.self.view_is) c.requires.can in
     let p : Placement = hand_move (placement_of (lists_of t)) c.args.locked.now in
-    let m : MovedOn t c.move_hands.new.self p = c.move_hands.ensures in
-    let g : Moving c.self.inside c.move_hands.new.self p c.args.locked.now (entries.Hands 1) = record {
+    let m : MovedOn t c.move_hands.new.tables p = c.move_hands.ensures in
+    let g : Moving c.self.inside c.move_hands.new.tables p c.args.locked.now (entries.Hands 1) = record {
       runs = r;
       moved = m;
       is = refl;
@@ -108,7 +108,7 @@ returns-clause-rest c =
     } in
     let ej : c.add_move.new.journal.items ≡ append c.self.inside.journal.items (entries.Hands 1) =
     c.add_move.ensures ∙ ap (λ (j : List Entry). append j (entries.Hands 1)) c.make_room_to_move.ensures.same in
-    rest_of c.self.inside c.args.self.now c.move_hands.new.self _ _ _ c.self.view_is (moved_still t c.move_hands.new.self p m) c.make_room_to_move.ensures.room
+    rest_of c.self.inside c.args.self.now c.move_hands.new.tables _ _ _ c.self.view_is (moved_still t c.move_hands.new.tables p m) c.make_room_to_move.ensures.room
 
 pub returns-clause-step : goal.returns-clause-step
 returns-clause-step c =
@@ -117,8 +117,8 @@ returns-clause-step c =
     let k : Known (lists_of t) = known_of c.self.inside c.frames-frames.ensures.sound r in
     let can : CanMove (placement_of (lists_of t)) c.args.locked.now c.args.lo c.args.n = subst (λ (s : Standing). CanMove s.kernel.place c.args.locked.now c.args.lo c.args.n) (sym c.self.view_is) c.requires.can in
     let p : Placement = hand_move (placement_of (lists_of t)) c.args.locked.now in
-    let m : MovedOn t c.move_hands.new.self p = c.move_hands.ensures in
-    let g : Moving c.self.inside c.move_hands.new.self p c.args.locked.now (entries.Hands 1) = record {
+    let m : MovedOn t c.move_hands.new.tables p = c.move_hands.ensures in
+    let g : Moving c.self.inside c.move_hands.new.tables p c.args.locked.now (entries.Hands 1) = record {
       runs = r;
       moved = m;
       is = refl;
@@ -130,8 +130,8 @@ returns-clause-step c =
     let ej : c.add_move.new.journal.items ≡ append c.self.inside.journal.items (entries.Hands 1) =
     c.add_move.ensures ∙ ap (λ (j : List Entry). append j (entries.Hands 1)) c.make_room_to_move.ensures.same in
     let b : Kernel = kernel_by t c.self.inside.journal.items c.self.inside.stopped in
-    let is : kernel_by c.move_hands.new.self c.add_move.new.journal.items c.self.inside.stopped ≡ hand_step b c.args.locked.now =
-    moving_kernel c.self.inside c.move_hands.new.self p c.args.locked.now (entries.Hands 1) c.add_move.new.journal.items c.self.inside.stopped g ej refl in
+    let is : kernel_by c.move_hands.new.tables c.add_move.new.journal.items c.self.inside.stopped ≡ hand_step b c.args.locked.now =
+    moving_kernel c.self.inside c.move_hands.new.tables p c.args.locked.now (entries.Hands 1) c.add_move.new.journal.items c.self.inside.stopped g ej refl in
     is ∙ ap (λ (s : Standing). hand_step s.kernel c.args.locked.now) c.self.view_is
 
 pub returns-clause-keeps : goal.returns-clause-keeps
@@ -141,8 +141,8 @@ returns-clause-keeps c =
     let k : Known (lists_of t) = known_of c.self.inside c.frames-frames.ensures.sound r in
     let can : CanMove (placement_of (lists_of t)) c.args.locked.now c.args.lo c.args.n = subst (λ (s : Standing). CanMove s.kernel.place c.args.locked.now c.args.lo c.args.n) (sym c.self.view_is) c.requires.can in
     let p : Placement = hand_move (placement_of (lists_of t)) c.args.locked.now in
-    let m : MovedOn t c.move_hands.new.self p = c.move_hands.ensures in
-    let g : Moving c.self.inside c.move_hands.new.self p c.args.locked.now (entries.Hands 1) = record {
+    let m : MovedOn t c.move_hands.new.tables p = c.move_hands.ensures in
+    let g : Moving c.self.inside c.move_hands.new.tables p c.args.locked.now (entries.Hands 1) = record {
       runs = r;
       moved = m;
       is = refl;
@@ -154,8 +154,8 @@ returns-clause-keeps c =
     let ej : c.add_move.new.journal.items ≡ append c.self.inside.journal.items (entries.Hands 1) =
     c.add_move.ensures ∙ ap (λ (j : List Entry). append j (entries.Hands 1)) c.make_room_to_move.ensures.same in
     let b : Kernel = kernel_by t c.self.inside.journal.items c.self.inside.stopped in
-    let is : kernel_by c.move_hands.new.self c.add_move.new.journal.items c.self.inside.stopped ≡ hand_step b c.args.locked.now =
-    moving_kernel c.self.inside c.move_hands.new.self p c.args.locked.now (entries.Hands 1) c.add_move.new.journal.items c.self.inside.stopped g ej refl in
+    let is : kernel_by c.move_hands.new.tables c.add_move.new.journal.items c.self.inside.stopped ≡ hand_step b c.args.locked.now =
+    moving_kernel c.self.inside c.move_hands.new.tables p c.args.locked.now (entries.Hands 1) c.add_move.new.journal.items c.self.inside.stopped g ej refl in
     subst (KeepsFlat c.args.self.now.kernel) (sym is) (subst (λ (s : Standing). KeepsFlat s.kernel (hand_step b c.args.locked.now)) c.self.view_is (hand_keeps t.book.size b c.args.locked.now r.sound))
 
 pub returns-clause-same : goal.returns-clause-same
@@ -165,8 +165,8 @@ returns-clause-same c =
     let k : Known (lists_of t) = known_of c.self.inside c.frames-frames.ensures.sound r in
     let can : CanMove (placement_of (lists_of t)) c.args.locked.now c.args.lo c.args.n = subst (λ (s : Standing). CanMove s.kernel.place c.args.locked.now c.args.lo c.args.n) (sym c.self.view_is) c.requires.can in
     let p : Placement = hand_move (placement_of (lists_of t)) c.args.locked.now in
-    let m : MovedOn t c.move_hands.new.self p = c.move_hands.ensures in
-    let g : Moving c.self.inside c.move_hands.new.self p c.args.locked.now (entries.Hands 1) = record {
+    let m : MovedOn t c.move_hands.new.tables p = c.move_hands.ensures in
+    let g : Moving c.self.inside c.move_hands.new.tables p c.args.locked.now (entries.Hands 1) = record {
       runs = r;
       moved = m;
       is = refl;
@@ -178,6 +178,6 @@ returns-clause-same c =
     let ej : c.add_move.new.journal.items ≡ append c.self.inside.journal.items (entries.Hands 1) =
     c.add_move.ensures ∙ ap (λ (j : List Entry). append j (entries.Hands 1)) c.make_room_to_move.ensures.same in
     let b : Kernel = kernel_by t c.self.inside.journal.items c.self.inside.stopped in
-    let is : kernel_by c.move_hands.new.self c.add_move.new.journal.items c.self.inside.stopped ≡ hand_step b c.args.locked.now =
-    moving_kernel c.self.inside c.move_hands.new.self p c.args.locked.now (entries.Hands 1) c.add_move.new.journal.items c.self.inside.stopped g ej refl in
+    let is : kernel_by c.move_hands.new.tables c.add_move.new.journal.items c.self.inside.stopped ≡ hand_step b c.args.locked.now =
+    moving_kernel c.self.inside c.move_hands.new.tables p c.args.locked.now (entries.Hands 1) c.add_move.new.journal.items c.self.inside.stopped g ej refl in
     subst (SameEverywhere c.args.self.now.kernel) (sym is) (subst (λ (s : Standing). SameEverywhere s.kernel (hand_step b c.args.locked.now)) c.self.view_is (hand_alike b c.args.locked.now))

@@ -4,10 +4,10 @@ use Rattle.vm_facts.specs.declared.entry.Entry.TheVariants as entries
 use Rattle.flat_state.specs.Journal.{append}
 use Rattle.kernel_model.specs.Kernel.{Kernel, note_step}
 use Rattle.kernel_laws.proofs.Machine.Moves.{note_coupled}
-use Rattle.machine_state.specs.declared.tables.Tables.{Tables}
-use Rattle.machine_state.specs.Machine.{Standing, kernel_by}
-use Rattle.machine_state.specs.Conditions.{KeepsFlat}
-use Rattle.machine_state.specs.Calls.{IsNote}
+use Rattle.kernel_tables.specs.declared.tables.Tables.{Tables}
+use Rattle.kernel_tables.specs.Machine.{Standing, kernel_by}
+use Rattle.kernel_tables.specs.Conditions.{KeepsFlat}
+use Rattle.kernel_tables.specs.Calls.{IsNote}
 use Rattle.machine_state.proofs.machine.Machine.note.Goals as goal
 
 -- such an entry isn't joined to the last one

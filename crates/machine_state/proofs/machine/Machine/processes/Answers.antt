@@ -1,9 +1,9 @@
 use Rattle.std.proofs.Common.{subst}
-use Rattle.machine_state.specs.declared.tables.Tables.{Tables}
-use Rattle.machine_state.specs.Alike.{AreRecords}
-use Rattle.machine_state.specs.Lives.{AreMarked}
-use Rattle.machine_state.specs.Machine.{Standing}
-use Rattle.machine_state.proofs.Listed.{are_marked}
+use Rattle.kernel_tables.specs.declared.tables.Tables.{Tables}
+use Rattle.kernel_tables.specs.Alike.{AreRecords}
+use Rattle.kernel_tables.specs.Lives.{AreMarked}
+use Rattle.kernel_tables.specs.Machine.{Standing}
+use Rattle.kernel_tables.proofs.Listed.{are_marked}
 use Rattle.machine_state.proofs.Standings.{stands_now}
 use Rattle.machine_state.proofs.machine.Machine.processes.Goals as goal
 

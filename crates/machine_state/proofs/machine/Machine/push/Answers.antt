@@ -5,20 +5,20 @@ use Rattle.flat_state.specs.Journal.{append}
 use Rattle.flat_state.specs.PageNames.{number_of}
 use Rattle.page_model.specs.Placement.{Placement, is_dirty}
 use Rattle.kernel_model.specs.Kernel.{Kernel, push_step}
-use Rattle.machine_state.specs.declared.tables.Tables.{Tables}
-use Rattle.machine_state.specs.View.{placement_of}
-use Rattle.machine_state.specs.Known.{Known}
-use Rattle.machine_state.specs.Machine.{Standing, lists_of, kernel_by}
-use Rattle.machine_state.specs.Steps.{dirty_shown}
-use Rattle.machine_state.specs.Calls.{CanPush}
-use Rattle.machine_state.specs.Conditions.{KeepsFlat, SameEverywhere}
-use Rattle.machine_state.specs.Launches.{MayPutOut, MovedOn, put_out}
+use Rattle.kernel_tables.specs.declared.tables.Tables.{Tables}
+use Rattle.kernel_tables.specs.View.{placement_of}
+use Rattle.kernel_tables.specs.Known.{Known}
+use Rattle.kernel_tables.specs.Machine.{Standing, lists_of, kernel_by}
+use Rattle.kernel_tables.specs.Steps.{dirty_shown}
+use Rattle.kernel_tables.specs.Calls.{CanPush}
+use Rattle.kernel_tables.specs.Conditions.{KeepsFlat, SameEverywhere}
+use Rattle.kernel_tables.specs.Launches.{MayPutOut, MovedOn, put_out}
 use Rattle.machine_state.proofs.Knowing.{known_of}
 use Rattle.machine_state.proofs.Dirty.{dirty_is}
-use Rattle.machine_state.proofs.Puttings.{push_is, push_seat, push_there, push_may, push_few, push_keeps, push_alike, all_blocks}
+use Rattle.table_steps.proofs.Puttings.{push_is, push_seat, push_there, push_may, push_few, push_keeps, push_alike, all_blocks}
 use Rattle.machine_state.proofs.MovesOn.{Moving, moved_still, moving_kernel, moving_stands}
 use Rattle.machine_state.proofs.Standings.{no_room, running, stands_now, whole_now, rest_of}
-use Rattle.machine_state.proofs.Stills.{pushed}
+use Rattle.kernel_tables.proofs.Stills.{pushed}
 use Rattle.machine_state.proofs.machine.Machine.push.Goals as goal
 
 pub put_out-requires-clause-known : goal.put_out-requires-clause-known
@@ -49,10 +49,10 @@ invariant_of-self-2 c _ =
     let can : CanPush (placement_of (lists_of t)) c.args.lo c.args.n = subst (λ (s : Standing). CanPush s.kernel.place c.args.lo c.args.n) (sym c.self.view_is) c.requires.can in
     let d : dirty_shown t.spaces t.texts c.args.lo ≡ is_dirty (placement_of (lists_of t)) c.args.lo = dirty_is (lists_of t) c.args.lo k.differ (push_there (lists_of t) c.args.lo c.args.n k can) in
     let p : Placement = put_out (placement_of (lists_of t)) c.args.lo (number_of c.args.lo) (cond (dirty_shown t.spaces t.texts c.args.lo) c.args.n 0) in
-    let m : MovedOn t c.put_out.new.self p =
-    subst (λ (n : ℕ). MovedOn t c.put_out.new.self (put_out (placement_of (lists_of t)) c.args.lo n (cond (dirty_shown t.spaces t.texts c.args.lo) c.args.n 0))) c.number_of.ensures
-    (subst (λ (n : ℕ). MovedOn t c.put_out.new.self (put_out (placement_of (lists_of t)) c.args.lo c.number_of.result n)) c.written_of-written.ensures c.put_out.ensures) in
-    let g : Moving c.self.inside c.put_out.new.self p [] (entries.Put c.args.lo c.args.n) = record {
+    let m : MovedOn t c.put_out.new.tables p =
+    subst (λ (n : ℕ). MovedOn t c.put_out.new.tables (put_out (placement_of (lists_of t)) c.args.lo n (cond (dirty_shown t.spaces t.texts c.args.lo) c.args.n 0))) c.number_of.ensures
+    (subst (λ (n : ℕ). MovedOn t c.put_out.new.tables (put_out (placement_of (lists_of t)) c.args.lo c.number_of.result n)) c.written_of-written.ensures c.put_out.ensures) in
+    let g : Moving c.self.inside c.put_out.new.tables p [] (entries.Put c.args.lo c.args.n) = record {
       runs = r;
       moved = m;
       is = push_is (placement_of (lists_of t)) c.args.lo c.args.n (dirty_shown t.spaces t.texts c.args.lo) (sym d) can.some;
@@ -66,7 +66,7 @@ invariant_of-self-2 c _ =
     let now = stands_now c.self.inside c.args.self.now c.self.invariant c.self.view_is c.requires.running in
     let whole = whole_now c.self.inside c.args.self.now c.self.view_is c.requires.whole in
     record {
-      stands = moving_stands c.self.inside c.put_out.new.self p [] (entries.Put c.args.lo c.args.n) c.push_reserved.new.self.items c.self.inside.stopped g now.stands whole ej refl
+      stands = moving_stands c.self.inside c.put_out.new.tables p [] (entries.Put c.args.lo c.args.n) c.push_reserved.new.self.items c.self.inside.stopped g now.stands whole ej refl
           (pushed c.self.inside.journal.items c.make_room.new.journal.items c.push_reserved.new.self.items _ t.params.journal c.make_room.ensures.same c.push_reserved.ensures.items c.in_ok-make_room.ensures.ok.0).within;
       none_lost = now.none_lost;
       room = no_room _ _ _ c.make_room.ensures.room;
@@ -80,10 +80,10 @@ returns-clause-rest c =
     let can : CanPush (placement_of (lists_of t)) c.args.lo c.args.n = subst (λ (s : Standing). CanPush s.kernel.place c.args.lo c.args.n) (sym c.self.view_is) c.requires.can in
     let d : dirty_shown t.spaces t.texts c.args.lo ≡ is_dirty (placement_of (lists_of t)) c.args.lo = dirty_is (lists_of t) c.args.lo k.differ (push_there (lists_of t) c.args.lo c.args.n k can) in
     let p : Placement = put_out (placement_of (lists_of t)) c.args.lo (number_of c.args.lo) (cond (dirty_shown t.spaces t.texts c.args.lo) c.args.n 0) in
-    let m : MovedOn t c.put_out.new.self p =
-    subst (λ (n : ℕ). MovedOn t c.put_out.new.self (put_out (placement_of (lists_of t)) c.args.lo n (cond (dirty_shown t.spaces t.texts c.args.lo) c.args.n 0))) c.number_of.ensures
-    (subst (λ (n : ℕ). MovedOn t c.put_out.new.self (put_out (placement_of (lists_of t)) c.args.lo c.number_of.result n)) c.written_of-written.ensures c.put_out.ensures) in
-    let g : Moving c.self.inside c.put_out.new.self p [] (entries.Put c.args.lo c.args.n) = record {
+    let m : MovedOn t c.put_out.new.tables p =
+    subst (λ (n : ℕ). MovedOn t c.put_out.new.tables (put_out (placement_of (lists_of t)) c.args.lo n (cond (dirty_shown t.spaces t.texts c.args.lo) c.args.n 0))) c.number_of.ensures
+    (subst (λ (n : ℕ). MovedOn t c.put_out.new.tables (put_out (placement_of (lists_of t)) c.args.lo c.number_of.result n)) c.written_of-written.ensures c.put_out.ensures) in
+    let g : Moving c.self.inside c.put_out.new.tables p [] (entries.Put c.args.lo c.args.n) = record {
       runs = r;
       moved = m;
       is = push_is (placement_of (lists_of t)) c.args.lo c.args.n (dirty_shown t.spaces t.texts c.args.lo) (sym d) can.some;
@@ -94,7 +94,7 @@ returns-clause-rest c =
     } in
     let ej : c.push_reserved.new.self.items ≡ append c.self.inside.journal.items (entries.Put c.args.lo c.args.n) =
     c.push_reserved.ensures.items ∙ ap (λ (j : List Entry). j ++ entries.Put c.args.lo c.args.n ∷ []) c.make_room.ensures.same in
-    rest_of c.self.inside c.args.self.now c.put_out.new.self _ _ _ c.self.view_is (moved_still t c.put_out.new.self p m) c.make_room.ensures.room
+    rest_of c.self.inside c.args.self.now c.put_out.new.tables _ _ _ c.self.view_is (moved_still t c.put_out.new.tables p m) c.make_room.ensures.room
 
 pub returns-clause-step : goal.returns-clause-step
 returns-clause-step c =
@@ -104,10 +104,10 @@ returns-clause-step c =
     let can : CanPush (placement_of (lists_of t)) c.args.lo c.args.n = subst (λ (s : Standing). CanPush s.kernel.place c.args.lo c.args.n) (sym c.self.view_is) c.requires.can in
     let d : dirty_shown t.spaces t.texts c.args.lo ≡ is_dirty (placement_of (lists_of t)) c.args.lo = dirty_is (lists_of t) c.args.lo k.differ (push_there (lists_of t) c.args.lo c.args.n k can) in
     let p : Placement = put_out (placement_of (lists_of t)) c.args.lo (number_of c.args.lo) (cond (dirty_shown t.spaces t.texts c.args.lo) c.args.n 0) in
-    let m : MovedOn t c.put_out.new.self p =
-    subst (λ (n : ℕ). MovedOn t c.put_out.new.self (put_out (placement_of (lists_of t)) c.args.lo n (cond (dirty_shown t.spaces t.texts c.args.lo) c.args.n 0))) c.number_of.ensures
-    (subst (λ (n : ℕ). MovedOn t c.put_out.new.self (put_out (placement_of (lists_of t)) c.args.lo c.number_of.result n)) c.written_of-written.ensures c.put_out.ensures) in
-    let g : Moving c.self.inside c.put_out.new.self p [] (entries.Put c.args.lo c.args.n) = record {
+    let m : MovedOn t c.put_out.new.tables p =
+    subst (λ (n : ℕ). MovedOn t c.put_out.new.tables (put_out (placement_of (lists_of t)) c.args.lo n (cond (dirty_shown t.spaces t.texts c.args.lo) c.args.n 0))) c.number_of.ensures
+    (subst (λ (n : ℕ). MovedOn t c.put_out.new.tables (put_out (placement_of (lists_of t)) c.args.lo c.number_of.result n)) c.written_of-written.ensures c.put_out.ensures) in
+    let g : Moving c.self.inside c.put_out.new.tables p [] (entries.Put c.args.lo c.args.n) = record {
       runs = r;
       moved = m;
       is = push_is (placement_of (lists_of t)) c.args.lo c.args.n (dirty_shown t.spaces t.texts c.args.lo) (sym d) can.some;
@@ -119,8 +119,8 @@ returns-clause-step c =
     let ej : c.push_reserved.new.self.items ≡ append c.self.inside.journal.items (entries.Put c.args.lo c.args.n) =
     c.push_reserved.ensures.items ∙ ap (λ (j : List Entry). j ++ entries.Put c.args.lo c.args.n ∷ []) c.make_room.ensures.same in
     let b : Kernel = kernel_by t c.self.inside.journal.items c.self.inside.stopped in
-    let is : kernel_by c.put_out.new.self c.push_reserved.new.self.items c.self.inside.stopped ≡ push_step b c.args.lo c.args.n =
-    moving_kernel c.self.inside c.put_out.new.self p [] (entries.Put c.args.lo c.args.n) c.push_reserved.new.self.items c.self.inside.stopped g ej refl in
+    let is : kernel_by c.put_out.new.tables c.push_reserved.new.self.items c.self.inside.stopped ≡ push_step b c.args.lo c.args.n =
+    moving_kernel c.self.inside c.put_out.new.tables p [] (entries.Put c.args.lo c.args.n) c.push_reserved.new.self.items c.self.inside.stopped g ej refl in
     is ∙ ap (λ (s : Standing). push_step s.kernel c.args.lo c.args.n) c.self.view_is
 
 pub returns-clause-keeps : goal.returns-clause-keeps
@@ -131,10 +131,10 @@ returns-clause-keeps c =
     let can : CanPush (placement_of (lists_of t)) c.args.lo c.args.n = subst (λ (s : Standing). CanPush s.kernel.place c.args.lo c.args.n) (sym c.self.view_is) c.requires.can in
     let d : dirty_shown t.spaces t.texts c.args.lo ≡ is_dirty (placement_of (lists_of t)) c.args.lo = dirty_is (lists_of t) c.args.lo k.differ (push_there (lists_of t) c.args.lo c.args.n k can) in
     let p : Placement = put_out (placement_of (lists_of t)) c.args.lo (number_of c.args.lo) (cond (dirty_shown t.spaces t.texts c.args.lo) c.args.n 0) in
-    let m : MovedOn t c.put_out.new.self p =
-    subst (λ (n : ℕ). MovedOn t c.put_out.new.self (put_out (placement_of (lists_of t)) c.args.lo n (cond (dirty_shown t.spaces t.texts c.args.lo) c.args.n 0))) c.number_of.ensures
-    (subst (λ (n : ℕ). MovedOn t c.put_out.new.self (put_out (placement_of (lists_of t)) c.args.lo c.number_of.result n)) c.written_of-written.ensures c.put_out.ensures) in
-    let g : Moving c.self.inside c.put_out.new.self p [] (entries.Put c.args.lo c.args.n) = record {
+    let m : MovedOn t c.put_out.new.tables p =
+    subst (λ (n : ℕ). MovedOn t c.put_out.new.tables (put_out (placement_of (lists_of t)) c.args.lo n (cond (dirty_shown t.spaces t.texts c.args.lo) c.args.n 0))) c.number_of.ensures
+    (subst (λ (n : ℕ). MovedOn t c.put_out.new.tables (put_out (placement_of (lists_of t)) c.args.lo c.number_of.result n)) c.written_of-written.ensures c.put_out.ensures) in
+    let g : Moving c.self.inside c.put_out.new.tables p [] (entries.Put c.args.lo c.args.n) = record {
       runs = r;
       moved = m;
       is = push_is (placement_of (lists_of t)) c.args.lo c.args.n (dirty_shown t.spaces t.texts c.args.lo) (sym d) can.some;
@@ -146,8 +146,8 @@ returns-clause-keeps c =
     let ej : c.push_reserved.new.self.items ≡ append c.self.inside.journal.items (entries.Put c.args.lo c.args.n) =
     c.push_reserved.ensures.items ∙ ap (λ (j : List Entry). j ++ entries.Put c.args.lo c.args.n ∷ []) c.make_room.ensures.same in
     let b : Kernel = kernel_by t c.self.inside.journal.items c.self.inside.stopped in
-    let is : kernel_by c.put_out.new.self c.push_reserved.new.self.items c.self.inside.stopped ≡ push_step b c.args.lo c.args.n =
-    moving_kernel c.self.inside c.put_out.new.self p [] (entries.Put c.args.lo c.args.n) c.push_reserved.new.self.items c.self.inside.stopped g ej refl in
+    let is : kernel_by c.put_out.new.tables c.push_reserved.new.self.items c.self.inside.stopped ≡ push_step b c.args.lo c.args.n =
+    moving_kernel c.self.inside c.put_out.new.tables p [] (entries.Put c.args.lo c.args.n) c.push_reserved.new.self.items c.self.inside.stopped g ej refl in
     subst (KeepsFlat c.args.self.now.kernel) (sym is) (subst (λ (s : Standing). KeepsFlat s.kernel (push_step b c.args.lo c.args.n)) c.self.view_is (push_keeps t.book.size b c.args.lo c.args.n r.sound can))
 
 pub returns-clause-same : goal.returns-clause-same
@@ -158,10 +158,10 @@ returns-clause-same c =
     let can : CanPush (placement_of (lists_of t)) c.args.lo c.args.n = subst (λ (s : Standing). CanPush s.kernel.place c.args.lo c.args.n) (sym c.self.view_is) c.requires.can in
     let d : dirty_shown t.spaces t.texts c.args.lo ≡ is_dirty (placement_of (lists_of t)) c.args.lo = dirty_is (lists_of t) c.args.lo k.differ (push_there (lists_of t) c.args.lo c.args.n k can) in
     let p : Placement = put_out (placement_of (lists_of t)) c.args.lo (number_of c.args.lo) (cond (dirty_shown t.spaces t.texts c.args.lo) c.args.n 0) in
-    let m : MovedOn t c.put_out.new.self p =
-    subst (λ (n : ℕ). MovedOn t c.put_out.new.self (put_out (placement_of (lists_of t)) c.args.lo n (cond (dirty_shown t.spaces t.texts c.args.lo) c.args.n 0))) c.number_of.ensures
-    (subst (λ (n : ℕ). MovedOn t c.put_out.new.self (put_out (placement_of (lists_of t)) c.args.lo c.number_of.result n)) c.written_of-written.ensures c.put_out.ensures) in
-    let g : Moving c.self.inside c.put_out.new.self p [] (entries.Put c.args.lo c.args.n) = record {
+    let m : MovedOn t c.put_out.new.tables p =
+    subst (λ (n : ℕ). MovedOn t c.put_out.new.tables (put_out (placement_of (lists_of t)) c.args.lo n (cond (dirty_shown t.spaces t.texts c.args.lo) c.args.n 0))) c.number_of.ensures
+    (subst (λ (n : ℕ). MovedOn t c.put_out.new.tables (put_out (placement_of (lists_of t)) c.args.lo c.number_of.result n)) c.written_of-written.ensures c.put_out.ensures) in
+    let g : Moving c.self.inside c.put_out.new.tables p [] (entries.Put c.args.lo c.args.n) = record {
       runs = r;
       moved = m;
       is = push_is (placement_of (lists_of t)) c.args.lo c.args.n (dirty_shown t.spaces t.texts c.args.lo) (sym d) can.some;
@@ -173,6 +173,6 @@ returns-clause-same c =
     let ej : c.push_reserved.new.self.items ≡ append c.self.inside.journal.items (entries.Put c.args.lo c.args.n) =
     c.push_reserved.ensures.items ∙ ap (λ (j : List Entry). j ++ entries.Put c.args.lo c.args.n ∷ []) c.make_room.ensures.same in
     let b : Kernel = kernel_by t c.self.inside.journal.items c.self.inside.stopped in
-    let is : kernel_by c.put_out.new.self c.push_reserved.new.self.items c.self.inside.stopped ≡ push_step b c.args.lo c.args.n =
-    moving_kernel c.self.inside c.put_out.new.self p [] (entries.Put c.args.lo c.args.n) c.push_reserved.new.self.items c.self.inside.stopped g ej refl in
+    let is : kernel_by c.put_out.new.tables c.push_reserved.new.self.items c.self.inside.stopped ≡ push_step b c.args.lo c.args.n =
+    moving_kernel c.self.inside c.put_out.new.tables p [] (entries.Put c.args.lo c.args.n) c.push_reserved.new.self.items c.self.inside.stopped g ej refl in
     subst (SameEverywhere c.args.self.now.kernel) (sym is) (subst (λ (s : Standing). SameEverywhere s.kernel (push_step b c.args.lo c.args.n)) c.self.view_is (push_alike b c.args.lo c.args.n))

@@ -1,9 +1,9 @@
 use Rattle.std.proofs.Common.{refl, sym, subst}
 use Rattle.proc_table.specs.Records.{Lowest}
-use Rattle.machine_state.specs.Machine.{Standing, lists_of}
-use Rattle.machine_state.specs.View.{placement_of}
-use Rattle.machine_state.specs.Sharing.{IsSharer}
-use Rattle.machine_state.specs.declared.tables.Tables.{Tables}
+use Rattle.kernel_tables.specs.Machine.{Standing, lists_of}
+use Rattle.kernel_tables.specs.View.{placement_of}
+use Rattle.kernel_tables.specs.Sharing.{IsSharer}
+use Rattle.kernel_tables.specs.declared.tables.Tables.{Tables}
 use Rattle.machine_state.proofs.Sharers.{lowest_sharer}
 use Rattle.machine_state.proofs.machine.Machine.sharer.Goals as goal
 

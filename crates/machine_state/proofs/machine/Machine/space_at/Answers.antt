@@ -1,11 +1,11 @@
 use Rattle.std.proofs.Common.{◌≡◌, ◌<◌, Some, map, length, slice_get, sym, ◌∙◌, subst}
 use Rattle.page_model.specs.Placement.{space_number}
-use Rattle.machine_state.specs.declared.tables.Tables.{Tables}
-use Rattle.machine_state.specs.Known.{Known}
-use Rattle.machine_state.specs.Machine.{Standing, lists_of}
-use Rattle.machine_state.specs.UserMemory.{NamesFrames}
+use Rattle.kernel_tables.specs.declared.tables.Tables.{Tables}
+use Rattle.kernel_tables.specs.Known.{Known}
+use Rattle.kernel_tables.specs.Machine.{Standing, lists_of}
+use Rattle.kernel_tables.specs.UserMemory.{NamesFrames}
 use Rattle.machine_state.proofs.Standings.{stands_now}
-use Rattle.machine_state.proofs.UserFrames.{known_by, names_frames, space_below}
+use Rattle.kernel_tables.proofs.UserFrames.{known_by, names_frames, space_below}
 use Rattle.machine_state.proofs.machine.Machine.space_at.Goals as goal
 
 pub at-space-requires : goal.at-space-requires

@@ -1,0 +1,130 @@
+-- The end of a transfer, through its device.
+use Rattle.std.specs.Prelude.{◌≡◌, ◌⊎◌, ◌↔◌, ℕ, ◌<◌, ◌≤◌, Bool, List, [], ◌∷◌, length, Option, Some, None, Result, Ok, Err}
+use Rattle.flat_state.specs.Flat.{FlatState, NamedImage}
+use Rattle.vm_facts.specs.declared.stop.Stop.{Stop}
+use Rattle.vm_facts.specs.declared.stop.Stop.TheVariants as stops
+use Rattle.io_edge.specs.Count.{Rose}
+use Rattle.io_edge.specs.FileHolding.{NamedFile}
+use Rattle.page_model.specs.Placement.{Transfer, Part, Source, FromSwap, FromFile, Errand, Writes, Reads}
+use Rattle.page_model.specs.Ownership.{block_of}
+use Rattle.kernel_model.specs.Kernel.{Kernel, done_step, image_after, frame_bytes}
+use Rattle.kernel_model.specs.Sound.{TextFits}
+use Rattle.kernel_model.specs.Coupled.{Coupled, AreRead, beside_kernel}
+use Rattle.page_model.specs.Stored.{store_at}
+use Rattle.kernel_tables.specs.Sourced.{ImageNamed}
+use Rattle.kernel_tables.specs.Machine.{Standing}
+use Rattle.kernel_tables.specs.Conditions.{HasStopped}
+use Rattle.kernel_tables.specs.Files.{AreImages}
+use Rattle.transfer_ring.specs.declared.transfer.Inbound.{Inbound}
+use Rattle.transfer_ring.specs.declared.transfer.Transfer.{Transfer as Flight}
+use Rattle.transfer_ring.specs.declared.transfer.Transfer.TheVariants as flights
+
+-- all tokens of a read have a page's bytes
+abbrev pub AreWholePages : List Inbound → Type 0
+AreWholePages [] = Unit {0}
+AreWholePages (x ∷ xs) = (length x.token.bytes ≡ 1024) × AreWholePages xs
+
+abbrev pub IsWholeFlight : Flight → Type 0
+IsWholeFlight (flights.Read demanded parts) = AreWholePages parts.items
+IsWholeFlight (flights.Write parts) = Unit {0}
+
+-- what the machine reads from beside the swap area: its images by name, and the files, where they are told
+pub record Sources : Type 0 where
+  pub images : List ImageNamed
+  pub files : Option (List NamedFile)
+
+-- where the files and the swap image are told, these are the bytes that stand where the oldest transfer reads
+abbrev pub ReadsTold : Sources → Option (List ℕ) → Kernel → List (List ℕ) → Type 0
+ReadsTold from None k read = Unit {0}
+ReadsTold from (Some image) k read =
+    (images : List NamedImage) (flat : FlatState) → AreImages from.images from.files images → AreRead (beside_kernel k images image flat) k.place.transfers read
+
+-- the oldest transfer is complete; of a read, with the bytes that were read, which are those of the files and the swap image
+pub record IsDone (from : Sources) (before : Option (List ℕ)) (old new : Kernel) : Type 0 where
+  pub some : 0 < length old.place.transfers
+  pub read : List (List ℕ)
+  pub step : new ≡ done_step old read
+  pub told : ReadsTold from before old read
+
+-- those of a machine, with these files
+abbrev pub sources : Standing → Option (List NamedFile) → Sources
+sources m holds = record { images = m.images; files = holds }
+
+-- the machine stands for the flat state, with a swap image that is told
+abbrev pub StandsTold : Kernel → List NamedImage → Option (List ℕ) → FlatState → Type 0
+StandsTold k images None flat = ⊥
+StandsTold k images (Some image) flat = Coupled k images image flat
+
+-- with the images that the files have, the machine still stands for the flat states that it stood for; a told image stays told
+abbrev pub KeepsThrough : Standing → Standing → Option (List NamedFile) → Option (List ℕ) → Option (List ℕ) → Type 0
+KeepsThrough old new holds before after =
+    (images : List NamedImage) (flat : FlatState) → AreImages old.images holds images → TextFits images old.kernel.place → StandsTold old.kernel images before flat → StandsTold new.kernel images after flat
+
+-- the swap image, where it is told, after the oldest transfer
+abbrev pub ImageAfter : Kernel → Option (List ℕ) → Option (List ℕ) → Type 0
+ImageAfter k None after = after ≡ None
+ImageAfter k (Some image) after = after ≡ Some (image_after k image)
+
+-- some pages of a write are in their blocks, and one page's blocks have any bytes
+abbrev pub SpoilsAll : Kernel → List ℕ → List Part → List ℕ → Type 0
+SpoilsAll k image [] after = ⊥
+SpoilsAll k image (x ∷ xs) after =
+    ((bytes : List ℕ) × (length bytes ≡ 1024) × (after ≡ store_at image (block_of k.holdings x.page) bytes))
+    ⊎ SpoilsAll k (store_at image (block_of k.holdings x.page) (frame_bytes k x.frame)) xs after
+
+abbrev pub SpoilsBy : Kernel → List ℕ → List Transfer → List ℕ → Type 0
+SpoilsBy k image [] after = ⊥
+SpoilsBy k image (t ∷ ts) after = (t.errand ≡ Writes) × SpoilsAll k image t.parts after
+
+abbrev pub SpoilsAfter : Kernel → Option (List ℕ) → Option (List ℕ) → Type 0
+SpoilsAfter k None after = after ≡ None
+SpoilsAfter k (Some image) after = (spoiled : List ℕ) × (after ≡ Some spoiled) × SpoilsBy k image k.place.transfers spoiled
+
+-- the counts of faults over a call: each rises with its own fault, and stays in every other case
+abbrev pub CountsPages : {A : Type 0} → Result A Stop → ℕ → ℕ → Type 0
+CountsPages (Err stops.FileFault) old new = Rose old new
+CountsPages _ old new = new ≡ old
+
+abbrev pub CountsReads : {A : Type 0} → Result A Stop → ℕ → ℕ → Type 0
+CountsReads (Err stops.SwapReadFault) old new = Rose old new
+CountsReads _ old new = new ≡ old
+
+abbrev pub CountsWrites : {A : Type 0} → Result A Stop → ℕ → ℕ → Type 0
+CountsWrites (Err stops.SwapWriteFault) old new = Rose old new
+CountsWrites _ old new = new ≡ old
+
+-- what the oldest transfer is for
+abbrev pub IsReadFrom : Source → Errand → Type 0
+IsReadFrom source Writes = ⊥
+IsReadFrom source (Reads from demanded) = from ≡ source
+
+abbrev pub OldestReadsFrom : Source → List Transfer → Type 0
+OldestReadsFrom source [] = ⊥
+OldestReadsFrom source (t ∷ ts) = IsReadFrom source t.errand
+
+abbrev pub OldestWrites : List Transfer → Type 0
+OldestWrites [] = ⊥
+OldestWrites (t ∷ ts) = t.errand ≡ Writes
+
+-- why a call stopped
+abbrev pub StopsFor : Result Bool Stop → List Transfer → Type 0
+StopsFor (Ok b) ts = Unit {0}
+StopsFor (Err stops.NoMemory) ts = 0 < length ts
+StopsFor (Err stops.JournalFull) ts = 0 < length ts
+StopsFor (Err stops.FileFault) ts = OldestReadsFrom FromFile ts
+StopsFor (Err stops.SwapReadFault) ts = OldestReadsFrom FromSwap ts
+StopsFor (Err stops.SwapWriteFault) ts = OldestWrites ts
+
+-- the swap image behind a call that stopped: only a write that failed changes it
+abbrev pub SwapAfter : Result Bool Stop → Kernel → Option (List ℕ) → Option (List ℕ) → Type 0
+SwapAfter (Err stops.SwapWriteFault) k before after = SpoilsAfter k before after
+SwapAfter _ k before after = after ≡ before
+
+-- The end of the oldest transfer stops the machine, in which no pieces wait: the journal was full exactly where it was at its
+-- bound, a fault comes of a transfer of its own kind, and only a write that failed changes the swap image.
+pub record StopsEnding (old new : Standing) (before after : Option (List ℕ)) (stop : Stop) : Type 0 where
+  pub stopped : HasStopped old new
+  pub whole : old.before ≡ old.kernel.holdings
+  pub full : (stop ≡ stops.JournalFull) ↔ ((0 < length old.kernel.place.transfers) × (old.params.journal ≤ length old.kernel.journal))
+  pub cause : let r : Result Bool Stop = Err stop in StopsFor r old.kernel.place.transfers
+  pub image : let r : Result Bool Stop = Err stop in SwapAfter r old.kernel before after

@@ -1,0 +1,20 @@
+//! The tables of the kernel, and what moves them alone: records of processes, spaces that come, frames that are taken.
+#![tactic(auto)]
+
+mod entering;
+mod families;
+mod fill;
+mod forking;
+mod named;
+mod places;
+mod processes;
+mod spaces;
+mod tables;
+mod u_pages;
+
+pub use fill::{DueFill, fill_frame};
+pub use named::Named;
+pub use processes::record_of;
+pub use spaces::Spaces;
+pub use tables::{Tables, beside, number_of, owner_of};
+pub use u_pages::{regs_in, u_page};

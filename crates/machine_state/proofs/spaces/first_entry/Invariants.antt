@@ -1,6 +1,0 @@
-use Rattle.std.proofs.Common.{◌≡◌, drop}
-use Rattle.machine_state.specs.Shown.{entry_in}
-use Rattle.machine_state.proofs.spaces.first_entry.Given as goal
-
-abbrev pub invariant-loop-space : goal.invariant-loop-space
-invariant-loop-space l = entry_in l.maps l.page ≡ entry_in (drop l.space-index l.maps) l.page

@@ -1,6 +1,0 @@
-use Rattle.std.proofs.Common.{◌≡◌, drop}
-use Rattle.machine_state.specs.Gone.{sharing}
-use Rattle.machine_state.proofs.spaces.text_pages.Given as goal
-
-abbrev pub invariant-loop-space : goal.invariant-loop-space
-invariant-loop-space l = sharing l.maps l.image ≡ sharing (drop l.space-index l.maps) l.image

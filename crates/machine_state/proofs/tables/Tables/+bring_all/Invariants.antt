@@ -1,4 +1,0 @@
-use Rattle.machine_state.proofs.tables.Tables.+bring_all.Given as goal
-
-abbrev pub decreases-bring_all : goal.decreases-bring_all
-decreases-bring_all l = l.n

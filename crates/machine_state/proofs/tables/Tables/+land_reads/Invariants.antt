@@ -1,5 +1,0 @@
-use Rattle.std.proofs.Common.{length}
-use Rattle.machine_state.proofs.tables.Tables.+land_reads.Given as goal
-
-abbrev pub decreases-land_reads : goal.decreases-land_reads
-decreases-land_reads l = length l.parts.now.items

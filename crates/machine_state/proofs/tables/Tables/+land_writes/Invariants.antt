@@ -1,5 +1,0 @@
-use Rattle.std.proofs.Common.{length}
-use Rattle.machine_state.proofs.tables.Tables.+land_writes.Given as goal
-
-abbrev pub decreases-land_writes : goal.decreases-land_writes
-decreases-land_writes l = length l.parts.now.items

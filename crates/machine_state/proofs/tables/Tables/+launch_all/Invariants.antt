@@ -1,4 +1,0 @@
-use Rattle.machine_state.proofs.tables.Tables.+launch_all.Given as goal
-
-abbrev pub decreases-launch_all : goal.decreases-launch_all
-decreases-launch_all l = l.n

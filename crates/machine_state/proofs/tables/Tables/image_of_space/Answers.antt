@@ -1,9 +1,0 @@
-use Rattle.std.proofs.Common.{sym, arith}
-use Rattle.machine_state.proofs.Settles.{found_image, lost_image}
-use Rattle.machine_state.proofs.tables.Tables.image_of_space.Goals as goal
-
-pub returns : goal.returns
-returns c = sym (found_image c.args.self.now c.args.sid c.in-Some.image (sym c.in-Some.ensures))
-
-pub unreachable-requires : goal.unreachable-requires
-unreachable-requires c = let e = lost_image c.args.self.now c.args.sid (sym c.in-None.ensures) in omega (arith, c.requires)

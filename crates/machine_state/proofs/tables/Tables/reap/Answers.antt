@@ -1,9 +1,0 @@
-use Rattle.std.proofs.Common.{refl}
-use Rattle.machine_state.specs.declared.tables.Tables.{Tables}
-use Rattle.machine_state.proofs.Lineage.{has_reaped}
-use Rattle.machine_state.proofs.tables.Tables.reap.Goals as goal
-
-pub returns : goal.returns
-returns c =
-    let u : Tables = record c.args.self.now { processes = c.take_out.new.processes } in
-    has_reaped c.args.self.now u c.args.child c.requires.records c.requires.ended c.take_out.ensures.record c.take_out.ensures.sound refl

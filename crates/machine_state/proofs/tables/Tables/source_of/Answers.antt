@@ -1,6 +1,0 @@
-use Rattle.std.proofs.Common.{sym}
-use Rattle.machine_state.proofs.Sources.{own_place}
-use Rattle.machine_state.proofs.tables.Tables.source_of.Goals as goal
-
-pub returns-else-from_file-clause-own : goal.returns-else-from_file-clause-own
-returns-else-from_file-clause-own c = own_place c.args.self.now.book.size c.args.self.now.book.holdings c.args.page c.block_of.result c.requires.book (sym c.block_of.ensures)

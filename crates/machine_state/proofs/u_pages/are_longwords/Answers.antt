@@ -1,6 +1,0 @@
-use Rattle.std.proofs.Common.{arith}
-use Rattle.machine_state.proofs.UPages.{longwords_each}
-use Rattle.machine_state.proofs.u_pages.are_longwords.Goals as goal
-
-pub returns : goal.returns
-returns c = longwords_each c.args.words.now (λ k b. let fits = c.type_inv.words k in omega arith)

@@ -1,0 +1,66 @@
+use Rattle.std.proofs.Common.{IsTrue, Option, refl, sym, ap, subst, arith}
+use Rattle.vax_pte.specs.declared.Place.{Place}
+use Rattle.core_map.specs.declared.slot.Slot.{Slot as Token}
+use Rattle.core_map.specs.Slots.{is_resident, page_of}
+use Rattle.flat_state.specs.PageNames.{pages_from}
+use Rattle.page_model.specs.Moves.{retire}
+use Rattle.kernel_tables.specs.declared.tables.Tables.{Tables}
+use Rattle.kernel_tables.specs.Shown.{is_frame, entry_in, frame_named}
+use Rattle.kernel_tables.specs.View.{placement_of}
+use Rattle.kernel_tables.specs.Machine.{lists_of}
+use Rattle.kernel_tables.specs.Launches.{put_out, MayRetire, MayWrite}
+use Rattle.table_steps.proofs.Retiring.{retire_moves}
+use Rattle.table_steps.proofs.Puttings.{put_none, may_write, may_retire, moved_as, seats_blocks, seat_named}
+use Rattle.table_steps.proofs.launching.put_out.Goals as goal
+
+pub write_run-requires-clause-blocks : goal.write_run-requires-clause-blocks
+write_run-requires-clause-blocks c =
+    let t : Tables = c.args.tables.now in
+    let may : MayWrite (placement_of (lists_of t)) c.args.page c.args.lo c.args.n = may_write (placement_of (lists_of t)) c.args.page c.args.lo c.args.n (omega arith) c.requires.may in
+    seats_blocks (lists_of t) t.book.holdings (pages_from c.args.page c.args.lo c.args.n) c.requires.known c.requires.blocks may.seats
+
+pub retire-requires-clause-frame : goal.retire-requires-clause-frame
+retire-requires-clause-frame c =
+    let t : Tables = c.args.tables.now in
+    let may : MayRetire (placement_of (lists_of t)) c.args.page = may_retire (placement_of (lists_of t)) c.args.page c.args.lo c.args.n (omega arith) c.requires.may in
+    let r = seat_named (lists_of t) c.args.page c.requires.known may.seat in
+    subst (λ (o : Option Place). IsTrue (is_frame o)) (sym r.entry) refl
+
+pub retire-requires-clause-resident : goal.retire-requires-clause-resident
+retire-requires-clause-resident c =
+    let t : Tables = c.args.tables.now in
+    let may : MayRetire (placement_of (lists_of t)) c.args.page = may_retire (placement_of (lists_of t)) c.args.page c.args.lo c.args.n (omega arith) c.requires.may in
+    let r = seat_named (lists_of t) c.args.page c.requires.known may.seat in
+    subst (λ (s : Token). IsTrue (is_resident s)) (sym r.slot) refl
+
+pub retire-requires-clause-holds : goal.retire-requires-clause-holds
+retire-requires-clause-holds c =
+    let t : Tables = c.args.tables.now in
+    let may : MayRetire (placement_of (lists_of t)) c.args.page = may_retire (placement_of (lists_of t)) c.args.page c.args.lo c.args.n (omega arith) c.requires.may in
+    let r = seat_named (lists_of t) c.args.page c.requires.known may.seat in
+    ap page_of r.slot
+
+pub retire-requires-clause-above : goal.retire-requires-clause-above
+retire-requires-clause-above c =
+    let t : Tables = c.args.tables.now in
+    let may : MayRetire (placement_of (lists_of t)) c.args.page = may_retire (placement_of (lists_of t)) c.args.page c.args.lo c.args.n (omega arith) c.requires.may in
+    let r = seat_named (lists_of t) c.args.page c.requires.known may.seat in
+    let a = r.above in
+    omega (arith, a)
+
+pub retire-requires-clause-small : goal.retire-requires-clause-small
+retire-requires-clause-small c =
+    let t : Tables = c.args.tables.now in
+    let may : MayRetire (placement_of (lists_of t)) c.args.page = may_retire (placement_of (lists_of t)) c.args.page c.args.lo c.args.n (omega arith) c.requires.may in
+    let r = seat_named (lists_of t) c.args.page c.requires.known may.seat in
+    let a = r.below in
+    let b = c.requires.known.tied.few_frames in
+    omega (arith, a, b)
+
+pub returns-else-n-gt0 : goal.returns-else-n-gt0
+returns-else-n-gt0 c =
+    let t : Tables = c.args.tables.now in
+    let may : MayRetire (placement_of (lists_of t)) c.args.page = may_retire (placement_of (lists_of t)) c.args.page c.args.lo c.args.n (omega arith) c.requires.may in
+    let r = seat_named (lists_of t) c.args.page c.requires.known may.seat in
+    moved_as t c.retire.new.tables (retire (placement_of (lists_of t)) c.args.page) (put_out (placement_of (lists_of t)) c.args.page c.args.lo c.args.n) (sym (put_none (placement_of (lists_of t)) c.args.page c.args.lo c.args.n (omega arith)))
+    (retire_moves t c.retire.new.tables c.args.page (frame_named (entry_in t.spaces c.args.page)) c.requires.known r may.clean c.retire.ensures)

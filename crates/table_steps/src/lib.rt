@@ -1,0 +1,12 @@
+//! What the entries of a journal make of the tables of the kernel: pages that are read, land, are written and go, the
+//! moves of the hands, and the change of a process; and the journal's room for them.
+#![tactic(auto)]
+
+pub mod applying;
+pub mod dropping;
+pub mod giving_up;
+pub mod joining;
+pub mod landing;
+pub mod launching;
+pub mod notes;
+pub mod reading;
