@@ -1,0 +1,7 @@
+//! Tests of the outside: files, swap devices and outputs, in memory and over the system. There is no code here but tests.
+#![tactic(auto)]
+
+#[cfg(test)]
+mod memory;
+#[cfg(test)]
+mod system;
