@@ -1,0 +1,94 @@
+// Page frames, and the map of them: that the calls that take memory succeed, and what becomes of a page's bytes.
+use core_map::{CoreMap, Whose};
+use frame_state::Free;
+use std::test::Fail;
+use vm_facts::{Bytes, Page};
+
+#[test]
+fn the_bytes_of_a_vector_are_lent(rt: HostRuntime) -> Result<(), Fail> {
+    let bytes = Bytes::from_vec([104, 105].to_vec(rt.alloc())?);
+    assert_eq!(rt; bytes.as_slice(), "hi".as_bytes());
+    Ok(())
+}
+
+#[test]
+fn a_page_is_read_changed_written_and_found_again(rt: HostRuntime) {
+    let free = Free::make(rt.alloc(), 7).expect(&rt, "memory for a frame");
+    let mut filling = free.begin_fill();
+    filling.bytes_mut()[5] = 1;
+    let mut resident = filling.filled();
+    resident.bytes_mut()[6] = 2;
+    let cleaning = resident.begin_clean();
+    assert_eq!(rt;
+        (cleaning.number(), cleaning.bytes()[5], cleaning.bytes()[6]),
+        (7, 1, 2)
+    );
+    let again = cleaning.failed().release().reclaim();
+    assert_eq!(rt;
+        (again.number(), again.bytes()[5], again.bytes()[6]),
+        (7, 1, 2)
+    );
+    let clean = again.begin_clean().cleaned().zeroed();
+    assert_eq!(rt;
+        (clean.number(), clean.bytes()[5], clean.bytes()[1023]),
+        (7, 0, 0)
+    );
+    clean.release().begin_fill().failed().retire();
+}
+
+const TEXT: Page = Page::Text { image: 1, v: 7 };
+
+#[test]
+fn a_new_map_has_all_frames_free(rt: HostRuntime) {
+    let map = CoreMap::new(rt.alloc(), 2).expect(&rt, "memory for two frames");
+    assert_eq!(rt; (map.frames(), map.free_frames()), (2, 2));
+    assert_eq!(rt; map.owner(2), Whose::Free(None));
+    assert_eq!(rt; map.owner(3), Whose::Away);
+    map.close();
+}
+
+#[test]
+fn a_freed_text_page_is_found_and_reclaimed(rt: HostRuntime) {
+    let mut map = CoreMap::new(rt.alloc(), 3).expect(&rt, "memory for three frames");
+    assert_eq!(rt; map.find_text(1, 7), None);
+    let (token, _page) = map.take_free().expect(&rt, "a free frame");
+    assert_eq!(rt; token.number(), 1);
+    map.seat(token.zeroed(), TEXT);
+
+    // It is changed, and freed.
+    assert_eq!(rt; map.owner(1), Whose::Resident(TEXT));
+    map.put_byte(1, 3, 9);
+    map.set_dirty(1, true);
+    assert_eq!(rt; (map.bytes(1)[3], map.is_dirty(1)), (9, true));
+    let token = map.lift(1);
+    map.give_tail(token.release(), TEXT);
+    assert_eq!(rt; map.find_text(1, 7), Some(1));
+    assert_eq!(rt; map.find_text(2, 7), None);
+
+    // It comes back with its bytes, and is unchanged from there on.
+    assert_eq!(rt; map.owner(1), Whose::Free(Some(TEXT)));
+    let token = map.reclaim(1);
+    map.seat(token, TEXT);
+    assert_eq!(rt; map.owner(1), Whose::Resident(TEXT));
+    assert_eq!(rt; (map.bytes(1)[3], map.is_dirty(1)), (9, false));
+    assert_eq!(rt; map.free_frames(), 2);
+    map.close();
+}
+
+#[test]
+fn a_forgotten_frame_is_taken_first(rt: HostRuntime) {
+    let mut map = CoreMap::new(rt.alloc(), 3).expect(&rt, "memory for three frames");
+    assert_eq!(rt; map.find_text(1, 7), None);
+    let (token, _page) = map.take_free().expect(&rt, "a free frame");
+    assert_eq!(rt; token.number(), 1);
+    map.give_tail(token, TEXT);
+    assert_eq!(rt; map.find_text(1, 7), Some(1));
+    assert_eq!(rt; map.owner(1), Whose::Free(Some(TEXT)));
+    map.forget(1);
+    assert_eq!(rt; map.find_text(1, 7), None);
+    let (token, page) = map.take_free().expect(&rt, "a free frame");
+    assert_eq!(rt; (token.number(), page), (1, None));
+    map.give_head(token);
+    assert_eq!(rt; map.free_frames(), 3);
+    map.close();
+}
