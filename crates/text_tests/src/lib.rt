@@ -1,0 +1,18 @@
+//! Tests of texts and answers: schedules, transcripts, command lines, files, references and loads. There is no code here but
+//! tests.
+#![tactic(auto)]
+
+#[cfg(test)]
+mod examples;
+#[cfg(test)]
+mod files;
+#[cfg(test)]
+mod flat;
+#[cfg(test)]
+mod loads;
+#[cfg(test)]
+mod references;
+#[cfg(test)]
+mod texts;
+#[cfg(test)]
+mod words;

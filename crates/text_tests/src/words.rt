@@ -1,0 +1,106 @@
+// The words of worked command lines.
+use command_words::{Command, Numbers, read_words};
+use std::test::Fail;
+
+#[test]
+fn a_run_has_its_option_its_numbers_and_its_names(rt: HostRuntime) -> Result<(), Fail> {
+    let words = ["run", "64", "--trace", "256", "100", "s", "hi", "=v"];
+    let Some(
+        Command::Run {
+            traced,
+            numbers,
+            schedule,
+            images,
+        },
+    ) = read_words(&words)
+    else {
+        return Err("bad words".into());
+    };
+    let wanted = Numbers {
+        frames: 64,
+        swap: 256,
+        limit: 100,
+    };
+    assert!(rt; traced);
+    assert_eq!(rt; numbers, wanted);
+    assert_eq!(rt; schedule, "s");
+    assert_eq!(rt;
+        images.to_vec(rt.alloc())?.as_slice(),
+        ["hi", "=v"].as_slice()
+    );
+    assert!(rt;
+        matches!(
+            read_words(&["load", "07"]),
+            Some(Command::Load { number: 7 })
+        )
+    );
+    Ok(())
+}
+
+// Command lines that are good; one space parts two words.
+const GOOD: [&'static str; 15] = [
+    // The option stands at any place behind the first word, but once.
+    "run --trace 64 256 100 s hi",
+    "run 64 256 100 s a --trace b",
+    "run 64 256 100 s hi --trace",
+    // Numbers in their ranges.
+    "run 00000064 256 1000000 s hi",
+    "curve 4096 131072 100000 s hi",
+    "opt 4096 64 256 100000 s hi",
+    "owners 0 64 256 1000000 s hi",
+    "owners 16777216 64 256 100 s hi",
+    // Names of files.
+    "as xxxxxxxxxxxxxxxxxxxxxxxxxxxxxxxxxxxxxxxxxxxxxxxxxxxxxxxxxxxxxxx",
+    "dis hi",
+    "replay t hi =-x",
+    // Sixteen images.
+    "replay t 1 2 3 4 5 6 7 8 9 10 11 12 13 14 15 16",
+    "load 07",
+    "load 9999",
+    "curve 64 256 100 s hi",
+];
+
+const BAD: [&'static str; 27] = [
+    "",
+    "--trace run 64 256 100 s hi",
+    "run --trace 64 --trace 256 100 s hi",
+    "run -- 64 256 100 s hi",
+    "curve --trace 64 256 100 s hi",
+    "run 000000064 256 100 s hi",
+    "run 63 256 100 s hi",
+    "run 64 256 0 s hi",
+    "run +64 256 100 s hi",
+    "curve 64 256 100001 s hi",
+    "opt 0 64 256 100 s hi",
+    "opt 1 64 256 100001 s hi",
+    "owners 16777217 64 256 100 s hi",
+    "owners 64 256 100 s hi",
+    "load 10000",
+    "load",
+    "as xxxxxxxxxxxxxxxxxxxxxxxxxxxxxxxxxxxxxxxxxxxxxxxxxxxxxxxxxxxxxxxx",
+    "as ",
+    "dis =hi",
+    "dis hi hi",
+    "replay t hi -x",
+    "replay t hi =",
+    "replay t =hi =v",
+    "replay t",
+    "replay t 1 2 3 4 5 6 7 8 9 10 11 12 13 14 15 16 17",
+    "as",
+    "run",
+];
+
+#[test]
+fn words_ask_for_a_command_or_for_none(rt: HostRuntime) -> Result<(), Fail> {
+    assert!(rt; read_words(&[]).is_none());
+    for (lines, good) in [(GOOD.as_slice(), true), (BAD.as_slice(), false)] {
+        for line in lines {
+            let mut words = Vec::new(rt.alloc());
+            for word in line.split(' ') {
+                words.push(word)?;
+            }
+            assert_eq!(rt; read_words(words.as_slice()).is_some(), good, "{line}");
+        }
+    }
+    Ok(())
+}
