@@ -7,4 +7,6 @@ mod calls;
 #[cfg(test)]
 mod machine;
 #[cfg(test)]
+mod owners;
+#[cfg(test)]
 mod paging;

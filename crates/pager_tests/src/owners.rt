@@ -1,0 +1,69 @@
+// The text of a machine in which one process began: its lines against what the sizes of the pieces say.
+ghost use Rattle.std.specs.Prelude.{◌≡◌, false, map, length, IfOk};
+ghost use Rattle.machine_state.specs.Machine.{image_shown};
+ghost use Rattle.machine_state.specs.New.{AreSound};
+ghost use Rattle.machine_state.specs.Sourced.{AreNames};
+
+use aout_image::{Image, Kind};
+use io_edge::{MemSink, Moved};
+use machine_state::{Machine, Named};
+use owner_lines::write_owners;
+use std::alloc::{AllocError, Global};
+use std::process::Abort;
+use std::test::Fail;
+use vm_facts::Params;
+
+// One image, of a page of text and a page of data.
+fn one_image(alloc: Global) -> Result<Vec<Named>, AllocError>
+    ensures one { IfOk result (λ images. length images.items ≡ 1) }
+    ensures sound { IfOk result (λ images. AreSound (map (λ image. image.facts) images.items)) }
+    ensures names { IfOk result (λ images. AreNames (map image_shown images.items)) }
+{
+    let mut images = Vec::new(alloc);
+    images.push(Named {
+        name: String::from_str(alloc, "first")?,
+        file: 0,
+        facts: Image {
+            kind: Kind::Shared,
+            text_len: 1000,
+            data_len: 100,
+            bss_len: 0,
+            entry: 0,
+        },
+    })?;
+    Ok(images)
+}
+
+// A machine of 4 frames and 70 blocks, in which a process of that image began.
+fn begun(rt: &impl Abort, alloc: Global) -> Machine
+    ensures { result.kernel.stopped ≡ false }
+{
+    let params = Params {
+        frames: 4,
+        swap_blocks: 70,
+        limit: 1,
+        journal: 1,
+    };
+    let images = one_image(alloc).expect(rt, "memory for an image");
+    let mut machine = Machine::new(alloc, params, images).expect(rt, "memory for the tables");
+    let began = machine.begin(1, 1).expect(rt, "memory for a process");
+    assert!(rt; began);
+    machine
+}
+
+// The four frames are free, the stack page is due, and the pieces of text, data, stack and u page lie one behind the other.
+const LINES: &[u8] =
+    b"entries 0 end\nhands 2 1\nframe 1 free 1\nframe 2 free 2\nframe 3 free 3\nframe 4 free 4\nprocess 1 in 1\ndue s 1 0\nswap 0 2 x 1\nswap 2 32 d 1\nswap 34 32 s 1\nswap 66 2 u 1\nswap 68 2 free\n";
+
+#[test]
+fn the_lines_of_a_machine_with_a_process_that_began(rt: HostRuntime) -> Result<(), Fail> {
+    let Ok(mut sink) = MemSink::new(rt.alloc(), 400, Vec::new(rt.alloc())) else {
+        return Err(Fail::from("no memory"));
+    };
+    let machine = begun(&rt, rt.alloc());
+    let moved = write_owners(&mut sink, &machine, true);
+    machine.end();
+    assert_eq!(rt; moved, Moved::Done);
+    assert_eq!(rt; sink.written(), LINES);
+    Ok(())
+}
