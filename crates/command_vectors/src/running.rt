@@ -1,0 +1,172 @@
+// One run: what is asked, what is wanted, and what came.
+use crate::bad::Bad;
+use crate::devices::{Lie, LyingSwap};
+use io_edge::{MemFiles, MemSink, MemSwap, SwapDev};
+use std::alloc::{AllocError, Global};
+use vm_run::{explain, vmrun};
+
+/// The room of the output.
+const ROOM: usize = 65_536;
+
+/// What is asked of a run, and what is wanted.
+#[derive(Drop)]
+pub struct Asked {
+    words: String,
+    // The blocks of both devices.
+    zero: u32,
+    one: u32,
+    lie: Lie,
+
+    // The numbers of the calls that fail: of the files, of device 0 and of the output.
+    fail_files: Vec<u64>,
+    fail_reads: Vec<u64>,
+    fail_writes: Vec<u64>,
+    fail_output: Vec<u64>,
+
+    // What is to be written, and to be told beside.
+    pub wanted: Vec<u8>,
+    told: Vec<u8>,
+}
+
+fn push_line(bytes: &mut Vec<u8>, line: &str) -> Result<(), AllocError> {
+    bytes.extend_from_slice(line.as_bytes())?;
+    bytes.push(b'\n')?;
+    Ok(())
+}
+
+impl Asked {
+    pub fn new(alloc: Global) -> Asked {
+        Asked {
+            words: String::new(alloc),
+            zero: 1_024,
+            one: 6,
+            lie: Lie::Nothing,
+            fail_files: Vec::new(alloc),
+            fail_reads: Vec::new(alloc),
+            fail_writes: Vec::new(alloc),
+            fail_output: Vec::new(alloc),
+            wanted: Vec::new(alloc),
+            told: Vec::new(alloc),
+        }
+    }
+
+    /// The next run of the case has words and texts of its own.
+    pub fn clear(&mut self) {
+        self.words.clear();
+        self.wanted.clear();
+        self.told.clear();
+    }
+
+    // A call of this kind fails.
+    fn fail(&mut self, words: &str) -> Result<(), Bad> {
+        let (kind, number) = words.split_once(' ').ok_or(Bad::Line)?;
+        let number = number.parse::<u64>()?;
+        match kind {
+            "file" => self.fail_files.push(number)?,
+            "read" => self.fail_reads.push(number)?,
+            "write" => self.fail_writes.push(number)?,
+            "output" => self.fail_output.push(number)?,
+            _ => return Err(Bad::Line),
+        }
+        Ok(())
+    }
+
+    /// Takes a line that tells of the devices, the faults, the words or the texts; answers whether it was one.
+    pub fn take(&mut self, first: &str, rest: &str) -> Result<bool, Bad> {
+        match first {
+            "blocks" => {
+                let (zero, one) = rest.split_once(' ').ok_or(Bad::Line)?;
+                self.zero = zero.parse::<u32>()?;
+                self.one = one.parse::<u32>()?;
+            }
+            "lie" if rest == "first" => self.lie = Lie::FirstByte,
+            "lie" => self.lie = Lie::Byte20(rest.parse::<u32>()?),
+            "fail" => self.fail(rest)?,
+            "vmrun" => self.words.push_str(rest)?,
+            "|" => push_line(&mut self.wanted, rest)?,
+            "told" => push_line(&mut self.told, rest)?,
+            _ => return Ok(false),
+        }
+        Ok(true)
+    }
+}
+
+// The files in memory, the last one first, since the first of a name is found.
+fn files_of(alloc: Global, files: &[(String, Vec<u8>)], fail: &[u64]) -> Result<MemFiles, Bad> {
+    let mut held = Vec::new(alloc);
+    for (name, bytes) in files.iter().rev() {
+        held.push((
+            name.to_string(alloc)?,
+            Vec::from_slice(alloc, bytes.as_slice())?,
+        ))?;
+    }
+    if held.len() > 1_000 {
+        return Err(Bad::File);
+    }
+    Ok(MemFiles::new(held, Vec::from_slice(alloc, fail)?))
+}
+
+// Bytes as a text.
+fn shown(bytes: &[u8]) -> &str {
+    str::from_utf8(bytes).unwrap_or("bytes that are no text\n")
+}
+
+// Runs the words over a device 0, and tells what differs.
+fn over<D: SwapDev>(
+    alloc: Global,
+    files: &[(String, Vec<u8>)],
+    asked: &Asked,
+    status: u8,
+    zero: &mut D,
+) -> Result<String, Bad> {
+    let mut words = Vec::new(alloc);
+    for word in asked.words.split(' ') {
+        words.push(word)?;
+    }
+    let mut held = files_of(alloc, files, asked.fail_files.as_slice())?;
+    let mut one = MemSwap::new(alloc, asked.one, Vec::new(alloc), Vec::new(alloc))?;
+    let fail_output = Vec::from_slice(alloc, asked.fail_output.as_slice())?;
+    let mut sink = MemSink::new(alloc, ROOM, fail_output)?;
+    let given = vmrun(
+        alloc,
+        words.as_slice(),
+        &mut held,
+        zero,
+        &mut one,
+        &mut sink,
+    );
+    let told = match explain(alloc, words.as_slice(), &mut held, given) {
+        Ok(told) => told.unwrap_or(Vec::new(alloc)),
+        Err(_) => Vec::new(alloc),
+    };
+    if given == status
+        && sink.written() == asked.wanted.as_slice()
+        && told.as_slice() == asked.told.as_slice()
+    {
+        return Ok(String::new(alloc));
+    }
+    let words = asked.words.as_str();
+    let (text, told) = (shown(sink.written()), shown(told.as_slice()));
+    Ok(format!(in alloc; "vmrun {words}\n{text}{told}status {given}\n")?)
+}
+
+/// Runs the words, and tells what came of it; nothing where it is as wanted.
+pub fn difference(
+    alloc: Global,
+    files: &[(String, Vec<u8>)],
+    asked: &Asked,
+    status: u8,
+) -> Result<String, Bad> {
+    match asked.lie {
+        Lie::Nothing => {
+            let fail_reads = Vec::from_slice(alloc, asked.fail_reads.as_slice())?;
+            let fail_writes = Vec::from_slice(alloc, asked.fail_writes.as_slice())?;
+            let mut zero = MemSwap::new(alloc, asked.zero, fail_reads, fail_writes)?;
+            over(alloc, files, asked, status, &mut zero)
+        }
+        lie => {
+            let mut zero = LyingSwap::new(alloc, asked.zero, lie)?;
+            over(alloc, files, asked, status, &mut zero)
+        }
+    }
+}
