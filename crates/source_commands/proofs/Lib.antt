@@ -4,3 +4,4 @@ pub mod Padding
 pub mod Limits
 pub mod Makings
 pub mod Programs
+pub mod Lacking

@@ -1,5 +1,5 @@
 -- Why a source is bad, as a line of text.
-use Rattle.std.specs.Prelude.{◌≡◌, ℕ, List, [], ◌∷◌, ◌++◌, codes, decimal, Option, Some, None, Ok}
+use Rattle.std.specs.Prelude.{◌≡◌, ℕ, List, [], ◌∷◌, ◌++◌, codes, decimal, Option, Some, None, Ok, Err}
 use Rattle.io_edge.specs.FileHolding.{NamedFile}
 use Rattle.vax_asm.specs.Values.{label_name}
 use Rattle.vax_asm.specs.Reasons.{ExplainsAs}
@@ -7,6 +7,8 @@ use Rattle.asm_grammar.specs.declared.syntax.Label.{Label}
 use Rattle.vax_asm.specs.declared.answers.Reason.{Reason}
 use Rattle.vax_asm.specs.declared.answers.Reason.TheVariants.{NoLineFeed, TooManyLines, LineTooLong, NotStatement, LabelTwice, UnknownLabel, ValueOutOfRange, BranchOutOfRange, OperandRefused, SecondBss, ProgramTooLong}
 use Rattle.vax_asm.specs.declared.answers.BadLine.{BadLine}
+use Rattle.run_files.specs.declared.answers.Unread.{Unread}
+use Rattle.run_files.specs.declared.answers.Unread.TheVariants.{Absent, NotImage, FileFault, NoMemory}
 use Rattle.run_files.specs.Told.{bytes_told}
 use Rattle.source_commands.specs.Command.{source_bytes}
 
@@ -40,3 +42,10 @@ pub record ExplainsSource (name : List ℕ) (holds : Option (List NamedFile)) (t
   pub source : List ℕ
   pub is_told : (files : List NamedFile) → holds ≡ Some files → Ok source ≡ bytes_told files name source_bytes
   pub explained : Explained source text
+
+-- no reason is told: there is no source of this name, or a file failed, or memory was refused
+abbrev pub LacksSource : List ℕ → Option (List NamedFile) → Unread → Type 0
+LacksSource name holds Absent = (files : List NamedFile) → holds ≡ Some files → bytes_told files name source_bytes ≡ Err Absent
+LacksSource name holds (NotImage reason) = ⊥
+LacksSource name holds FileFault = Unit {0}
+LacksSource name holds NoMemory = Unit {0}

@@ -1,7 +1,7 @@
 // Why a source is bad.
 ghost use Rattle.std.specs.Prelude.{◌≡◌, ◌++◌, IfOk, IfErr, OnOk, option_map};
-ghost use Rattle.run_files.specs.Answering.{IsOfAnyFile};
-ghost use Rattle.source_commands.specs.Explaining.{around_label, reason_text, explanation, ExplainsSource};
+ghost use Rattle.run_files.specs.Answering.{CountsFault};
+ghost use Rattle.source_commands.specs.Explaining.{around_label, reason_text, explanation, ExplainsSource, LacksSource};
 
 use crate::source::SOURCE_BYTES;
 use command_ending::put_number;
@@ -56,15 +56,18 @@ fn explanation(alloc: Global, bad: &BadLine) -> Result<Vec<u8>, AllocError>
 
 /// Why `assemble_file` calls the source of this name bad: a line with the number of its lowest bad line and the reason,
 /// as `vmrun: line 3: unknown label loop`. None where the source is a program. The file is read again, and nothing is
-/// written (this project's profile).
+/// written (this project's profile). It is an error where the source isn't there, a file fails, or memory is refused.
+#[tactic(auto, using(crate::proofs::Lacking::lacks_source))]
 pub fn explain_source<F: Files>(
     alloc: Global,
     files: &mut F,
     name: &str,
 ) -> Result<Option<Vec<u8>>, Unread>
     ensures explains { IfOk result (λ text. ExplainsSource name.now (F.holds files.old) (option_map (λ line. line.items) text)) }
-    ensures error { IfErr result IsOfAnyFile }
+    ensures lacks { IfErr result (LacksSource name.now (F.holds files.old)) }
     ensures holds { F.holds files.new ≡ F.holds files.old }
+    ensures open_faults { CountsFault result (F.open_faults files.old) (F.open_faults files.new) }
+    ensures page_faults { F.page_faults files.new ≡ F.page_faults files.old }
 {
     let source = read_file(alloc, files, name, SOURCE_BYTES)?;
     match explain(alloc, source.as_slice()) {
