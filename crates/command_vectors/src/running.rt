@@ -120,8 +120,10 @@ fn over<D: SwapDev>(
     zero: &mut D,
 ) -> Result<String, Bad> {
     let mut words = Vec::new(alloc);
-    for word in asked.words.split(' ') {
-        words.push(word)?;
+    if !asked.words.is_empty() {
+        for word in asked.words.split(' ') {
+            words.push(word)?;
+        }
     }
     let mut held = files_of(alloc, files, asked.fail_files.as_slice())?;
     let mut one = MemSwap::new(alloc, asked.one, Vec::new(alloc), Vec::new(alloc))?;

@@ -40,7 +40,8 @@ commands_text = codes "run, load, opt, curve, owners, replay, as or dis"
 -- a reason in words
 abbrev pub why_text : Why → List ℕ
 why_text NoCommand = codes "no command is named: " ++ commands_text
-why_text (Unknown name) = name ++ codes " is no command: " ++ commands_text
+why_text (Unknown []) = codes "a word is empty"
+why_text (Unknown (byte ∷ bytes)) = byte ∷ bytes ++ codes " is no command: " ++ commands_text
 why_text (NotPlain []) = codes "a word is empty"
 why_text (NotPlain (byte ∷ bytes)) = byte ∷ bytes ++ codes " is no option of this command"
 why_text (Missing argument) = argument_name argument ++ codes " is missing: " ++ kind_text argument

@@ -1,6 +1,6 @@
 // Why words are no command's, as a line of text.
 ghost use Rattle.std.specs.Prelude.{◌≡◌, ◌++◌, map, option_map, IfOk, OnOk};
-ghost use Rattle.command_words.specs.Reasons.{why_of, NotPlain, Missing, Refused};
+ghost use Rattle.command_words.specs.Reasons.{why_of, Unknown, NotPlain, Missing, Refused};
 ghost use Rattle.command_words.specs.Explaining.{argument_name, range_text, kind_text, why_text, why_line, words_explained};
 
 use crate::reasons::{Argument, BadWord, bad_word};
@@ -51,6 +51,19 @@ fn put_kind(text: &mut Vec<u8>, argument: Argument) -> Result<(), AllocError>
     }
 }
 
+// What is said of a word that names no command.
+fn put_unknown(text: &mut Vec<u8>, name: &str) -> Result<(), AllocError>
+    ensures { OnOk result (text.new.items ≡ text.old.items ++ why_text (Unknown name.now)) }
+{
+    if name.is_empty() {
+        text.extend_from_slice(b"a word is empty")
+    } else {
+        text.extend_from_slice(name.as_bytes())?;
+        text.extend_from_slice(b" is no command: ")?;
+        text.extend_from_slice(COMMANDS)
+    }
+}
+
 // What is said of a word that is no option.
 fn put_option(text: &mut Vec<u8>, word: &str) -> Result<(), AllocError>
     ensures { OnOk result (text.new.items ≡ text.old.items ++ why_text (NotPlain word.now)) }
@@ -91,11 +104,7 @@ fn put_why(text: &mut Vec<u8>, bad: BadWord<'_>) -> Result<(), AllocError>
             text.extend_from_slice(b"no command is named: ")?;
             text.extend_from_slice(COMMANDS)
         }
-        BadWord::Unknown(name) => {
-            text.extend_from_slice(name.as_bytes())?;
-            text.extend_from_slice(b" is no command: ")?;
-            text.extend_from_slice(COMMANDS)
-        }
+        BadWord::Unknown(name) => put_unknown(text, name),
         BadWord::NotPlain(word) => put_option(text, word),
         BadWord::Missing(argument) => put_missing(text, argument),
         BadWord::Refused(argument, word) => put_refused(text, argument, word),

@@ -1,5 +1,5 @@
 // The words of worked command lines.
-use command_words::{Command, Numbers, read_words};
+use command_words::{Command, Numbers, explain_words, read_words};
 use std::test::Fail;
 
 #[test]
@@ -102,5 +102,18 @@ fn words_ask_for_a_command_or_for_none(rt: HostRuntime) -> Result<(), Fail> {
             assert_eq!(rt; read_words(words.as_slice()).is_some(), good, "{line}");
         }
     }
+    Ok(())
+}
+
+#[test]
+fn the_first_word_that_is_refused_is_told(rt: HostRuntime) -> Result<(), Fail> {
+    let Some(line) = explain_words(rt.alloc(), &["run", "63", "256", "100", "s", "hi"])? else {
+        return Err("the words are good".into());
+    };
+    assert_eq!(rt;
+        line.as_slice(),
+        b"vmrun: FRAMES is 63: 64 to 4096\n".as_slice()
+    );
+    assert!(rt; explain_words(rt.alloc(), &["as", "ring.s"])?.is_none());
     Ok(())
 }

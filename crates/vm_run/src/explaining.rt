@@ -1,14 +1,17 @@
 ghost use Rattle.std.specs.Prelude.{◌≡◌, IfOk, map, option_map};
-ghost use Rattle.command_words.specs.Asked.{asked_of};
+ghost use Rattle.command_words.specs.Explaining.{words_explained};
 ghost use Rattle.source_commands.specs.Explaining.{ExplainsSource};
 ghost use Rattle.vm_run.specs.Explaining.{Explains};
 
 use command_ending::Fault;
-use command_words::{Command, read_words};
+use command_words::{Command, explain_words, read_words};
 use io_edge::Files;
 use replay_command::explain_transcript;
 use source_commands::explain_source;
 use std::alloc::Global;
+
+/// The status of bad words.
+const BAD_WORDS: u8 = 1;
 
 /// The status of a transcript that is no run of the flat machine.
 const NOT_FLAT_RUN: u8 = 14;
@@ -31,17 +34,27 @@ fn explain_bad_source<'a, F: Files>(
     }
 }
 
-/// What else a user should know of words for which `vmrun` answered this status, for standard error: where a source is
-/// bad, why the line that was named is; where a transcript is no run of the flat machine, what that gives there. None for
-/// every other command and status. The files are read again, so a reason may be lost where that fails, and is that of
-/// the files as they are then (this project's profile).
+// Why words ask for no command.
+fn explain_bad_words<'a>(alloc: Global, words: &'a [&'a str]) -> Result<Option<Vec<u8>>, Fault<'a>>
+    ensures { IfOk result (λ text. option_map (λ line. line.items) text ≡ words_explained (map (λ word. word.now) words.now)) }
+{
+    match explain_words(alloc, words) {
+        Ok(text) => Ok(text),
+        Err(_) => Err(Fault::NoMemory),
+    }
+}
+
+/// What else a user should know of words for which `vmrun` answered this status, for standard error: where they are bad,
+/// which of them isn't what it is for; where a source is bad, why the line that was named is; where a transcript is no run
+/// of the flat machine, what that gives there. None for every other command and status. The files are read again, so a
+/// reason may be lost where that fails, and is that of the files as they are then (this project's profile).
 pub fn explain<'a, F: Files>(
     alloc: Global,
     words: &'a [&'a str],
     files: &mut F,
     status: u8,
 ) -> Result<Option<Vec<u8>>, Fault<'a>>
-    ensures explains { IfOk result (λ text. Explains (asked_of (map (λ word. word.now) words.now)) status (F.holds files.old) (option_map (λ line. line.items) text)) }
+    ensures explains { IfOk result (λ text. Explains (map (λ word. word.now) words.now) status (F.holds files.old) (option_map (λ line. line.items) text)) }
     ensures holds { F.holds files.new ≡ F.holds files.old }
 {
     match read_words(words) {
@@ -51,6 +64,7 @@ pub fn explain<'a, F: Files>(
         Some(Command::Replay { transcript, images }) if status == NOT_FLAT_RUN => {
             explain_transcript(alloc, files, transcript, images)
         }
+        None if status == BAD_WORDS => explain_bad_words(alloc, words),
         _ => Ok(None),
     }
 }
