@@ -112,7 +112,8 @@ class Browser:
         named = {" ": ("Space", " "), "Tab": ("Tab", "")}
         code, text = named.get(key, (key, ""))
         codes = {"ArrowLeft": 37, "ArrowUp": 38, "ArrowRight": 39, "ArrowDown": 40, "PageUp": 33, "PageDown": 34}
-        codes |= {"Home": 36, "End": 35, " ": 32, "Tab": 9, "o": 79}
+        codes |= {"Home": 36, "End": 35, " ": 32, "Tab": 9}
+        codes |= {key: ord(key.upper())} if len(key) == 1 and key.isalpha() else {}
         how = {"key": key, "code": code, "windowsVirtualKeyCode": codes.get(key, 0), "modifiers": 8 if shift else 0}
         self.call("Input.dispatchKeyEvent", type="keyDown", text=text, **how)
         self.call("Input.dispatchKeyEvent", type="keyUp", **how)
