@@ -1,0 +1,4 @@
+typedef unsigned size_t;
+typedef int ptrdiff_t;
+#define NULL ((void *)0)
+#define offsetof(type, member) ((size_t)&((type *)0)->member)

@@ -1,0 +1,5 @@
+/* the number of a child that ended, and how: 256 times its code, or the signal that ended it */
+int wait(int *status);
+#define WIFEXITED(status) (((status) & 255) == 0)
+#define WEXITSTATUS(status) ((status) >> 8 & 255)
+#define WTERMSIG(status) ((status) & 127)

@@ -1,0 +1,100 @@
+/* Strings and memory. */
+
+#include <string.h>
+
+size_t strlen(const char *text)
+{
+	const char *at = text;
+
+	while (*at)
+		at++;
+	return at - text;
+}
+
+char *strcpy(char *to, const char *from)
+{
+	char *at = to;
+
+	while ((*at++ = *from++) != 0)
+		;
+	return to;
+}
+
+char *strcat(char *to, const char *from)
+{
+	strcpy(to + strlen(to), from);
+	return to;
+}
+
+int strcmp(const char *one, const char *other)
+{
+	while (*one && *one == *other)
+		one++, other++;
+	return *(const unsigned char *)one - *(const unsigned char *)other;
+}
+
+int strncmp(const char *one, const char *other, size_t most)
+{
+	for (; most > 0; most--, one++, other++)
+		if (*one != *other || *one == 0)
+			return *(const unsigned char *)one - *(const unsigned char *)other;
+	return 0;
+}
+
+char *strchr(const char *text, int wanted)
+{
+	for (; *text != (char)wanted; text++)
+		if (*text == 0)
+			return 0;
+	return (char *)text;
+}
+
+void *memcpy(void *to, const void *from, size_t bytes)
+{
+	char *target = to;
+	const char *source = from;
+
+	for (; bytes >= 4; bytes -= 4, target += 4, source += 4)
+		*(int *)target = *(const int *)source;
+	for (; bytes > 0; bytes--)
+		*target++ = *source++;
+	return to;
+}
+
+void *memmove(void *to, const void *from, size_t bytes)
+{
+	char *target = to;
+	const char *source = from;
+
+	if (target <= source)
+		while (bytes-- > 0)
+			*target++ = *source++;
+	else
+		while (bytes-- > 0)
+			target[bytes] = source[bytes];
+	return to;
+}
+
+void *memset(void *to, int octet, size_t bytes)
+{
+	char *target = to;
+	int word = octet & 255;
+
+	word |= word << 8;
+	word |= word << 16;
+	for (; bytes >= 4; bytes -= 4, target += 4)
+		*(int *)target = word;
+	for (; bytes > 0; bytes--)
+		*target++ = octet;
+	return to;
+}
+
+int memcmp(const void *one, const void *other, size_t bytes)
+{
+	const unsigned char *first = one, *second = other;
+
+	for (; bytes > 0; bytes--, first++, second++)
+		if (*first != *second)
+			return *first - *second;
+	return 0;
+}
