@@ -45,6 +45,14 @@ pub are_among : (images : List ImageNamed) (ns : List ℕ) → All (λ (n : ℕ)
 are_among images [] all = tt
 are_among images (n ∷ ns) all = let h = All-head (λ (k : ℕ). (1 ≤ k) × (k ≤ length images)) n ns all in (h.0, h.1, are_among images ns (All-tail (λ (k : ℕ). (1 ≤ k) × (k ≤ length images)) n ns all))
 
+-- the process whose pieces find no place
+pub no_place : (A : Inputs) (pid : ℕ) → starteds.NoSpace pid ≡ started_by (start_held A) → start_held A ≡ Err pid
+no_place A pid is = go (start_held A) refl is
+  where
+    go : (r : Result Holdings ℕ) → start_held A ≡ r → starteds.NoSpace pid ≡ started_by r → start_held A ≡ Err pid
+    go (Ok hs) at e = absurd cc
+    go (Err n) at e = at ∙ (let same_pid : n ≡ pid = cc in ap (λ (p : ℕ). let r : Result Holdings ℕ = Err p in r) same_pid)
+
 module _ (A : Inputs) (old : Underway) (numbers : List ℕ) (lines : List Event) (holds : Option (List NamedFile)) (image : List ℕ) (few : length numbers ≤ 16) (is : IsAskedOf A old.machine numbers lines holds image) where
   starts_from : StartsFrom A old.machine numbers
   starts_from = record { named = is.named; first = is.first; frames = is.frames; blocks = is.blocks }
@@ -62,11 +70,7 @@ module _ (A : Inputs) (old : Underway) (numbers : List ℕ) (lines : List Event)
 
   pub no_space : (new : Underway) (pid : ℕ) (i j : Option (List ℕ)) → ((B : Inputs) → StartsFrom B old.machine numbers → starteds.NoSpace pid ≡ started_by (start_held B)) → new.machine.kernel.journal ≡ [] → j ≡ i → i ≡ Some image
       → RunEnds A new.machine.kernel.journal image (Err (NoSpace pid)) j
-  no_space new pid i j space journal same told = ((journal, same ∙ told), go (start_held A) refl (space A starts_from))
-    where
-      go : (r : Result Holdings ℕ) → start_held A ≡ r → starteds.NoSpace pid ≡ started_by r → start_held A ≡ Err pid
-      go (Ok hs) at e = absurd cc
-      go (Err n) at e = at ∙ (let same_pid : n ≡ pid = cc in ap (λ (p : ℕ). let r : Result Holdings ℕ = Err p in r) same_pid)
+  no_space new pid i j space journal same told = ((journal, same ∙ told), no_place A pid (space A starts_from))
 
   -- The run stopped.
 

@@ -1,8 +1,10 @@
 // A run from its start to its end.
 ghost use Rattle.std.specs.Prelude.{◌≡◌, ◌<◌, ◌≤◌, ◌^◌, ℕ, List, [], length, Some, Err, All, IfOk, IfErr, OnOk};
 ghost use Rattle.flat_state.specs.Flat.{Inputs};
+ghost use Rattle.flat_model.specs.Asked.{start_held};
 ghost use Rattle.machine_state.specs.Done.{CountsPages, CountsReads, CountsWrites};
 ghost use Rattle.machine_state.specs.Files.{AreFiles};
+ghost use Rattle.run_start.specs.Starting.{StartsFrom};
 ghost use Rattle.vm_core.specs.Cores.{GoesOn};
 ghost use Rattle.vm_core.specs.Starting.{IsFresh};
 ghost use Rattle.vm_core.specs.Schedules.{HaveFewMoves, TakesLines, StopsLines, FinishesLines};
@@ -85,6 +87,7 @@ fn finish<F: Files, D: SwapDev>(
     requires few { HaveFewMoves lines.now }
     requires count { length lines.now < 2 ^ 32 }
     ensures goes_on { OnOk result (GoesOn core.new) }
+    ensures params { OnOk result (core.new.machine.params ≡ core.old.machine.params) }
     ensures finishes { OnOk result (FinishesLines core.old core.new lines.now (F.holds files.old) (D.image swap.old) (D.image swap.new)) }
     ensures stops { IfErr result (StopsLines core.old core.new lines.now (F.holds files.old) (D.image swap.old) (D.image swap.new)) }
     ensures files_lead { F.leads files.old files.new }
@@ -127,6 +130,8 @@ pub fn run_schedule<F: Files, D: SwapDev>(
         → result ≡ Err (Unfinished.Stopped Stop.JournalFull) → RunFull A core.new.machine }
     ensures over { OnOk result ((A : Inputs) (image : List ℕ) → IsAskedOf A core.old.machine first.now lines.now (F.holds files.old) image → D.image swap.old ≡ Some image
         → RunOver A core.new.machine) }
+    ensures no_space { (A : Inputs) → StartsFrom A core.old.machine first.now → (pid : ℕ) → result ≡ Err (Unfinished.NoSpace pid) → start_held A ≡ Err pid }
+    ensures within { OnOk result (length core.new.machine.kernel.journal ≤ core.old.machine.params.journal) }
     ensures none_made { (pid : ℕ) → result ≡ Err (Unfinished.NoSpace pid) → core.new.machine.kernel.journal ≡ [] }
     ensures untouched { (pid : ℕ) → result ≡ Err (Unfinished.NoSpace pid) → swap.new ≡ swap.old }
     ensures files_lead { F.leads files.old files.new }
@@ -142,6 +147,7 @@ pub fn run_schedule<F: Files, D: SwapDev>(
         Started::NoSpace(pid) => Err(Unfinished::NoSpace(pid)),
         Started::Ok => {
             finish(core, files, swap, lines)?;
+            core.machine().sound();
             Ok(())
         }
     }
