@@ -3,7 +3,7 @@ use Rattle.std.proofs.Common.{◌≡◌, ℕ, ◌+◌, ◌<◌, List, [], ◌∷
 use Rattle.std.proofs.lemmas.List.{map-append, take_more}
 use Rattle.io_edge.specs.FileHolding.{NamedFile}
 use Rattle.replay_check.specs.Images.{FlatFile}
-use Rattle.run_command.specs.Asking.{IsOctetFile, AreOctetFiles}
+use Rattle.io_edge.specs.Octets.{IsOctetFile, AreOctetFiles}
 use Rattle.reference_commands.specs.InMemory.{file_of}
 
 -- the files so far, and one more

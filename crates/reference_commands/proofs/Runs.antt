@@ -25,7 +25,7 @@ use Rattle.command_ending.specs.Named.{Why}
 use Rattle.command_words.specs.declared.command.Numbers.{Numbers}
 use Rattle.run_opening.specs.declared.images.OpenedImage.{OpenedImage}
 use Rattle.run_opening.specs.Images.{images_found, images_in, IsIn}
-use Rattle.run_command.specs.Asking.{AreOctetFiles}
+use Rattle.io_edge.specs.Octets.{AreOctetFiles}
 use Rattle.run_command.specs.Naming.{shown_as}
 use Rattle.run_command.specs.Machines.{machine_up_to}
 use Rattle.run_command.proofs.Openings.{are_files, named_images, loaded_images, filed_at, are_numbers, images_length, all_images}

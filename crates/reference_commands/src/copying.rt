@@ -1,7 +1,7 @@
 // The files of images, as a run reads them.
 ghost use Rattle.std.specs.Prelude.{◌≡◌, length, map, IfOk};
 ghost use Rattle.io_edge.specs.FileHolding.{named_file};
-ghost use Rattle.run_command.specs.Asking.{IsOctetFile, AreOctetFiles};
+ghost use Rattle.io_edge.specs.Octets.{IsOctetFile, AreOctetFiles};
 ghost use Rattle.reference_commands.specs.InMemory.{file_of};
 
 use crate::octets::are_octets;

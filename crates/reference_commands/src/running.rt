@@ -7,7 +7,7 @@ ghost use Rattle.vm_core.specs.Full.{RunFull, RunOver};
 ghost use Rattle.vm_core.specs.RunEnds.{RunEnds};
 ghost use Rattle.replay_command.specs.Reading.{items_of};
 ghost use Rattle.command_ending.specs.Ending.{ending_of};
-ghost use Rattle.run_command.specs.Asking.{AreOctetFiles};
+ghost use Rattle.io_edge.specs.Octets.{AreOctetFiles};
 ghost use Rattle.owner_lines.specs.Owners.{owners_of};
 ghost use Rattle.reference_commands.specs.Answering.{blank_swap};
 ghost use Rattle.reference_commands.specs.InMemory.{file_of, inputs_with, AreOpened, IsRunnable, HasRun, RunsOn, EndsRun, EndsAnswer, AllDiffer};

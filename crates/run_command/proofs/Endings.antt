@@ -1,5 +1,5 @@
 -- How a run over two devices ends, as the command's ending.
-use Rattle.std.proofs.Common.{◌≡◌, inl, inr, ℕ, ◌≤◌, List, length, Option, Some, Ok, Err, refl, ap, ◌∙◌}
+use Rattle.std.proofs.Common.{◌≡◌, inl, inr, ℕ, ◌≤◌, List, length, Option, Some, Ok, Err, ap, ◌∙◌}
 use Rattle.std.specs.Prelude.{IfErr}
 use Rattle.vm_facts.specs.declared.entry.Entry.{Entry}
 use Rattle.vm_facts.specs.declared.stop.Stop.TheVariants as stops
@@ -8,32 +8,58 @@ use Rattle.vm_core.specs.Lawful.{RunHalted, RunStarved}
 use Rattle.vm_core.specs.RunEnds.{RunEnds}
 use Rattle.command_ending.specs.declared.fault.Fault.TheVariants.{FileFault, SwapReadFault, SwapWriteFault, NoMemory, JournalFull, NoSpace}
 use Rattle.run_command.specs.Machines.{journal_entries}
-use Rattle.run_command.specs.Ends.{Ending, RunEnded, CanBeLost}
+use Rattle.run_command.specs.Seen.{Seen}
+use Rattle.run_command.specs.Ends.{Ending, NoneFaulted, HaltCaused, RunCaused, RunEnded, CanBeLost}
 use Rattle.run_command.specs.Paired.{unfinished_of, IsRunFault}
 
 -- A machine that stops at its journal's bound leaves what one leaves that finds no memory.
 pub full_starves : (A : Inputs) (es : List Entry) (image : List ℕ) (j : Option (List ℕ)) → RunHalted A es stops.JournalFull image j → RunStarved A es image j
 full_starves A es image j h = record { state = h.state; made = h.made; left = h.told ∙ ap (λ (bytes : List ℕ). Some bytes) h.image_left }
 
-module _ (A : Inputs) (es : List Entry) (image : List ℕ) (j : Option (List ℕ)) where
-  pub run_ended : (r : Ending) → IfErr r IsRunFault → (r ≡ Err JournalFull → journal_entries ≤ length es) → RunEnds A es image (unfinished_of r) j → RunEnded A es image j r
-  run_ended (Ok done) kind full e = e
-  run_ended (Err FileFault) kind full e = e
-  run_ended (Err (SwapReadFault device)) kind full e = e
-  run_ended (Err (SwapWriteFault device)) kind full e = e
-  run_ended (Err JournalFull) kind full e = (e, full refl)
-  run_ended (Err (NoSpace pid)) kind full e = e
-  run_ended (Err NoMemory) kind full (inl b) = inl b
-  run_ended (Err NoMemory) kind full (inr s) = inr (inl s)
-  run_ended (Err _) kind full e = absurd kind
+-- the cause of an ending, before its line is written
+abbrev pub StopCaused : Seen → List Entry → Ending → Type 0
+StopCaused seen es (Ok done) = NoneFaulted seen × (length es ≤ journal_entries)
+StopCaused seen es (Err fault) = HaltCaused seen es fault
+
+module _ (seen : Seen) (es : List Entry) where
+  pub caused_as : (r : Ending) → IfErr r IsRunFault → StopCaused seen es r → RunCaused seen es r
+  caused_as (Ok done) kind c = c
+  caused_as (Err FileFault) kind c = c
+  caused_as (Err (SwapReadFault device)) kind c = c
+  caused_as (Err (SwapWriteFault device)) kind c = c
+  caused_as (Err JournalFull) kind c = c
+  caused_as (Err (NoSpace pid)) kind c = c
+  caused_as (Err NoMemory) kind c = inl c
+  caused_as (Err _) kind c = absurd kind
 
   -- Where the line of a halt is lost, that is want of memory.
-  pub lost_ended : (r : Ending) → IfErr r IsRunFault → CanBeLost r → RunEnded A es image j r → RunEnded A es image j (Err NoMemory)
-  lost_ended (Ok done) kind lost e = absurd lost
-  lost_ended (Err (SwapReadFault device)) kind lost e = inr (inr (stops.SwapReadFault, e))
-  lost_ended (Err (SwapWriteFault device)) kind lost e = inr (inr (stops.SwapWriteFault, e))
-  lost_ended (Err (NoSpace pid)) kind lost e = inl e.0
-  lost_ended (Err FileFault) kind lost e = absurd lost
-  lost_ended (Err JournalFull) kind lost e = absurd lost
-  lost_ended (Err NoMemory) kind lost e = absurd lost
-  lost_ended (Err _) kind lost e = absurd kind
+  pub lost_caused : (r : Ending) → IfErr r IsRunFault → CanBeLost r → StopCaused seen es r → RunCaused seen es (Err NoMemory)
+  lost_caused (Ok done) kind lost c = absurd lost
+  lost_caused (Err (SwapReadFault device)) kind lost c = inr (SwapReadFault device, lost, c)
+  lost_caused (Err (SwapWriteFault device)) kind lost c = inr (SwapWriteFault device, lost, c)
+  lost_caused (Err (NoSpace pid)) kind lost c = inr (NoSpace pid, lost, c)
+  lost_caused (Err FileFault) kind lost c = absurd lost
+  lost_caused (Err JournalFull) kind lost c = absurd lost
+  lost_caused (Err NoMemory) kind lost c = absurd lost
+  lost_caused (Err _) kind lost c = absurd kind
+
+module _ (seen : Seen) (A : Inputs) (es : List Entry) (image : List ℕ) where
+  pub run_ended : (r : Ending) → IfErr r IsRunFault → StopCaused seen es r → RunEnds A es image (unfinished_of r) seen.swap_after → RunEnded seen A es image r
+  run_ended (Ok done) kind c e = e
+  run_ended (Err FileFault) kind c e = e
+  run_ended (Err (SwapReadFault device)) kind c e = e
+  run_ended (Err (SwapWriteFault device)) kind c e = e
+  run_ended (Err JournalFull) kind c e = e
+  run_ended (Err (NoSpace pid)) kind c e = e
+  run_ended (Err NoMemory) kind c e = inl (c, e)
+  run_ended (Err _) kind c e = absurd kind
+
+  pub lost_ended : (r : Ending) → IfErr r IsRunFault → CanBeLost r → StopCaused seen es r → RunEnded seen A es image r → RunEnded seen A es image (Err NoMemory)
+  lost_ended (Ok done) kind lost c e = absurd lost
+  lost_ended (Err (SwapReadFault device)) kind lost c e = inr (SwapReadFault device, lost, (c, e))
+  lost_ended (Err (SwapWriteFault device)) kind lost c e = inr (SwapWriteFault device, lost, (c, e))
+  lost_ended (Err (NoSpace pid)) kind lost c e = inr (NoSpace pid, lost, (c, e))
+  lost_ended (Err FileFault) kind lost c e = absurd lost
+  lost_ended (Err JournalFull) kind lost c e = absurd lost
+  lost_ended (Err NoMemory) kind lost c e = absurd lost
+  lost_ended (Err _) kind lost c e = absurd kind

@@ -1,20 +1,21 @@
 -- How a load ends, by how its run does.
-use Rattle.std.proofs.Common.{◌≡◌, inl, inr, ℕ, ◌≤◌, Bool, true, false, if◌then◌else◌, nat_lt, List, [], Option, Some, None, Result, Ok, Err, refl, sym, ap, ◌∙◌, subst, arith}
-use Rattle.std.specs.Prelude.{IfErr}
+use Rattle.std.proofs.Common.{◌≡◌, inl, inr, ℕ, ◌≤◌, Bool, true, false, if◌then◌else◌, nat_lt, List, [], length, Option, Some, None, Result, Ok, Err, refl, sym, ap, ◌∙◌, subst, arith}
+use Rattle.std.specs.Prelude.{IfErr, OnOk}
 use Rattle.std.proofs.lemmas.Bool.{ltb-false}
 use Rattle.vm_facts.specs.declared.entry.Entry.{Entry}
 use Rattle.io_edge.specs.Count.{Rose}
 use Rattle.io_edge.specs.Striping.{zero_needs, one_needs, MeetsNeeds}
 use Rattle.flat_state.specs.Flat.{NamedImage, Inputs}
+use Rattle.flat_model.specs.Asked.{start_held}
 use Rattle.machine_state.specs.Done.{CountsPages}
 use Rattle.machine_state.specs.Machine.{Standing}
 use Rattle.machine_state.specs.Sourced.{ImageNamed}
 use Rattle.vm_core.specs.Cores.{Underway}
 use Rattle.vm_core.specs.Starting.{IsFresh}
-use Rattle.vm_core.specs.RunEnds.{stopped_as}
+use Rattle.vm_core.specs.RunEnds.{stopped_as, RunEnds}
 use Rattle.command_ending.specs.declared.fault.Fault.{Fault}
 use Rattle.command_ending.specs.declared.fault.Fault.TheVariants as faults
-use Rattle.command_ending.specs.Command.{Writes, WritesSome}
+use Rattle.command_ending.specs.Command.{NoFaults, Writes, WritesSome}
 use Rattle.command_ending.specs.Named.{Why, AnswersNamed}
 use Rattle.command_words.specs.declared.command.Numbers.{Numbers}
 use Rattle.run_opening.specs.Images.{IsImageFault}
@@ -22,10 +23,11 @@ use Rattle.run_opening.specs.Devices.{device_fault}
 use Rattle.run_opening.specs.Opening.{CountsAt}
 use Rattle.run_command.specs.Seen.{Seen}
 use Rattle.run_command.specs.Paired.{unfinished_of, IsRunFault, ReadsFail, WritesFail}
-use Rattle.run_command.specs.Machines.{machine_of}
-use Rattle.run_command.specs.Ends.{Ending, NothingDone, RunEnded}
-use Rattle.run_command.specs.Loads.{load_inputs, load_numbers, load_written, CountsBeLost, WritesCounts, IsLoadCaused, IsLoadJudged, LoadEnded, IsRunEnding, Loads, LoadRuns}
-use Rattle.run_command.proofs.Endings.{lost_ended}
+use Rattle.run_command.specs.Machines.{journal_entries, machine_of}
+use Rattle.run_command.specs.Ends.{Ending, NothingDone, Unbegun, NoneFaulted, RunCaused, DevicesSuffice, RunEnded}
+use Rattle.run_command.specs.Loads.{load_inputs, load_numbers, load_written, CountsBeLost, WritesCounts, IsLoadCaused, LoadEnded, IsRunEnding, Loads, LoadRuns}
+use Rattle.run_command.proofs.LoadSpace.{all_start}
+use Rattle.run_command.proofs.Endings.{StopCaused, caused_as, lost_caused, run_ended, lost_ended}
 
 -- The core of a run, with no process yet.
 pub fresh_core : (c : Underway) (numbers : Numbers) (images : List ImageNamed) → c.machine ≡ machine_of numbers images → c.counted ≡ 0 → IsFresh c
@@ -60,81 +62,129 @@ no_file_fault : (A : Type 0) → Rose 0 0 → A
 no_file_fault A (inl low) = absurd (omega arith)
 no_file_fault A (inr last) = absurd (let most = last.0 in omega arith)
 
-pub run_caused : (seen : Seen) (journal : List Entry) (r : Ending) → IfErr r IsRunFault → CountsPages (stopped_as (unfinished_of r)) 0 0 → ReadsFail r seen.reads → WritesFail r seen.writes
-    → ((pid : ℕ) → r ≡ Err (faults.NoSpace pid) → journal ≡ []) → ((pid : ℕ) → r ≡ Err (faults.NoSpace pid) → seen.swap_after ≡ seen.swap_before) → IsLoadCaused seen journal r
-run_caused seen journal (Ok done) kind pages reads writes none same = record { reads = reads; writes = writes }
-run_caused seen journal (Err faults.FileFault) kind pages reads writes none same = no_file_fault (IsLoadCaused seen journal (Err faults.FileFault)) pages
-run_caused seen journal (Err (faults.SwapReadFault device)) kind pages reads writes none same = reads
-run_caused seen journal (Err (faults.SwapWriteFault device)) kind pages reads writes none same = writes
-run_caused seen journal (Err faults.JournalFull) kind pages reads writes none same = record { reads = reads; writes = writes }
-run_caused seen journal (Err (faults.NoSpace pid)) kind pages reads writes none same = record { journal_is = none pid refl; swap = same pid refl; reads = reads; writes = writes }
-run_caused seen journal (Err faults.NoMemory) kind pages reads writes none same = tt
-run_caused seen journal (Err _) kind pages reads writes none same = absurd kind
+-- so the run didn't halt by one
+files_hold : (r : Ending) → IfErr r IsRunFault → CountsPages (stopped_as (unfinished_of r)) 0 0 → IsRunEnding r
+files_hold (Ok done) kind pages = tt
+files_hold (Err faults.FileFault) kind pages = no_file_fault (IsRunEnding (Err faults.FileFault)) pages
+files_hold (Err (faults.SwapReadFault device)) kind pages = tt
+files_hold (Err (faults.SwapWriteFault device)) kind pages = tt
+files_hold (Err faults.JournalFull) kind pages = tt
+files_hold (Err (faults.NoSpace pid)) kind pages = tt
+files_hold (Err faults.NoMemory) kind pages = tt
+files_hold (Err _) kind pages = absurd kind
 
--- a finished run whose lines find no memory is one that found none
-counts_starve : (A : Inputs) (journal : List Entry) (image : List ℕ) (after : Option (List ℕ)) (r : Ending) → IfErr r IsRunFault → CountsBeLost r
-    → RunEnded A journal image after r → RunEnded A journal image after (Err faults.NoMemory)
-counts_starve A journal image after (Ok done) kind lost e = inr (inl (record { state = e.state; made = e.made; left = e.left }))
-counts_starve A journal image after (Err fault) kind lost e = lost_ended A journal image after (Err fault) kind lost e
+as_run : (r : Ending) → IsRunEnding r → IfErr r IsRunFault
+as_run (Ok done) began = tt
+as_run (Err faults.FileFault) began = absurd began
+as_run (Err (faults.SwapReadFault device)) began = tt
+as_run (Err (faults.SwapWriteFault device)) began = tt
+as_run (Err faults.JournalFull) began = tt
+as_run (Err (faults.NoSpace pid)) began = tt
+as_run (Err faults.NoMemory) began = tt
+as_run (Err _) began = absurd began
+
+load_stops : (seen : Seen) (journal : List Entry) (r : Ending) → IsRunEnding r → NoFaults seen.faults → ReadsFail r seen.reads → WritesFail r seen.writes → ((pid : ℕ) → r ≡ Err (faults.NoSpace pid) → journal ≡ [])
+    → ((pid : ℕ) → r ≡ Err (faults.NoSpace pid) → seen.swap_after ≡ seen.swap_before) → (r ≡ Err faults.JournalFull → length journal ≡ journal_entries) → OnOk r (length journal ≤ journal_entries) → StopCaused seen journal r
+load_stops seen journal (Ok done) began files reads writes none same full within = (record { files = files; reads = reads; writes = writes }, within)
+load_stops seen journal (Err faults.FileFault) began files reads writes none same full within = absurd began
+load_stops seen journal (Err (faults.SwapReadFault device)) began files reads writes none same full within = record { files = files; read = reads; writes = writes }
+load_stops seen journal (Err (faults.SwapWriteFault device)) began files reads writes none same full within = record { files = files; reads = reads; write = writes }
+load_stops seen journal (Err faults.JournalFull) began files reads writes none same full within = (record { files = files; reads = reads; writes = writes }, full refl)
+load_stops seen journal (Err (faults.NoSpace pid)) began files reads writes none same full within =
+    record { nothing = record { journal_is = none pid refl; swap = same pid refl; reads = reads; writes = writes }; files = files }
+load_stops seen journal (Err faults.NoMemory) began files reads writes none same full within = record { files = files; reads = reads; writes = writes }
+load_stops seen journal (Err _) began files reads writes none same full within = absurd began
+
+-- The lines of an ending found no memory: that is want of memory, also of a run that is finished.
+
+counts_lost_caused : (seen : Seen) (journal : List Entry) (r : Ending) → IsRunEnding r → CountsBeLost r → StopCaused seen journal r → RunCaused seen journal (Err faults.NoMemory)
+counts_lost_caused seen journal (Ok done) began lost c = inl c.0
+counts_lost_caused seen journal (Err fault) began lost c = lost_caused seen journal (Err fault) (as_run (Err fault) began) lost c
+
+counts_starve : (seen : Seen) (A : Inputs) (journal : List Entry) (image : List ℕ) (r : Ending) → IsRunEnding r → CountsBeLost r → StopCaused seen journal r
+    → RunEnded seen A journal image r → RunEnded seen A journal image (Err faults.NoMemory)
+counts_starve seen A journal image (Ok done) began lost c e = inl (c.0, inr (record { state = e.state; made = e.made; left = e.left }))
+counts_starve seen A journal image (Err fault) began lost c e = lost_ended seen A journal image (Err fault) (as_run (Err fault) began) lost c e
+
+other_fault : (pid : ℕ) → (let r : Ending = Err faults.NoMemory in r) ≡ Err (faults.NoSpace pid) → ⊥
+other_fault pid e = cc
 
 -- the run of a machine, as it was written
-pub load_runs : (IsOf : Inputs → List ℕ → Type 0) (number : ℕ) (seen : Seen) (status : ℕ) (journal : List Entry) (r : Ending) → IfErr r IsRunFault → IsLoadCaused seen journal r
-    → ((A : Inputs) (image : List ℕ) → IsOf A image → seen.swap_before ≡ Some image → RunEnded A journal image seen.swap_after r)
-    → WritesCounts number journal r seen.written_before seen.written_after seen.sink_faults_before seen.sink_faults_after status → LoadRuns IsOf number seen status
-load_runs IsOf number seen status journal r kind caused ended (inl w) = record { ending = r; journal = journal; writes = w; caused = caused; began = kind; ended = ended }
-load_runs IsOf number seen status journal r kind caused ended (inr (lost, w)) = record {
+load_runs : (IsOf : Inputs → List ℕ → Type 0) (Starts : Inputs → Type 0) (number : ℕ) (seen : Seen) (status : ℕ) (journal : List Entry) (r : Ending) → IsRunEnding r → StopCaused seen journal r
+    → ((A : Inputs) → Starts A → (pid : ℕ) → r ≡ Err (faults.NoSpace pid) → start_held A ≡ Err pid)
+    → ((A : Inputs) (image : List ℕ) → IsOf A image → seen.swap_before ≡ Some image → RunEnded seen A journal image r)
+    → WritesCounts number journal r seen.written_before seen.written_after seen.sink_faults_before seen.sink_faults_after status → LoadRuns IsOf Starts number seen status
+load_runs IsOf Starts number seen status journal r began caused space ended (inl w) =
+    record { ending = r; journal = journal; writes = w; caused = caused_as seen journal r (as_run r began) caused; began = began; space = space; ended = ended }
+load_runs IsOf Starts number seen status journal r began caused space ended (inr (lost, w)) = record {
   ending = Err faults.NoMemory;
   journal = journal;
   writes = w;
-  caused = tt;
+  caused = counts_lost_caused seen journal r began lost caused;
   began = tt;
-  ended = λ A image is told. counts_starve A journal image seen.swap_after r kind lost (ended A image is told);
+  space = λ A starts pid e. absurd (other_fault pid e);
+  ended = λ A image is told. counts_starve seen A journal image r began lost caused (ended A image is told);
 }
 
+pub load_ran : (IsOf : Inputs → List ℕ → Type 0) (Starts : Inputs → Type 0) (number : ℕ) (seen : Seen) (status : ℕ) (journal : List Entry) (r : Ending) → IfErr r IsRunFault → CountsPages (stopped_as (unfinished_of r)) 0 0 → NoFaults seen.faults
+    → ReadsFail r seen.reads → WritesFail r seen.writes → ((pid : ℕ) → r ≡ Err (faults.NoSpace pid) → journal ≡ []) → ((pid : ℕ) → r ≡ Err (faults.NoSpace pid) → seen.swap_after ≡ seen.swap_before)
+    → (r ≡ Err faults.JournalFull → length journal ≡ journal_entries) → OnOk r (length journal ≤ journal_entries)
+    → ((A : Inputs) → Starts A → (pid : ℕ) → r ≡ Err (faults.NoSpace pid) → start_held A ≡ Err pid)
+    → ((A : Inputs) (image : List ℕ) → IsOf A image → seen.swap_before ≡ Some image → RunEnds A journal image (unfinished_of r) seen.swap_after)
+    → WritesCounts number journal r seen.written_before seen.written_after seen.sink_faults_before seen.sink_faults_after status → LoadRuns IsOf Starts number seen status
+load_ran IsOf Starts number seen status journal r kind pages files reads writes none same full within space ends w =
+    let began = files_hold r kind pages in
+    let caused = load_stops seen journal r began files reads writes none same full within in
+    load_runs IsOf Starts number seen status journal r began caused space (λ A image is told. run_ended seen A journal image r kind caused (ends A image is told)) w
+
 -- a machine that wasn't made
-pub load_unmade : (IsOf : Inputs → List ℕ → Type 0) (number : ℕ) (seen : Seen) (status : ℕ) → seen.swap_after ≡ seen.swap_before
-    → WritesCounts number [] (Err faults.NoMemory) seen.written_before seen.written_after seen.sink_faults_before seen.sink_faults_after status → LoadRuns IsOf number seen status
-load_unmade IsOf number seen status same w = load_runs IsOf number seen status [] (Err faults.NoMemory) tt tt (λ A image is told. inl (refl, same ∙ told)) w
+pub load_unmade : (IsOf : Inputs → List ℕ → Type 0) (Starts : Inputs → Type 0) (number : ℕ) (seen : Seen) (status : ℕ) → seen.swap_after ≡ seen.swap_before → NoneFaulted seen
+    → WritesCounts number [] (Err faults.NoMemory) seen.written_before seen.written_after seen.sink_faults_before seen.sink_faults_after status → LoadRuns IsOf Starts number seen status
+load_unmade IsOf Starts number seen status same none w =
+    load_runs IsOf Starts number seen status [] (Err faults.NoMemory) tt none (λ A starts pid e. absurd (other_fault pid e)) (λ A image is told. inl (none, inl (refl, same ∙ told))) w
 
 -- Loads.
 
 -- the devices were judged to be long enough
-judged_long : (seen : Seen) (r : Ending) → IsRunEnding r → device_fault load_numbers.swap seen.zero_blocks seen.one_blocks ≡ None → IsLoadJudged seen r
-judged_long seen (Ok done) kind long = long
-judged_long seen (Err faults.FileFault) kind long = long
-judged_long seen (Err (faults.SwapReadFault device)) kind long = long
-judged_long seen (Err (faults.SwapWriteFault device)) kind long = long
-judged_long seen (Err faults.JournalFull) kind long = long
-judged_long seen (Err (faults.NoSpace pid)) kind long = long
-judged_long seen (Err faults.NoMemory) kind long = tt
-judged_long seen (Err _) kind long = absurd kind
+load_caused : (seen : Seen) (journal : List Entry) (r : Ending) → IsRunEnding r → ((pid : ℕ) → r ≡ Err (faults.NoSpace pid) → ⊥) → RunCaused seen journal r → DevicesSuffice load_numbers.swap seen
+    → IsLoadCaused seen journal r
+load_caused seen journal (Ok done) began never c d = (c, d)
+load_caused seen journal (Err faults.FileFault) began never c d = absurd began
+load_caused seen journal (Err (faults.SwapReadFault device)) began never c d = (c, d)
+load_caused seen journal (Err (faults.SwapWriteFault device)) began never c d = (c, d)
+load_caused seen journal (Err faults.JournalFull) began never c d = (c, d)
+load_caused seen journal (Err (faults.NoSpace pid)) began never c d = absurd (never pid refl)
+load_caused seen journal (Err faults.NoMemory) began never (inl none) d = inl none
+load_caused seen journal (Err faults.NoMemory) began never (inr lost) d = inr (lost, d)
+load_caused seen journal (Err _) began never c d = absurd began
 
-load_ended : (number : ℕ) (journal : List Entry) (image : List ℕ) (after : Option (List ℕ)) (r : Ending) → IsRunEnding r → RunEnded (load_inputs number) journal image after r → LoadEnded number journal image after r
-load_ended number journal image after (Ok done) kind e = e
-load_ended number journal image after (Err faults.FileFault) kind e = e
-load_ended number journal image after (Err (faults.SwapReadFault device)) kind e = e
-load_ended number journal image after (Err (faults.SwapWriteFault device)) kind e = e
-load_ended number journal image after (Err faults.JournalFull) kind e = e
-load_ended number journal image after (Err (faults.NoSpace pid)) kind e = e
-load_ended number journal image after (Err faults.NoMemory) kind e = e
-load_ended number journal image after (Err _) kind e = absurd kind
+load_ended : (number : ℕ) (seen : Seen) (journal : List Entry) (image : List ℕ) (r : Ending) → IsRunEnding r → RunEnded seen (load_inputs number) journal image r → LoadEnded number seen journal image r
+load_ended number seen journal image (Ok done) began e = e
+load_ended number seen journal image (Err faults.FileFault) began e = e
+load_ended number seen journal image (Err (faults.SwapReadFault device)) began e = e
+load_ended number seen journal image (Err (faults.SwapWriteFault device)) began e = e
+load_ended number seen journal image (Err faults.JournalFull) began e = e
+load_ended number seen journal image (Err (faults.NoSpace pid)) began e = e
+load_ended number seen journal image (Err faults.NoMemory) began e = e
+load_ended number seen journal image (Err _) began e = absurd began
 
-pub loads_run : (IsOf : Inputs → List ℕ → Type 0) (number : ℕ) (seen : Seen) (status : ℕ) → device_fault load_numbers.swap seen.zero_blocks seen.one_blocks ≡ None
-    → ((image : List ℕ) → seen.swap_before ≡ Some image → IsOf (load_inputs number) image) → LoadRuns IsOf number seen status → Loads number seen status
-loads_run IsOf number seen status long is_of x = record {
+pub loads_run : (IsOf : Inputs → List ℕ → Type 0) (Starts : Inputs → Type 0) (number : ℕ) (seen : Seen) (status : ℕ) → DevicesSuffice load_numbers.swap seen → NoFaults seen.faults
+    → Starts (load_inputs number) → ((image : List ℕ) → seen.swap_before ≡ Some image → IsOf (load_inputs number) image) → LoadRuns IsOf Starts number seen status → Loads number seen status
+loads_run IsOf Starts number seen status long files starts is_of x = record {
   ending = x.ending;
   journal = x.journal;
   writes = x.writes;
-  caused = x.caused;
-  judged = judged_long seen x.ending x.began long;
-  told = λ image told. load_ended number x.journal image seen.swap_after x.ending x.began (x.ended (load_inputs number) image (is_of image told) told);
+  caused = load_caused seen x.journal x.ending x.began (λ pid e. all_start number pid (x.space (load_inputs number) starts pid e)) x.caused long;
+  files = files;
+  told = λ image told. load_ended number seen x.journal image x.ending x.began (x.ended (load_inputs number) image (is_of image told) told);
 }
 
 -- no memory before the run
-pub loads_unmade : (number : ℕ) (seen : Seen) (status : ℕ) → seen.swap_after ≡ seen.swap_before
+pub loads_unmade : (number : ℕ) (seen : Seen) (status : ℕ) → seen.swap_after ≡ seen.swap_before → NoneFaulted seen
     → WritesCounts number [] (Err faults.NoMemory) seen.written_before seen.written_after seen.sink_faults_before seen.sink_faults_after status → Loads number seen status
-loads_unmade number seen status same (inl w) = record { ending = Err faults.NoMemory; journal = []; writes = w; caused = tt; judged = tt; told = λ image told. inl (refl, same ∙ told) }
-loads_unmade number seen status same (inr never) = absurd never.0
+loads_unmade number seen status same none (inl w) =
+    record { ending = Err faults.NoMemory; journal = []; writes = w; caused = inl none; files = none.files; told = λ image told. inl (none, inl (refl, same ∙ told)) }
+loads_unmade number seen status same none (inr never) = absurd never.0
 
 -- a device that is too short
 abbrev IsShort : Fault → Type 0
@@ -147,14 +197,24 @@ is_short true one_short z zn o on fault e = let same : faults.ShortDevice 0 z zn
 is_short false true z zn o on fault e = let same : faults.ShortDevice 1 o on ≡ fault = cc in subst IsShort same tt
 is_short false false z zn o on fault e = absurd cc
 
-loads_short : (number : ℕ) (seen : Seen) (status : ℕ) (fault : Fault) → IsShort fault → device_fault load_numbers.swap seen.zero_blocks seen.one_blocks ≡ Some fault → NothingDone seen []
+as_faulted : (seen : Seen) (journal : List Entry) → Unbegun seen journal → NoneFaulted seen
+as_faulted seen journal u = let n : NothingDone seen journal = u.nothing in record { files = u.files; reads = n.reads; writes = n.writes }
+
+loads_short : (number : ℕ) (seen : Seen) (status : ℕ) (fault : Fault) → IsShort fault → device_fault load_numbers.swap seen.zero_blocks seen.one_blocks ≡ Some fault → Unbegun seen []
     → WritesCounts number [] (Err fault) seen.written_before seen.written_after seen.sink_faults_before seen.sink_faults_after status → Loads number seen status
-loads_short number seen status (faults.ShortDevice device blocks needed) short is done (inl w) =
-    record { ending = Err (faults.ShortDevice device blocks needed); journal = []; writes = w; caused = done; judged = is; told = λ image told. (refl, done.swap ∙ told) }
-loads_short number seen status (faults.ShortDevice device blocks needed) short is done (inr (lost, w)) = loads_unmade number seen status done.swap (inl w)
+loads_short number seen status (faults.ShortDevice device blocks needed) short is done (inl w) = record {
+  ending = Err (faults.ShortDevice device blocks needed);
+  journal = [];
+  writes = w;
+  caused = (done, is);
+  files = done.files;
+  told = λ image told. (refl, (let n : NothingDone seen [] = done.nothing in n.swap) ∙ told);
+}
+loads_short number seen status (faults.ShortDevice device blocks needed) short is done (inr (lost, w)) =
+    loads_unmade number seen status (let n : NothingDone seen [] = done.nothing in n.swap) (as_faulted seen [] done) (inl w)
 loads_short number seen status _ short is done w = absurd short
 
-pub loads_judged : (number : ℕ) (seen : Seen) (status : ℕ) (fault : Fault) → device_fault load_numbers.swap seen.zero_blocks seen.one_blocks ≡ Some fault → NothingDone seen []
+pub loads_judged : (number : ℕ) (seen : Seen) (status : ℕ) (fault : Fault) → device_fault load_numbers.swap seen.zero_blocks seen.one_blocks ≡ Some fault → Unbegun seen []
     → WritesCounts number [] (Err fault) seen.written_before seen.written_after seen.sink_faults_before seen.sink_faults_after status → Loads number seen status
 loads_judged number seen status fault is done w =
     loads_short number seen status fault

@@ -20,7 +20,7 @@ use Rattle.vax_code.specs.Grammar.{AreOctets}
 use Rattle.run_opening.specs.declared.images.OpenedImage.{OpenedImage}
 use Rattle.run_files.specs.ImageWords.{IsShortName}
 use Rattle.run_opening.specs.Images.{image_in, images_in, IsIn}
-use Rattle.run_command.specs.Asking.{AreOctetFiles}
+use Rattle.io_edge.specs.Octets.{AreOctetFiles}
 use Rattle.run_command.specs.Naming.{shown_as}
 
 -- As a machine asks.

@@ -1,5 +1,6 @@
 -- What a stop of a run over two devices is said as, and which device failed.
-use Rattle.std.proofs.Common.{◌≡◌, inl, inr, ℕ, List, Option, Some, None, Err, refl, sym, ap, ◌∙◌, subst, arith}
+use Rattle.std.proofs.Common.{◌≡◌, inl, inr, ℕ, ◌<◌, List, Option, Some, None, Err, refl, sym, ap, ◌∙◌, subst, arith}
+use Rattle.std.specs.Option.{ForSome}
 use Rattle.vm_facts.specs.declared.entry.Entry.{Entry}
 use Rattle.vm_facts.specs.declared.stop.Stop.{Stop}
 use Rattle.vm_facts.specs.declared.stop.Stop.TheVariants as stops
@@ -27,8 +28,10 @@ pub none_failed : (f : DeviceFaults) (old new : ℕ) (before after : Option ℕ)
 none_failed f old new before after a none same = let both = a.still same (omega arith) in record { zero = both.0; one = both.1 }
 
 -- the device that is named failed
-device_failed : (f : DeviceFaults) (old new : ℕ) (before after : Option ℕ) (device : ℕ) → AddsFailures old new before after f.zero_before f.zero_after f.one_before f.one_after → before ≡ None → after ≡ Some device → DeviceFailed device f
-device_failed f old new before after device a none named = elim (a.named device named) [ inl e ↦ absurd cc | inr rose ↦ rose ]
+pub device_failed : (f : DeviceFaults) (old new : ℕ) (before after : Option ℕ) (device : ℕ) → AddsFailures old new before after f.zero_before f.zero_after f.one_before f.one_after → before ≡ None
+    → ForSome after (λ (d : ℕ). d < 2) → after ≡ Some device → DeviceFailed device f
+device_failed f old new before after device a none low named =
+    (low device named, elim (a.named device named) [ inl e ↦ absurd cc | inr rose ↦ rose ])
 
 -- a stop that isn't of a read from swap, or of a write
 stop_of : (stop : Stop) (fault : Fault) (other : Stop) → IsFaultOf stop fault → (stops.JournalFull ≡ other → ⊥) → (unfinished_by fault ≡ ends.Stopped other → ⊥) → stop ≡ other → ⊥
@@ -49,7 +52,7 @@ writes_stay stops.JournalFull old new other c = c
 writes_stay stops.FileFault old new other c = c
 writes_stay stops.SwapReadFault old new other c = c
 
-module _ (f : DeviceFaults) (old new : ℕ) (before after : Option ℕ) (a : AddsFailures old new before after f.zero_before f.zero_after f.one_before f.one_after) (zero : old ≡ 0) (none : before ≡ None) (stop : Stop) where
+module _ (f : DeviceFaults) (old new : ℕ) (before after : Option ℕ) (a : AddsFailures old new before after f.zero_before f.zero_after f.one_before f.one_after) (zero : old ≡ 0) (none : before ≡ None) (low : ForSome after (λ (d : ℕ). d < 2)) (stop : Stop) where
   reads_none : (fault : Fault) → CountsReads {A = Unit {0}} (Err stop) old new → IsFaultOf stop fault → (unfinished_by fault ≡ ends.Stopped stops.SwapReadFault → ⊥) → NoneFailed f
   reads_none fault c is never = none_failed f old new before after a zero (reads_stay stop old new (stop_of stop fault stops.SwapReadFault is (λ e. cc) never) c)
 
@@ -57,7 +60,7 @@ module _ (f : DeviceFaults) (old new : ℕ) (before after : Option ℕ) (a : Add
   writes_none fault c is never = none_failed f old new before after a zero (writes_stay stop old new (stop_of stop fault stops.SwapWriteFault is (λ e. cc) never) c)
 
   pub reads_fail : (fault : Fault) → CountsReads {A = Unit {0}} (Err stop) old new → IsFaultOf stop fault → IsRunFault fault → ((device : ℕ) → fault ≡ SwapReadFault device → after ≡ Some device) → ReadsFail (Err fault) f
-  reads_fail (SwapReadFault device) c is kind named = device_failed f old new before after device a none (named device refl)
+  reads_fail (SwapReadFault device) c is kind named = device_failed f old new before after device a none low (named device refl)
   reads_fail FileFault c is kind named = reads_none FileFault c is (λ e. cc)
   reads_fail (SwapWriteFault device) c is kind named = reads_none (SwapWriteFault device) c is (λ e. cc)
   reads_fail NoMemory c is kind named = reads_none NoMemory c is (λ e. cc)
@@ -66,7 +69,7 @@ module _ (f : DeviceFaults) (old new : ℕ) (before after : Option ℕ) (a : Add
   reads_fail _ c is kind named = absurd kind
 
   pub writes_fail : (fault : Fault) → CountsWrites {A = Unit {0}} (Err stop) old new → IsFaultOf stop fault → IsRunFault fault → ((device : ℕ) → fault ≡ SwapWriteFault device → after ≡ Some device) → WritesFail (Err fault) f
-  writes_fail (SwapWriteFault device) c is kind named = device_failed f old new before after device a none (named device refl)
+  writes_fail (SwapWriteFault device) c is kind named = device_failed f old new before after device a none low (named device refl)
   writes_fail FileFault c is kind named = writes_none FileFault c is (λ e. cc)
   writes_fail (SwapReadFault device) c is kind named = writes_none (SwapReadFault device) c is (λ e. cc)
   writes_fail NoMemory c is kind named = writes_none NoMemory c is (λ e. cc)

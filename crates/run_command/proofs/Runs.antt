@@ -1,6 +1,6 @@
 -- What a command did, from what its opening and its run say.
 use Rattle.std.proofs.Common.{◌≡◌, inl, inr, ℕ, ◌*◌, ◌≤◌, nat_lt, Bool, true, false, List, [], length, map, Option, Some, None, Result, Ok, Err, if◌then◌else◌, refl, sym, ap, ◌∙◌, subst, arith}
-use Rattle.std.specs.Prelude.{IfOk, IfErr}
+use Rattle.std.specs.Prelude.{IfOk, IfErr, OnOk}
 use Rattle.std.proofs.lemmas.Bool.Decides.{nat_tests}
 use Rattle.vm_facts.specs.declared.entry.Entry.{Entry}
 use Rattle.io_edge.specs.FileHolding.{NamedFile}
@@ -17,6 +17,7 @@ use Rattle.machine_state.specs.Sourced.{ImageNamed}
 use Rattle.vm_core.specs.RunEnds.{stopped_as}
 use Rattle.command_ending.specs.declared.fault.Fault.{Fault}
 use Rattle.command_ending.specs.declared.fault.Fault.TheVariants.{Absent, NotImage, BadSchedule, FileFault, SwapReadFault, SwapWriteFault, NoMemory, JournalFull, NoSpace, ShortDevice}
+use Rattle.command_ending.specs.Ending.{NeedsMemory}
 use Rattle.command_ending.specs.Command.{Made}
 use Rattle.command_words.specs.declared.command.Numbers.{Numbers}
 use Rattle.command_words.specs.Command.{AreAllowed}
@@ -26,13 +27,13 @@ use Rattle.run_opening.specs.Devices.{device_fault}
 use Rattle.run_opening.specs.Opening.{FoundFiles, found_told, EndsOpening, CountsAt}
 use Rattle.run_command.specs.Asking.{Request}
 use Rattle.run_command.specs.Naming.{shown_as}
-use Rattle.run_command.specs.Machines.{params_up_to, machine_up_to, IsOfOpening}
+use Rattle.run_command.specs.Machines.{journal_entries, params_up_to, machine_up_to, IsOfOpening}
 use Rattle.run_command.specs.Seen.{Seen, NoneFailed}
 use Rattle.run_command.specs.Paired.{image_together, unfinished_of, IsRunFault, ReadsFail, WritesFail}
-use Rattle.run_command.specs.Ends.{Ending, NothingDone, Unbegun, RunCaused, IsCaused, AllGood, IsJudged, RunEnded, RunOfWords, EndsTold, WritesSome, RunsOpened, Runs}
+use Rattle.run_command.specs.Ends.{Ending, NothingDone, Unbegun, NoneFaulted, RunCaused, DevicesSuffice, IsCaused, AllGood, IsJudged, RunEnded, RunOfWords, EndsTold, WritesSome, Writing, RunsOpened, Runs}
 use Rattle.run_command.proofs.Openings.{shown_facts}
 use Rattle.run_command.proofs.Inputs.{KnownOpening, inputs_of, asks_for, is_asked_of}
-use Rattle.run_command.proofs.Endings.{lost_ended}
+use Rattle.run_command.proofs.Endings.{StopCaused, caused_as, lost_caused, lost_ended}
 
 -- The machine of what was opened.
 
@@ -67,82 +68,89 @@ room_told zero_size one_size swap zero one image zero_whole one_whole meets most
 -- Why a run that was opened isn't finished.
 
 pub run_caused : (seen : Seen) (es : List Entry) (r : Ending) → IfErr r IsRunFault → seen.faults.open_after ≡ seen.faults.open_before → CountsPages (stopped_as (unfinished_of r)) seen.faults.page_before seen.faults.page_after
-    → ReadsFail r seen.reads → WritesFail r seen.writes → ((pid : ℕ) → r ≡ Err (NoSpace pid) → es ≡ []) → ((pid : ℕ) → r ≡ Err (NoSpace pid) → seen.swap_after ≡ seen.swap_before) → RunCaused seen es r
-run_caused seen es (Ok done) kind opens pages reads writes none same = record { files = record { open_same = opens; page_same = pages }; reads = reads; writes = writes }
-run_caused seen es (Err FileFault) kind opens pages reads writes none same = (opens, pages)
-run_caused seen es (Err (SwapReadFault device)) kind opens pages reads writes none same = reads
-run_caused seen es (Err (SwapWriteFault device)) kind opens pages reads writes none same = writes
-run_caused seen es (Err JournalFull) kind opens pages reads writes none same = record { files = record { open_same = opens; page_same = pages }; reads = reads; writes = writes }
-run_caused seen es (Err NoMemory) kind opens pages reads writes none same = tt
-run_caused seen es (Err (NoSpace pid)) kind opens pages reads writes none same = record {
+    → ReadsFail r seen.reads → WritesFail r seen.writes → ((pid : ℕ) → r ≡ Err (NoSpace pid) → es ≡ []) → ((pid : ℕ) → r ≡ Err (NoSpace pid) → seen.swap_after ≡ seen.swap_before)
+    → (r ≡ Err JournalFull → length es ≡ journal_entries) → OnOk r (length es ≤ journal_entries) → StopCaused seen es r
+run_caused seen es (Ok done) kind opens pages reads writes none same full within =
+    (record { files = record { open_same = opens; page_same = pages }; reads = reads; writes = writes }, within)
+run_caused seen es (Err FileFault) kind opens pages reads writes none same full within = record { page = (opens, pages); reads = reads; writes = writes }
+run_caused seen es (Err (SwapReadFault device)) kind opens pages reads writes none same full within =
+    record { files = record { open_same = opens; page_same = pages }; read = reads; writes = writes }
+run_caused seen es (Err (SwapWriteFault device)) kind opens pages reads writes none same full within =
+    record { files = record { open_same = opens; page_same = pages }; reads = reads; write = writes }
+run_caused seen es (Err JournalFull) kind opens pages reads writes none same full within =
+    (record { files = record { open_same = opens; page_same = pages }; reads = reads; writes = writes }, full refl)
+run_caused seen es (Err NoMemory) kind opens pages reads writes none same full within = record { files = record { open_same = opens; page_same = pages }; reads = reads; writes = writes }
+run_caused seen es (Err (NoSpace pid)) kind opens pages reads writes none same full within = record {
   nothing = record { journal_is = none pid refl; swap = same pid refl; reads = reads; writes = writes };
   files = record { open_same = opens; page_same = pages };
 }
-run_caused seen es (Err _) kind opens pages reads writes none same = absurd kind
+run_caused seen es (Err _) kind opens pages reads writes none same full within = absurd kind
 
 -- A run over a machine, as it was written.
 
 pub opened_runs : (IsOf : Inputs → List ℕ → Type 0) (traced : Bool) (seen : Seen) (es : List Entry) (r : Ending) (status : ℕ)
-    → WritesSome traced es r seen.written_before seen.written_after seen.sink_faults_before seen.sink_faults_after status → RunCaused seen es r → IfErr r IsRunFault
-    → ((A : Inputs) (image : List ℕ) → IsOf A image → seen.swap_before ≡ Some image → RunEnded A es image seen.swap_after r) → RunsOpened IsOf traced seen status
-opened_runs IsOf traced seen es r status (inl writes) caused kind ended = record { ending = r; journal = es; writes = writes; caused = caused; ended = ended }
+    → WritesSome traced es r seen.written_before seen.written_after seen.sink_faults_before seen.sink_faults_after status → StopCaused seen es r → IfErr r IsRunFault
+    → ((A : Inputs) (image : List ℕ) → IsOf A image → seen.swap_before ≡ Some image → RunEnded seen A es image r) → RunsOpened IsOf traced seen status
+opened_runs IsOf traced seen es r status (inl writes) caused kind ended = record { ending = r; journal = es; writes = writes; caused = caused_as seen es r kind caused; ended = ended }
 opened_runs IsOf traced seen es r status (inr (lost, writes)) caused kind ended = record {
   ending = Err NoMemory;
   journal = es;
   writes = writes;
-  caused = tt;
-  ended = λ A image is told. lost_ended A es image seen.swap_after r kind lost (ended A image is told);
+  caused = lost_caused seen es r kind lost caused;
+  ended = λ A image is told. lost_ended seen A es image r kind lost caused (ended A image is told);
 }
 
 pub opened_lacking : (IsOf : Inputs → List ℕ → Type 0) (traced : Bool) (seen : Seen) (status : ℕ) → WritesSome traced [] (Err NoMemory) seen.written_before seen.written_after seen.sink_faults_before seen.sink_faults_after status
-    → seen.swap_after ≡ seen.swap_before → RunsOpened IsOf traced seen status
-opened_lacking IsOf traced seen status (inl writes) same = record { ending = Err NoMemory; journal = []; writes = writes; caused = tt; ended = λ A image is told. inl (refl, same ∙ told) }
-opened_lacking IsOf traced seen status (inr (lost, writes)) same = absurd lost
+    → seen.swap_after ≡ seen.swap_before → NoneFaulted seen → RunsOpened IsOf traced seen status
+opened_lacking IsOf traced seen status (inl writes) same none =
+    record { ending = Err NoMemory; journal = []; writes = writes; caused = inl none; ended = λ A image is told. inl (none, inl (refl, same ∙ told)) }
+opened_lacking IsOf traced seen status (inr (lost, writes)) same none = absurd lost
 
 -- The same for the words.
 
-caused_so : (request : Request) (seen : Seen) (es : List Entry) (r : Ending) → RunCaused seen es r → IsCaused request seen es r
-caused_so request seen es (Ok done) c = c
-caused_so request seen es (Err FileFault) c = inr c
-caused_so request seen es (Err (SwapReadFault device)) c = c
-caused_so request seen es (Err (SwapWriteFault device)) c = c
-caused_so request seen es (Err JournalFull) c = c
-caused_so request seen es (Err NoMemory) c = c
-caused_so request seen es (Err (NoSpace pid)) c = c
-caused_so request seen es (Err _) c = absurd c
+caused_so : (request : Request) (seen : Seen) (es : List Entry) (r : Ending) → RunCaused seen es r → DevicesSuffice request.numbers.swap seen → IsCaused request seen es r
+caused_so request seen es (Ok done) c d = (c, d)
+caused_so request seen es (Err FileFault) c d = inr (c, d)
+caused_so request seen es (Err (SwapReadFault device)) c d = (c, d)
+caused_so request seen es (Err (SwapWriteFault device)) c d = (c, d)
+caused_so request seen es (Err JournalFull) c d = (c, d)
+caused_so request seen es (Err NoMemory) (inl none) d = inl none
+caused_so request seen es (Err NoMemory) (inr lost) d = inr (lost, d)
+caused_so request seen es (Err (NoSpace pid)) c d = (c, d)
+caused_so request seen es (Err _) c d = absurd c
 
 judged_good : (request : Request) (seen : Seen) (files : List NamedFile) (es : List Entry) (r : Ending) → RunCaused seen es r → AllGood request seen files → IsJudged request seen files r
 judged_good request seen files es (Ok done) c good = good
-judged_good request seen files es (Err FileFault) c good = inr good
+judged_good request seen files es (Err FileFault) c good = inr (c.page, good)
 judged_good request seen files es (Err (SwapReadFault device)) c good = good
 judged_good request seen files es (Err (SwapWriteFault device)) c good = good
 judged_good request seen files es (Err JournalFull) c good = good
-judged_good request seen files es (Err NoMemory) c good = tt
+judged_good request seen files es (Err NoMemory) c good = inr good
 judged_good request seen files es (Err (NoSpace pid)) c good = good
 judged_good request seen files es (Err _) c good = absurd c
 
-told_so : (request : Request) (seen : Seen) (files : List NamedFile) (es : List Entry) (image : List ℕ) (after : Option (List ℕ)) (r : Ending) → RunCaused seen es r → RunOfWords request files es image after r
-    → EndsTold request files es image after r
-told_so request seen files es image after (Ok done) c x = x
-told_so request seen files es image after (Err FileFault) c x = inr x
-told_so request seen files es image after (Err (SwapReadFault device)) c x = x
-told_so request seen files es image after (Err (SwapWriteFault device)) c x = x
-told_so request seen files es image after (Err JournalFull) c x = x
-told_so request seen files es image after (Err NoMemory) c x = inr x
-told_so request seen files es image after (Err (NoSpace pid)) c x = x
-told_so request seen files es image after (Err _) c x = absurd c
+told_so : (request : Request) (seen : Seen) (files : List NamedFile) (es : List Entry) (image : List ℕ) (r : Ending) → RunCaused seen es r → AllGood request seen files
+    → RunOfWords request seen files es image r → EndsTold request seen files es image r
+told_so request seen files es image (Ok done) c good x = x
+told_so request seen files es image (Err FileFault) c good x = inr (c.page, good, x)
+told_so request seen files es image (Err (SwapReadFault device)) c good x = x
+told_so request seen files es image (Err (SwapWriteFault device)) c good x = x
+told_so request seen files es image (Err JournalFull) c good x = x
+told_so request seen files es image (Err NoMemory) c good x = inr x
+told_so request seen files es image (Err (NoSpace pid)) c good x = x
+told_so request seen files es image (Err _) c good x = absurd c
 
-pub opened_words : (request : Request) (seen : Seen) (opening : Opening) (status : ℕ) → RunsOpened (IsOfOpening request.numbers opening seen.files) request.traced seen status → AreAllowed request.numbers
+pub opened_words : (request : Request) (seen : Seen) (opening : Opening) (status : ℕ) → RunsOpened (IsOfOpening request.numbers opening seen.files) request.traced seen status → AreAllowed request.numbers → DevicesSuffice request.numbers.swap seen
     → ((files : List NamedFile) → seen.files ≡ Some files → AllGood request seen files) → ((files : List NamedFile) → seen.files ≡ Some files → KnownOpening request files opening)
     → ((image : List ℕ) → seen.swap_before ≡ Some image → 512 * request.numbers.swap ≤ length image) → Runs request seen status
-opened_words request seen opening status x allowed good known room = record {
+opened_words request seen opening status x allowed devices good known room = record {
   ending = x.ending;
   journal = x.journal;
   writes = x.writes;
-  caused = caused_so request seen x.journal x.ending x.caused;
+  caused = caused_so request seen x.journal x.ending x.caused devices;
   judged = λ files told. judged_good request seen files x.journal x.ending x.caused (good files told);
   told = λ files image told octets swap.
-      told_so request seen files x.journal image seen.swap_after x.ending x.caused (record {
+      told_so request seen files x.journal image x.ending x.caused (good files told) (record {
         inputs = inputs_of request files opening;
         asks = asks_for request files opening (known files told);
         ended = x.ended (inputs_of request files opening) image (is_asked_of request files opening (known files told) allowed image seen.files told octets (room image swap)) swap;
@@ -151,21 +159,14 @@ opened_words request seen opening status x allowed good known room = record {
 
 -- What was not opened.
 
+-- where the line of a fault can be lost, no file failed on the way to its first bytes
+lost_opens : (fault : Fault) (old new : ℕ) → NeedsMemory fault → CountsAt fault old new → new ≡ old
+lost_opens FileFault old new lost c = absurd lost
+lost_opens _ old new lost c = c
+
 abbrev pub OpeningOf : Request → Seen → FoundFiles → Fault → Type 0
 OpeningOf request seen found fault =
     EndsOpening request.schedule request.words request.numbers.swap seen.zero_blocks seen.one_blocks found seen.faults (let r : Result Opening Fault = Err fault in r)
-
-pub lacking_runs : (request : Request) (seen : Seen) (status : ℕ) → WritesSome request.traced [] (Err NoMemory) seen.written_before seen.written_after seen.sink_faults_before seen.sink_faults_after status
-    → seen.swap_after ≡ seen.swap_before → Runs request seen status
-lacking_runs request seen status (inl writes) same = record {
-  ending = Err NoMemory;
-  journal = [];
-  writes = writes;
-  caused = tt;
-  judged = λ files told. tt;
-  told = λ files image told octets swap. inl (refl, same ∙ swap);
-}
-lacking_runs request seen status (inr (lost, writes)) same = absurd lost
 
 module _ (request : Request) (seen : Seen) (same : seen.swap_after ≡ seen.swap_before) (reads : NoneFailed seen.reads) (writes : NoneFailed seen.writes) (pages : seen.faults.page_after ≡ seen.faults.page_before) where
   nothing : NothingDone seen []
@@ -174,32 +175,54 @@ module _ (request : Request) (seen : Seen) (same : seen.swap_after ≡ seen.swap
   unbegun : seen.faults.open_after ≡ seen.faults.open_before → Unbegun seen []
   unbegun opens = record { nothing = nothing; files = record { open_same = opens; page_same = pages } }
 
+  none_faulted : seen.faults.open_after ≡ seen.faults.open_before → NoneFaulted seen
+  none_faulted opens = record { files = record { open_same = opens; page_same = pages }; reads = reads; writes = writes }
+
+  -- no memory, before a file failed
+  starved_runs : (status : ℕ) → seen.faults.open_after ≡ seen.faults.open_before
+      → Writing request.traced seen [] (Err NoMemory) status → Runs request seen status
+  starved_runs status opens w = record {
+    ending = Err NoMemory;
+    journal = [];
+    writes = w;
+    caused = inl (none_faulted opens);
+    judged = λ files told. inl (none_faulted opens);
+    told = λ files image told octets swap. inl (unbegun opens, (refl, same ∙ swap));
+  }
+
+  pub lacking_runs : (status : ℕ) → WritesSome request.traced [] (Err NoMemory) seen.written_before seen.written_after seen.sink_faults_before seen.sink_faults_after status
+      → seen.faults.open_after ≡ seen.faults.open_before → Runs request seen status
+  lacking_runs status (inl w) opens = starved_runs status opens w
+  lacking_runs status (inr (lost, w)) opens = absurd lost
+
   unopened_caused : (fault : Fault) (found : FoundFiles) → OpeningOf request seen found fault → CountsAt fault seen.faults.open_before seen.faults.open_after → IsCaused request seen [] (Err fault)
   unopened_caused (Absent name) found ends opens = unbegun opens
   unopened_caused (NotImage name reason) found ends opens = unbegun opens
   unopened_caused (BadSchedule line) found ends opens = unbegun opens
   unopened_caused (ShortDevice device blocks needed) found ends opens = (unbegun opens, ends.1)
   unopened_caused FileFault found ends opens = inl (ends, nothing)
-  unopened_caused NoMemory found ends opens = tt
+  unopened_caused NoMemory found ends opens = inl (none_faulted opens)
   unopened_caused _ found ends opens = absurd ends
 
-  unopened_judged : (fault : Fault) (found : FoundFiles) (files : List NamedFile) → OpeningOf request seen found fault → found ≡ found_told request.schedule request.words files → IsJudged request seen files (Err fault)
-  unopened_judged (Absent name) found files ends is = subst (λ (x : FoundFiles). OpeningOf request seen x (Absent name)) is ends
-  unopened_judged (NotImage name reason) found files ends is = subst (λ (x : FoundFiles). OpeningOf request seen x (NotImage name reason)) is ends
-  unopened_judged (BadSchedule line) found files ends is = subst (λ (x : FoundFiles). OpeningOf request seen x (BadSchedule line)) is ends
-  unopened_judged (ShortDevice device blocks needed) found files ends is = subst (λ (x : FoundFiles). OpeningOf request seen x (ShortDevice device blocks needed)) is ends
-  unopened_judged FileFault found files ends is = inl ends
-  unopened_judged NoMemory found files ends is = tt
-  unopened_judged _ found files ends is = absurd ends
+  unopened_judged : (fault : Fault) (found : FoundFiles) (files : List NamedFile) → OpeningOf request seen found fault → CountsAt fault seen.faults.open_before seen.faults.open_after
+      → found ≡ found_told request.schedule request.words files → IsJudged request seen files (Err fault)
+  unopened_judged (Absent name) found files ends opens is = subst (λ (x : FoundFiles). OpeningOf request seen x (Absent name)) is ends
+  unopened_judged (NotImage name reason) found files ends opens is = subst (λ (x : FoundFiles). OpeningOf request seen x (NotImage name reason)) is ends
+  unopened_judged (BadSchedule line) found files ends opens is = subst (λ (x : FoundFiles). OpeningOf request seen x (BadSchedule line)) is ends
+  unopened_judged (ShortDevice device blocks needed) found files ends opens is = subst (λ (x : FoundFiles). OpeningOf request seen x (ShortDevice device blocks needed)) is ends
+  unopened_judged FileFault found files ends opens is = inl ends
+  unopened_judged NoMemory found files ends opens is = inl (none_faulted opens)
+  unopened_judged _ found files ends opens is = absurd ends
 
-  unopened_told : (fault : Fault) (found : FoundFiles) (files : List NamedFile) (image : List ℕ) → OpeningOf request seen found fault → seen.swap_before ≡ Some image → EndsTold request files [] image seen.swap_after (Err fault)
-  unopened_told (Absent name) found files image ends swap = (refl, same ∙ swap)
-  unopened_told (NotImage name reason) found files image ends swap = (refl, same ∙ swap)
-  unopened_told (BadSchedule line) found files image ends swap = (refl, same ∙ swap)
-  unopened_told (ShortDevice device blocks needed) found files image ends swap = (refl, same ∙ swap)
-  unopened_told FileFault found files image ends swap = inl (refl, same ∙ swap)
-  unopened_told NoMemory found files image ends swap = inl (refl, same ∙ swap)
-  unopened_told _ found files image ends swap = absurd ends
+  unopened_told : (fault : Fault) (found : FoundFiles) (files : List NamedFile) (image : List ℕ) → OpeningOf request seen found fault → CountsAt fault seen.faults.open_before seen.faults.open_after
+      → seen.swap_before ≡ Some image → EndsTold request seen files [] image (Err fault)
+  unopened_told (Absent name) found files image ends opens swap = (refl, same ∙ swap)
+  unopened_told (NotImage name reason) found files image ends opens swap = (refl, same ∙ swap)
+  unopened_told (BadSchedule line) found files image ends opens swap = (refl, same ∙ swap)
+  unopened_told (ShortDevice device blocks needed) found files image ends opens swap = (refl, same ∙ swap)
+  unopened_told FileFault found files image ends opens swap = inl ((ends, nothing), (refl, same ∙ swap))
+  unopened_told NoMemory found files image ends opens swap = inl (unbegun opens, (refl, same ∙ swap))
+  unopened_told _ found files image ends opens swap = absurd ends
 
   pub unopened_runs : (fault : Fault) (status : ℕ) → WritesSome request.traced [] (Err fault) seen.written_before seen.written_after seen.sink_faults_before seen.sink_faults_after status
       → (made : Made (EndsOpening request.schedule request.words request.numbers.swap seen.zero_blocks seen.one_blocks) (found_told request.schedule request.words) seen.files seen.faults (let r : Result Opening Fault = Err fault in r))
@@ -209,14 +232,7 @@ module _ (request : Request) (seen : Seen) (same : seen.swap_after ≡ seen.swap
     journal = [];
     writes = w;
     caused = unopened_caused fault made.read made.ends opens;
-    judged = λ files told. unopened_judged fault made.read files made.ends (made.is_told files told);
-    told = λ files image told octets swap. unopened_told fault made.read files image made.ends swap;
+    judged = λ files told. unopened_judged fault made.read files made.ends opens (made.is_told files told);
+    told = λ files image told octets swap. unopened_told fault made.read files image made.ends opens swap;
   }
-  unopened_runs fault status (inr (lost, w)) made opens = record {
-    ending = Err NoMemory;
-    journal = [];
-    writes = w;
-    caused = tt;
-    judged = λ files told. tt;
-    told = λ files image told octets swap. inl (refl, same ∙ swap);
-  }
+  unopened_runs fault status (inr (lost, w)) made opens = starved_runs status (lost_opens fault seen.faults.open_before seen.faults.open_after lost opens) w

@@ -19,6 +19,7 @@ use Rattle.register_laws.proofs.Octets.{both_octets, zero_octets}
 use Rattle.run_files.specs.ImageWords.{IsShortName}
 use Rattle.run_laws.specs.Files.{AreInputs}
 use Rattle.run_laws.proofs.Filing.{images_fit}
+use Rattle.run_start.specs.Starting.{StartsFrom}
 use Rattle.vm_core.specs.RunEnds.{IsAskedOf}
 use Rattle.command_ending.specs.Named.{Why, before}
 use Rattle.run_opening.specs.declared.images.OpenedImage.{OpenedImage}
@@ -191,6 +192,9 @@ module _ (number : ℕ) (os : List OpenedImage) (same : images_in (load_files nu
     few = omega arith;
     frames = omega arith;
   }
+
+  pub starts_from : StartsFrom (load_inputs number) (machine_of load_numbers (map shown_as os)) load_first
+  starts_from = record { named = subst (λ (images : List NamedImage). AreNamed images (map shown_as os)) same (named_images (load_files number) os); first = refl; frames = refl; blocks = refl }
 
   pub is_asked_of : (holds : Option (List NamedFile)) (lines : List Event) (image : List ℕ) → holds ≡ Some (load_files number) → lines ≡ load_lines number → All (IsIn (load_files number)) os
       → 512 * load_numbers.swap ≤ length image → IsAskedOf (load_inputs number) (machine_of load_numbers (map shown_as os)) load_first lines holds image

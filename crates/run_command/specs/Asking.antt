@@ -1,7 +1,6 @@
 -- What the words of a run ask for, and the inputs that it has where the files are told.
-use Rattle.std.specs.Prelude.{◌≡◌, ℕ, Bool, List, [], ◌∷◌, Ok}
+use Rattle.std.specs.Prelude.{◌≡◌, ℕ, Bool, List, Ok}
 use Rattle.io_edge.specs.FileHolding.{NamedFile}
-use Rattle.vax_code.specs.Grammar.{AreOctets}
 use Rattle.flat_state.specs.Flat.{Inputs}
 use Rattle.run_files.specs.ImageWords.{image_names, first_images}
 use Rattle.command_words.specs.declared.command.Numbers.{Numbers}
@@ -24,12 +23,3 @@ pub record AsksFor (A : Inputs) (request : Request) (files : List NamedFile) : T
   pub frames : A.frames ≡ request.numbers.frames
   pub blocks : A.swap_blocks ≡ request.numbers.swap
   pub limit : A.limit ≡ request.numbers.limit
-
--- what is told of files are names and bytes
-pub record IsOctetFile (file : NamedFile) : Type 0 where
-  pub name : AreOctets file.name
-  pub bytes : AreOctets file.bytes
-
-abbrev pub AreOctetFiles : List NamedFile → Type 0
-AreOctetFiles [] = Unit {0}
-AreOctetFiles (file ∷ files) = IsOctetFile file × AreOctetFiles files

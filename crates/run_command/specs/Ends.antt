@@ -1,7 +1,6 @@
 -- How a run ends, and what it writes.
 use Rattle.std.specs.Prelude.{◌≡◌, ◌⊎◌, ◌≤◌, ℕ, Bool, List, [], ◌++◌, length, Option, Some, None, Result, Ok, Err}
 use Rattle.vm_facts.specs.declared.entry.Entry.{Entry}
-use Rattle.vm_facts.specs.declared.stop.Stop.{Stop}
 use Rattle.vm_facts.specs.declared.stop.Stop.TheVariants as stops
 use Rattle.io_edge.specs.FileHolding.{NamedFile}
 use Rattle.flat_state.specs.Flat.{Inputs}
@@ -16,7 +15,8 @@ use Rattle.command_ending.specs.Command.{NoFaults, OpenFailed, PageFailed, Write
 use Rattle.run_opening.specs.Devices.{device_fault}
 use Rattle.run_opening.specs.Opening.{found_told, HasAll, EndsOpening}
 use Rattle.run_opening.specs.declared.opening.Opening.{Opening}
-use Rattle.run_command.specs.Asking.{Request, AsksFor, AreOctetFiles}
+use Rattle.io_edge.specs.Octets.{AreOctetFiles}
+use Rattle.run_command.specs.Asking.{Request, AsksFor}
 use Rattle.run_command.specs.Seen.{Seen, NoneFailed, DeviceFailed}
 use Rattle.run_command.specs.Machines.{journal_entries}
 
@@ -53,19 +53,47 @@ pub record NoneFaulted (seen : Seen) : Type 0 where
   pub reads : NoneFailed seen.reads
   pub writes : NoneFailed seen.writes
 
+-- a file failed behind its first bytes, and no other call
+pub record PageFailedAlone (seen : Seen) : Type 0 where
+  pub page : PageFailed seen.faults
+  pub reads : NoneFailed seen.reads
+  pub writes : NoneFailed seen.writes
+
+-- a read of this device failed, and no call of another kind
+pub record ReadFailedAlone (device : ℕ) (seen : Seen) : Type 0 where
+  pub files : NoFaults seen.faults
+  pub read : DeviceFailed device seen.reads
+  pub writes : NoneFailed seen.writes
+
+-- a write of this device failed, and no call of another kind
+pub record WriteFailedAlone (device : ℕ) (seen : Seen) : Type 0 where
+  pub files : NoFaults seen.faults
+  pub reads : NoneFailed seen.reads
+  pub write : DeviceFailed device seen.writes
+
 -- why a run that may have begun isn't finished
 abbrev pub HaltCaused : Seen → List Entry → Fault → Type 0
 HaltCaused seen journal (NoSpace pid) = Unbegun seen journal
-HaltCaused seen journal FileFault = PageFailed seen.faults
-HaltCaused seen journal (SwapReadFault device) = DeviceFailed device seen.reads
-HaltCaused seen journal (SwapWriteFault device) = DeviceFailed device seen.writes
-HaltCaused seen journal JournalFull = NoneFaulted seen
-HaltCaused seen journal NoMemory = Unit {0}
+HaltCaused seen journal FileFault = PageFailedAlone seen
+HaltCaused seen journal (SwapReadFault device) = ReadFailedAlone device seen
+HaltCaused seen journal (SwapWriteFault device) = WriteFailedAlone device seen
+HaltCaused seen journal JournalFull = NoneFaulted seen × (length journal ≡ journal_entries)
+HaltCaused seen journal NoMemory = NoneFaulted seen
 HaltCaused seen journal _ = ⊥
 
+-- the line of a fault found no memory; this is so of the fault
+abbrev pub LineLost : (Fault → Type 0) → Type 0
+LineLost IsSo = (fault : Fault) × NeedsMemory fault × IsSo fault
+
+-- Of a run that may have begun. Where memory is wanted, that may be for the line of another fault, which has its own cause.
 abbrev pub RunCaused : Seen → List Entry → Ending → Type 0
-RunCaused seen journal (Ok done) = NoneFaulted seen
+RunCaused seen journal (Ok done) = NoneFaulted seen × (length journal ≤ journal_entries)
+RunCaused seen journal (Err NoMemory) = HaltCaused seen journal NoMemory ⊎ LineLost (HaltCaused seen journal)
 RunCaused seen journal (Err fault) = HaltCaused seen journal fault
+
+-- the devices have as many blocks as a swap of so many needs of them
+abbrev pub DevicesSuffice : ℕ → Seen → Type 0
+DevicesSuffice swap seen = device_fault swap seen.zero_blocks seen.one_blocks ≡ None
 
 -- a file failed before the run
 abbrev pub FailsBefore : Seen → List Entry → Type 0
@@ -77,8 +105,10 @@ IsCaused request seen journal (Err (NotImage name reason)) = Unbegun seen journa
 IsCaused request seen journal (Err (BadSchedule line)) = Unbegun seen journal
 IsCaused request seen journal (Err (ShortDevice device blocks needed)) =
     Unbegun seen journal × (device_fault request.numbers.swap seen.zero_blocks seen.one_blocks ≡ Some (ShortDevice device blocks needed))
-IsCaused request seen journal (Err FileFault) = FailsBefore seen journal ⊎ HaltCaused seen journal FileFault
-IsCaused request seen journal ending = RunCaused seen journal ending
+IsCaused request seen journal (Err FileFault) = FailsBefore seen journal ⊎ (HaltCaused seen journal FileFault × DevicesSuffice request.numbers.swap seen)
+IsCaused request seen journal (Err NoMemory) =
+    HaltCaused seen journal NoMemory ⊎ (LineLost (HaltCaused seen journal) × DevicesSuffice request.numbers.swap seen)
+IsCaused request seen journal ending = RunCaused seen journal ending × DevicesSuffice request.numbers.swap seen
 
 -- What is judged before the run, where the files are told: the schedule, then the images in their order, then the devices; the first
 -- thing met decides.
@@ -86,7 +116,7 @@ IsCaused request seen journal ending = RunCaused seen journal ending
 -- all of it is good
 pub record AllGood (request : Request) (seen : Seen) (files : List NamedFile) : Type 0 where
   pub found : HasAll (found_told request.schedule request.words files)
-  pub devices : device_fault request.numbers.swap seen.zero_blocks seen.one_blocks ≡ None
+  pub devices : DevicesSuffice request.numbers.swap seen
 
 abbrev pub EndsUnopened : Request → Seen → List NamedFile → Fault → Type 0
 EndsUnopened request seen files fault =
@@ -97,36 +127,52 @@ IsJudged request seen files (Err (Absent name)) = EndsUnopened request seen file
 IsJudged request seen files (Err (NotImage name reason)) = EndsUnopened request seen files (NotImage name reason)
 IsJudged request seen files (Err (BadSchedule line)) = EndsUnopened request seen files (BadSchedule line)
 IsJudged request seen files (Err (ShortDevice device blocks needed)) = EndsUnopened request seen files (ShortDevice device blocks needed)
-IsJudged request seen files (Err FileFault) = OpenFailed seen.faults ⊎ AllGood request seen files
-IsJudged request seen files (Err NoMemory) = Unit {0}
+IsJudged request seen files (Err FileFault) = OpenFailed seen.faults ⊎ (PageFailed seen.faults × AllGood request seen files)
+IsJudged request seen files (Err NoMemory) = NoneFaulted seen ⊎ AllGood request seen files
 IsJudged request seen files ending = AllGood request seen files
 
--- The run, where files and devices are told. Want of memory may come at any place, also for the line of a halt.
+-- The run, where files and devices are told.
 
-abbrev pub RunEnded : Inputs → List Entry → List ℕ → Option (List ℕ) → Ending → Type 0
-RunEnded A journal image after (Ok done) = RunFinished A journal image after
-RunEnded A journal image after (Err FileFault) = RunHalted A journal stops.FileFault image after
-RunEnded A journal image after (Err (SwapReadFault device)) = RunHalted A journal stops.SwapReadFault image after
-RunEnded A journal image after (Err (SwapWriteFault device)) = RunHalted A journal stops.SwapWriteFault image after
-RunEnded A journal image after (Err JournalFull) = RunHalted A journal stops.JournalFull image after × (journal_entries ≤ length journal)
-RunEnded A journal image after (Err (NoSpace pid)) = NoneMade journal image after × (start_held A ≡ Err pid)
-RunEnded A journal image after (Err NoMemory) = NoneMade journal image after ⊎ (RunStarved A journal image after ⊎ ((stop : Stop) × RunHalted A journal stop image after))
-RunEnded A journal image after (Err fault) = ⊥
+-- it halted by this fault, which isn't want of memory
+abbrev pub FaultEnded : Inputs → List Entry → List ℕ → Option (List ℕ) → Fault → Type 0
+FaultEnded A journal image after FileFault = RunHalted A journal stops.FileFault image after
+FaultEnded A journal image after (SwapReadFault device) = RunHalted A journal stops.SwapReadFault image after
+FaultEnded A journal image after (SwapWriteFault device) = RunHalted A journal stops.SwapWriteFault image after
+FaultEnded A journal image after JournalFull = RunHalted A journal stops.JournalFull image after
+FaultEnded A journal image after (NoSpace pid) = NoneMade journal image after × (start_held A ≡ Err pid)
+FaultEnded A journal image after _ = ⊥
+
+-- Want of memory may come at any place, before anything was done too. It may also come for the line of another fault, by which the run
+-- had halted then.
+abbrev pub RunEnded : Seen → Inputs → List Entry → List ℕ → Ending → Type 0
+RunEnded seen A journal image (Ok done) = RunFinished A journal image seen.swap_after
+RunEnded seen A journal image (Err NoMemory) =
+    (NoneFaulted seen × (NoneMade journal image seen.swap_after ⊎ RunStarved A journal image seen.swap_after))
+    ⊎ LineLost (λ fault. HaltCaused seen journal fault × FaultEnded A journal image seen.swap_after fault)
+RunEnded seen A journal image (Err fault) = FaultEnded A journal image seen.swap_after fault
 
 -- it ended so for inputs that the words ask for
-pub record RunOfWords (request : Request) (files : List NamedFile) (journal : List Entry) (image : List ℕ) (after : Option (List ℕ)) (ending : Ending) : Type 0 where
+pub record RunOfWords (request : Request) (seen : Seen) (files : List NamedFile) (journal : List Entry) (image : List ℕ) (ending : Ending) : Type 0 where
   pub inputs : Inputs
   pub asks : AsksFor inputs request files
-  pub ended : RunEnded inputs journal image after ending
+  pub ended : RunEnded seen inputs journal image ending
 
-abbrev pub EndsTold : Request → List NamedFile → List Entry → List ℕ → Option (List ℕ) → Ending → Type 0
-EndsTold request files journal image after (Err (Absent name)) = NoneMade journal image after
-EndsTold request files journal image after (Err (NotImage name reason)) = NoneMade journal image after
-EndsTold request files journal image after (Err (BadSchedule line)) = NoneMade journal image after
-EndsTold request files journal image after (Err (ShortDevice device blocks needed)) = NoneMade journal image after
-EndsTold request files journal image after (Err FileFault) = NoneMade journal image after ⊎ RunOfWords request files journal image after (Err FileFault)
-EndsTold request files journal image after (Err NoMemory) = NoneMade journal image after ⊎ RunOfWords request files journal image after (Err NoMemory)
-EndsTold request files journal image after ending = RunOfWords request files journal image after ending
+-- A file failed: before the run, and nothing was done; or in the run, and then all that is judged before it was good, and the run halted
+-- there.
+abbrev pub FileFaultTold : Request → Seen → List NamedFile → List Entry → List ℕ → Type 0
+FileFaultTold request seen files journal image =
+    (FailsBefore seen journal × NoneMade journal image seen.swap_after)
+    ⊎ (PageFailed seen.faults × AllGood request seen files × RunOfWords request seen files journal image (Err FileFault))
+
+abbrev pub EndsTold : Request → Seen → List NamedFile → List Entry → List ℕ → Ending → Type 0
+EndsTold request seen files journal image (Err (Absent name)) = NoneMade journal image seen.swap_after
+EndsTold request seen files journal image (Err (NotImage name reason)) = NoneMade journal image seen.swap_after
+EndsTold request seen files journal image (Err (BadSchedule line)) = NoneMade journal image seen.swap_after
+EndsTold request seen files journal image (Err (ShortDevice device blocks needed)) = NoneMade journal image seen.swap_after
+EndsTold request seen files journal image (Err FileFault) = FileFaultTold request seen files journal image
+EndsTold request seen files journal image (Err NoMemory) =
+    (Unbegun seen journal × NoneMade journal image seen.swap_after) ⊎ RunOfWords request seen files journal image (Err NoMemory)
+EndsTold request seen files journal image ending = RunOfWords request seen files journal image ending
 
 -- Whole runs.
 
@@ -155,7 +201,7 @@ pub record Runs (request : Request) (seen : Seen) (status : ℕ) : Type 0 where
   pub writes : Writing request.traced seen journal ending status
   pub caused : IsCaused request seen journal ending
   pub judged : (files : List NamedFile) → seen.files ≡ Some files → IsJudged request seen files ending
-  pub told : (files : List NamedFile) (image : List ℕ) → seen.files ≡ Some files → AreOctetFiles files → seen.swap_before ≡ Some image → EndsTold request files journal image seen.swap_after ending
+  pub told : (files : List NamedFile) (image : List ℕ) → seen.files ≡ Some files → AreOctetFiles files → seen.swap_before ≡ Some image → EndsTold request seen files journal image ending
 
 -- A run that was opened, over a machine: the same, for the inputs that are the machine's.
 pub record RunsOpened (IsOf : Inputs → List ℕ → Type 0) (traced : Bool) (seen : Seen) (status : ℕ) : Type 0 where
@@ -163,4 +209,4 @@ pub record RunsOpened (IsOf : Inputs → List ℕ → Type 0) (traced : Bool) (s
   pub journal : List Entry
   pub writes : Writing traced seen journal ending status
   pub caused : RunCaused seen journal ending
-  pub ended : (A : Inputs) (image : List ℕ) → IsOf A image → seen.swap_before ≡ Some image → RunEnded A journal image seen.swap_after ending
+  pub ended : (A : Inputs) (image : List ℕ) → IsOf A image → seen.swap_before ≡ Some image → RunEnded seen A journal image ending

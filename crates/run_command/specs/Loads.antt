@@ -1,19 +1,20 @@
 -- What the command `load` is: a run of the workload of a number, which is counted.
-use Rattle.std.specs.Prelude.{◌≡◌, ◌⊎◌, ℕ, List, [], ◌∷◌, codes, IfErr, Option, Some, None, Ok, Err}
+use Rattle.std.specs.Prelude.{◌≡◌, ◌⊎◌, ℕ, List, [], ◌∷◌, codes, IfErr, Option, Some, Ok, Err}
 use Rattle.aout_image.specs.Image.{Loaded}
 use Rattle.vm_facts.specs.declared.entry.Entry.{Entry}
 use Rattle.flat_state.specs.Flat.{NamedImage, Inputs}
+use Rattle.flat_model.specs.Asked.{start_held}
 use Rattle.vm_core.specs.RunEnds.{NoneMade}
-use Rattle.command_ending.specs.declared.fault.Fault.TheVariants.{SwapReadFault, SwapWriteFault, NoMemory, JournalFull, NoSpace, ShortDevice}
+use Rattle.command_ending.specs.declared.fault.Fault.TheVariants.{FileFault, NoMemory, NoSpace, ShortDevice}
 use Rattle.command_ending.specs.Ending.{fault_status, fault_line, NeedsMemory}
-use Rattle.command_ending.specs.Command.{Writes}
+use Rattle.command_ending.specs.Command.{NoFaults, Writes}
 use Rattle.command_words.specs.declared.command.Numbers.{Numbers}
 use Rattle.run_opening.specs.Devices.{device_fault}
 use Rattle.load_maker.specs.Load.{load_images, load_lines}
 use Rattle.load_maker.specs.Counts.{counts_of, load_text}
-use Rattle.run_command.specs.Seen.{Seen, NoneFailed, DeviceFailed}
+use Rattle.run_command.specs.Seen.{Seen}
 use Rattle.run_command.specs.Paired.{IsRunFault}
-use Rattle.run_command.specs.Ends.{Ending, status_of, NothingDone, RunEnded}
+use Rattle.run_command.specs.Ends.{Ending, status_of, Unbegun, HaltCaused, LineLost, RunCaused, DevicesSuffice, RunEnded}
 
 -- ---- the inputs
 
@@ -66,53 +67,44 @@ WritesCounts number journal ending before after old_faults new_faults status =
 
 -- ---- the ending
 
--- no call on a device failed
-pub record NoDeviceFailed (seen : Seen) : Type 0 where
-  pub reads : NoneFailed seen.reads
-  pub writes : NoneFailed seen.writes
-
--- The cause of an ending, on the devices alone: the files are in memory, and never fail.
+-- The cause of an ending: that of a run, over devices that suffice; or a device is too short, and nothing was done. A file is never the
+-- cause, since the files are in memory; nor is want of swap space for a first process, since the pieces of all find their places.
 abbrev pub IsLoadCaused : Seen → List Entry → Ending → Type 0
-IsLoadCaused seen journal (Ok done) = NoDeviceFailed seen
-IsLoadCaused seen journal (Err (SwapReadFault device)) = DeviceFailed device seen.reads
-IsLoadCaused seen journal (Err (SwapWriteFault device)) = DeviceFailed device seen.writes
-IsLoadCaused seen journal (Err JournalFull) = NoDeviceFailed seen
-IsLoadCaused seen journal (Err (NoSpace pid)) = NothingDone seen journal
-IsLoadCaused seen journal (Err (ShortDevice device blocks needed)) = NothingDone seen journal
-IsLoadCaused seen journal (Err NoMemory) = Unit {0}
-IsLoadCaused seen journal (Err _) = ⊥
-
--- The devices are judged before the run, and the first short one decides.
-abbrev pub IsLoadJudged : Seen → Ending → Type 0
-IsLoadJudged seen (Err (ShortDevice device blocks needed)) = device_fault load_numbers.swap seen.zero_blocks seen.one_blocks ≡ Some (ShortDevice device blocks needed)
-IsLoadJudged seen (Err NoMemory) = Unit {0}
-IsLoadJudged seen ending = device_fault load_numbers.swap seen.zero_blocks seen.one_blocks ≡ None
+IsLoadCaused seen journal (Err (ShortDevice device blocks needed)) =
+    Unbegun seen journal × (device_fault load_numbers.swap seen.zero_blocks seen.one_blocks ≡ Some (ShortDevice device blocks needed))
+IsLoadCaused seen journal (Err FileFault) = ⊥
+IsLoadCaused seen journal (Err (NoSpace pid)) = ⊥
+IsLoadCaused seen journal (Err NoMemory) =
+    HaltCaused seen journal NoMemory ⊎ (LineLost (HaltCaused seen journal) × DevicesSuffice load_numbers.swap seen)
+IsLoadCaused seen journal ending = RunCaused seen journal ending × DevicesSuffice load_numbers.swap seen
 
 -- How the run ended, where the devices are told. Where a device is short, nothing was done.
-abbrev pub LoadEnded : ℕ → List Entry → List ℕ → Option (List ℕ) → Ending → Type 0
-LoadEnded number journal image after (Err (ShortDevice device blocks needed)) = NoneMade journal image after
-LoadEnded number journal image after ending = RunEnded (load_inputs number) journal image after ending
+abbrev pub LoadEnded : ℕ → Seen → List Entry → List ℕ → Ending → Type 0
+LoadEnded number seen journal image (Err (ShortDevice device blocks needed)) = NoneMade journal image seen.swap_after
+LoadEnded number seen journal image ending = RunEnded seen (load_inputs number) journal image ending
 
 -- What a load is: it has one ending and one journal. What was written are the lines of that ending, and the status is the ending's;
--- or the output failed, and a prefix of them was written. The ending has its cause, a short device decides before the run, and where
--- the devices are told the journal is that of a run of the workload of the number, and the devices are left as it says.
+-- or the output failed, and a prefix of them was written. The ending has its cause, and no file was touched. Where the devices are told
+-- the journal is that of a run of the workload of the number, and the devices are left as it says.
 pub record Loads (number : ℕ) (seen : Seen) (status : ℕ) : Type 0 where
   pub ending : Ending
   pub journal : List Entry
   pub writes : Writes seen.written_before seen.written_after seen.sink_faults_before seen.sink_faults_after (load_written number journal ending) (status_of ending) status
   pub caused : IsLoadCaused seen journal ending
-  pub judged : IsLoadJudged seen ending
-  pub told : (image : List ℕ) → seen.swap_before ≡ Some image → LoadEnded number journal image seen.swap_after ending
+  pub files : NoFaults seen.faults
+  pub told : (image : List ℕ) → seen.swap_before ≡ Some image → LoadEnded number seen journal image ending
 
--- it ended as a run does that began, or found no memory
+-- it ended as a run does that began, whose files never fail
 abbrev pub IsRunEnding : Ending → Type 0
+IsRunEnding (Err FileFault) = ⊥
 IsRunEnding ending = IfErr ending IsRunFault
 
--- A run of images that were opened, which is counted: the same, for the inputs that are its own.
-pub record LoadRuns (IsOf : Inputs → List ℕ → Type 0) (number : ℕ) (seen : Seen) (status : ℕ) : Type 0 where
+-- A run of images that were opened, which is counted: the same, for the inputs that are its own, and for those with which it starts.
+pub record LoadRuns (IsOf : Inputs → List ℕ → Type 0) (Starts : Inputs → Type 0) (number : ℕ) (seen : Seen) (status : ℕ) : Type 0 where
   pub ending : Ending
   pub journal : List Entry
   pub writes : Writes seen.written_before seen.written_after seen.sink_faults_before seen.sink_faults_after (load_written number journal ending) (status_of ending) status
-  pub caused : IsLoadCaused seen journal ending
+  pub caused : RunCaused seen journal ending
   pub began : IsRunEnding ending
-  pub ended : (A : Inputs) (image : List ℕ) → IsOf A image → seen.swap_before ≡ Some image → RunEnded A journal image seen.swap_after ending
+  pub space : (A : Inputs) → Starts A → (pid : ℕ) → ending ≡ Err (NoSpace pid) → start_held A ≡ Err pid
+  pub ended : (A : Inputs) (image : List ℕ) → IsOf A image → seen.swap_before ≡ Some image → RunEnded seen A journal image ending

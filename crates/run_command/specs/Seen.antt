@@ -1,5 +1,5 @@
 -- What a run sees of its files, devices and output, before and after.
-use Rattle.std.specs.Prelude.{◌≡◌, ℕ, List, Option}
+use Rattle.std.specs.Prelude.{◌≡◌, ◌<◌, ℕ, List, Option}
 use Rattle.io_edge.specs.Count.{Rose}
 use Rattle.io_edge.specs.FileHolding.{NamedFile}
 use Rattle.io_edge.specs.Striping.{of_device}
@@ -17,9 +17,9 @@ pub record NoneFailed (f : DeviceFaults) : Type 0 where
   pub zero : f.zero_after ≡ f.zero_before
   pub one : f.one_after ≡ f.one_before
 
--- a call on this device failed
+-- the device is 0 or 1, and a call on it failed
 abbrev pub DeviceFailed : ℕ → DeviceFaults → Type 0
-DeviceFailed device f = Rose (of_device device f.zero_before f.one_before) (of_device device f.zero_after f.one_after)
+DeviceFailed device f = (device < 2) × Rose (of_device device f.zero_before f.one_before) (of_device device f.zero_after f.one_after)
 
 pub record Seen : Type 0 where
   -- the files, where they are told, and the counts of their faults

@@ -93,6 +93,10 @@ fn run_opened<F: Files, D: SwapDev, E: SwapDev, S: Sink>(
       sink_faults_before = S.faults sink.old;
       sink_faults_after = S.faults sink.new;
     }) result }
+    ensures holds { F.holds files.new ≡ F.holds files.old }
+    ensures zero_leads { D.leads zero.old zero.new }
+    ensures one_leads { E.leads one.old one.new }
+    ensures sink_leads { S.leads sink.old sink.new }
 {
     let Ok(mut core) = core_of(alloc, numbers, opening.images.as_slice()) else {
         return write_run(alloc, sink, traced, &[], Err(Fault::NoMemory));
@@ -138,6 +142,10 @@ fn run_words<F: Files, D: SwapDev, E: SwapDev, S: Sink>(
       sink_faults_before = S.faults sink.old;
       sink_faults_after = S.faults sink.new;
     }) result }
+    ensures holds { F.holds files.new ≡ F.holds files.old }
+    ensures zero_leads { D.leads zero.old zero.new }
+    ensures one_leads { E.leads one.old one.new }
+    ensures sink_leads { S.leads sink.old sink.new }
 {
     let opened = open_run(
         alloc,
@@ -187,6 +195,10 @@ pub fn run_command<F: Files, D: SwapDev, E: SwapDev, S: Sink>(
       sink_faults_before = S.faults sink.old;
       sink_faults_after = S.faults sink.new;
     }) result }
+    ensures holds { F.holds files.new ≡ F.holds files.old }
+    ensures zero_leads { D.leads zero.old zero.new }
+    ensures one_leads { E.leads one.old one.new }
+    ensures sink_leads { S.leads sink.old sink.new }
 {
     match images.to_vec(alloc) {
         Ok(words) => run_words(

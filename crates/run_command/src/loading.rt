@@ -6,9 +6,9 @@ ghost use Rattle.machine_state.specs.New.{AreSound};
 ghost use Rattle.machine_state.specs.Applying.{facts_named};
 ghost use Rattle.machine_state.specs.Files.{AreFiles};
 ghost use Rattle.machine_state.specs.Sourced.{AreNames};
+ghost use Rattle.run_start.specs.Starting.{StartsFrom};
 ghost use Rattle.vm_core.specs.Schedules.{HaveFewMoves};
 ghost use Rattle.vm_core.specs.RunEnds.{IsAskedOf};
-ghost use Rattle.command_ending.specs.Command.{Faults};
 ghost use Rattle.run_command.specs.Naming.{shown_as};
 ghost use Rattle.run_command.specs.Machines.{machine_of};
 ghost use Rattle.run_command.specs.Paired.{image_together};
@@ -71,10 +71,11 @@ fn run_load<D: SwapDev, E: SwapDev, S: Sink>(
     requires moves { HaveFewMoves lines.now }
     requires count { length lines.now < 2 ^ 32 }
     requires devices { MeetsNeeds (D.blocks zero.old) (E.blocks one.old) load_numbers.swap }
-    ensures runs { (told : Option (List NamedFile)) (faults : Faults)
-        → LoadRuns (λ A image. IsAskedOf A (machine_of load_numbers (map shown_as images.now)) load_first lines.now (⟦<SureFiles as Files>⟧.holds files.old) image) number (record {
+    ensures runs { (told : Option (List NamedFile)) (opens pages : ℕ)
+        → LoadRuns (λ A image. IsAskedOf A (machine_of load_numbers (map shown_as images.now)) load_first lines.now (⟦<SureFiles as Files>⟧.holds files.old) image)
+        (λ A. StartsFrom A (machine_of load_numbers (map shown_as images.now)) load_first) number (record {
           files = told;
-          faults = faults;
+          faults = record { open_before = opens; open_after = opens; page_before = pages; page_after = pages };
           zero_blocks = D.blocks zero.old;
           one_blocks = E.blocks one.old;
           swap_before = image_together (D.blocks zero.old) (E.blocks one.old) (D.image zero.old) (E.image one.old);
@@ -86,6 +87,8 @@ fn run_load<D: SwapDev, E: SwapDev, S: Sink>(
           sink_faults_before = S.faults sink.old;
           sink_faults_after = S.faults sink.new;
         }) result }
+    ensures zero_leads { D.leads zero.old zero.new }
+    ensures one_leads { E.leads one.old one.new }
 {
     let Ok(mut core) = core_of(alloc, LOAD_NUMBERS, images) else {
         return write_counts(alloc, sink, number, &[], Err(Fault::NoMemory));
@@ -99,8 +102,8 @@ fn run_load<D: SwapDev, E: SwapDev, S: Sink>(
 /// Makes the workload of a number, runs it over two swap devices with 128 frames, 8,192 blocks of swap and at most 200,000
 /// instructions, begun with four processes of its first image, writes six lines that count over the journal, and answers the exit
 /// status: 0 where the run is finished; 6 a fault of a swap device that is read, 7 of one that is written; 8 a fault of the output;
-/// 9 want of memory, also for the lines; 10 a journal with no room for a further entry, of 16,777,216; 11 no swap for a first
-/// process; 12 a swap device that is too short. At any other status than 0 and 8 the line of the fault is written in place of the
+/// 9 want of memory, also for the lines; 10 a journal with no room for a further entry, of 16,777,216; 12 a swap device that is
+/// too short. At any other status than 0 and 8 the line of the fault is written in place of the
 /// six lines. The devices are judged before the run, device 0 first; an output that fails gives 8 whatever came before (this
 /// project's profile).
 pub fn load_command<D: SwapDev, E: SwapDev, S: Sink>(
@@ -110,9 +113,9 @@ pub fn load_command<D: SwapDev, E: SwapDev, S: Sink>(
     sink: &mut S,
     number: u32,
 ) -> u8
-    ensures loads { (told : Option (List NamedFile)) (faults : Faults) → Loads number (record {
+    ensures loads { (told : Option (List NamedFile)) (opens pages : ℕ) → Loads number (record {
       files = told;
-      faults = faults;
+      faults = record { open_before = opens; open_after = opens; page_before = pages; page_after = pages };
       zero_blocks = D.blocks zero.old;
       one_blocks = E.blocks one.old;
       swap_before = image_together (D.blocks zero.old) (E.blocks one.old) (D.image zero.old) (E.image one.old);
@@ -124,6 +127,8 @@ pub fn load_command<D: SwapDev, E: SwapDev, S: Sink>(
       sink_faults_before = S.faults sink.old;
       sink_faults_after = S.faults sink.new;
     }) result }
+    ensures zero_leads { D.leads zero.old zero.new }
+    ensures one_leads { E.leads one.old one.new }
 {
     let Ok(Load { files, lines }) = make_load(alloc, number) else {
         return write_counts(alloc, sink, number, &[], Err(Fault::NoMemory));

@@ -1,10 +1,12 @@
 // A run over two swap devices.
-ghost use Rattle.std.specs.Prelude.{◌≡◌, ◌<◌, ◌≤◌, ◌^◌, ℕ, true, List, [], length, Some, None, Err, All, IfErr, IsSome};
+ghost use Rattle.std.specs.Prelude.{◌≡◌, ◌<◌, ◌≤◌, ◌^◌, ◌↔◌, ℕ, true, List, [], length, Some, None, Err, All, IfErr, IsSome, OnOk};
 ghost use Rattle.io_edge.specs.FailedDevice.{failed_read_of, failed_write_of};
 ghost use Rattle.io_edge.specs.Striping.{most_blocks, pair_blocks, MeetsNeeds};
 ghost use Rattle.flat_state.specs.Flat.{Inputs};
+ghost use Rattle.flat_model.specs.Asked.{start_held};
 ghost use Rattle.machine_state.specs.Done.{CountsPages};
 ghost use Rattle.machine_state.specs.Files.{AreFiles};
+ghost use Rattle.run_start.specs.Starting.{StartsFrom};
 ghost use Rattle.vm_core.specs.Starting.{IsFresh};
 ghost use Rattle.vm_core.specs.Schedules.{HaveFewMoves};
 ghost use Rattle.vm_core.specs.RunEnds.{stopped_as, IsAskedOf, RunEnds};
@@ -14,10 +16,17 @@ ghost use Rattle.run_command.specs.Paired.{image_together, unfinished_of, IsFaul
 use command_ending::Fault;
 use io_edge::{Files, SwapDev, SwapPair};
 use vm_core::{Core, Unfinished, run_schedule};
-use vm_facts::{Event, Stop};
+use vm_facts::{Entry, Event, Stop};
 
 /// The most entries of a journal.
 pub const JOURNAL_ENTRIES: u32 = 16_777_216;
+
+// Whether a journal has just as many entries as it may have.
+fn is_full(journal: &[Entry]) -> bool
+    ensures { (result ≡ true) ↔ (length journal.now ≡ journal_entries) }
+{
+    journal.len() == JOURNAL_ENTRIES as usize
+}
 
 // The fault of a stop, with the device of the last failed read and of the last failed write. A journal is full that has all its
 // entries.
@@ -26,6 +35,7 @@ fn fault_of<'a>(stop: Stop, full: bool, read: Option<u32>, write: Option<u32>) -
     requires write { stop ≡ Stop.SwapWriteFault → IsSome write }
     ensures unfinished { IsFaultOf stop result }
     ensures full { result ≡ Fault.JournalFull → full ≡ true }
+    ensures said { stop ≡ Stop.JournalFull → full ≡ true → result ≡ Fault.JournalFull }
     ensures kind { IsRunFault result }
     ensures read_device { (device : ℕ) → result ≡ Fault.SwapReadFault device → read ≡ Some device }
     ensures write_device { (device : ℕ) → result ≡ Fault.SwapWriteFault device → write ≡ Some device }
@@ -70,10 +80,15 @@ fn run_over<'a, 'd, F: Files, D: SwapDev, E: SwapDev>(
         → image_together (D.blocks pair.old.zero.now) (E.blocks pair.old.one.now) (D.image pair.old.zero.now) (E.image pair.old.one.now) ≡ Some image
         → RunEnds A core.new.machine.kernel.journal image (unfinished_of result)
         (image_together (D.blocks pair.new.zero.now) (E.blocks pair.new.one.now) (D.image pair.new.zero.now) (E.image pair.new.one.now)) }
+    ensures no_space { (A : Inputs) → StartsFrom A core.old.machine first.now → (pid : ℕ) → result ≡ Err (Fault.NoSpace pid) → start_held A ≡ Err pid }
     ensures none_made { (pid : ℕ) → result ≡ Err (Fault.NoSpace pid) → core.new.machine.kernel.journal ≡ [] }
     ensures untouched { (pid : ℕ) → result ≡ Err (Fault.NoSpace pid) → pair.new ≡ pair.old }
-    ensures full { result ≡ Err Fault.JournalFull → journal_entries ≤ length core.new.machine.kernel.journal }
+    ensures within { OnOk result (length core.new.machine.kernel.journal ≤ core.old.machine.params.journal) }
+    ensures full { result ≡ Err Fault.JournalFull → length core.new.machine.kernel.journal ≡ journal_entries }
     ensures kind { IfErr result IsRunFault }
+    ensures zero_leads { D.leads pair.old.zero.now pair.new.zero.now }
+    ensures one_leads { E.leads pair.old.one.now pair.new.one.now }
+    ensures files_lead { F.leads files.old files.new }
     ensures zero_reference { pair.new.zero.ghost_name ≡ pair.old.zero.ghost_name }
     ensures one_reference { pair.new.one.ghost_name ≡ pair.old.one.ghost_name }
     ensures holds { F.holds files.new ≡ F.holds files.old }
@@ -86,7 +101,7 @@ fn run_over<'a, 'd, F: Files, D: SwapDev, E: SwapDev>(
         Ok(()) => Ok(()),
         Err(Unfinished::NoSpace(pid)) => Err(Fault::NoSpace(pid)),
         Err(Unfinished::Stopped(stop)) => {
-            let full = core.journal().len() >= JOURNAL_ENTRIES as usize;
+            let full = is_full(core.journal());
             Err(fault_of(stop, full, pair.failed_read(), pair.failed_write()))
         }
     }
@@ -115,11 +130,16 @@ pub fn run_paired<'a, F: Files, D: SwapDev, E: SwapDev>(
     ensures ends { (A : Inputs) (image : List ℕ) → IsAskedOf A core.old.machine first.now lines.now (F.holds files.old) image
         → image_together (D.blocks zero.old) (E.blocks one.old) (D.image zero.old) (E.image one.old) ≡ Some image
         → RunEnds A core.new.machine.kernel.journal image (unfinished_of result) (image_together (D.blocks zero.new) (E.blocks one.new) (D.image zero.new) (E.image one.new)) }
+    ensures no_space { (A : Inputs) → StartsFrom A core.old.machine first.now → (pid : ℕ) → result ≡ Err (Fault.NoSpace pid) → start_held A ≡ Err pid }
     ensures none_made { (pid : ℕ) → result ≡ Err (Fault.NoSpace pid) → core.new.machine.kernel.journal ≡ [] }
     ensures untouched { (pid : ℕ) → result ≡ Err (Fault.NoSpace pid)
         → image_together (D.blocks zero.new) (E.blocks one.new) (D.image zero.new) (E.image one.new) ≡ image_together (D.blocks zero.old) (E.blocks one.old) (D.image zero.old) (E.image one.old) }
-    ensures full { result ≡ Err Fault.JournalFull → journal_entries ≤ length core.new.machine.kernel.journal }
+    ensures within { OnOk result (length core.new.machine.kernel.journal ≤ core.old.machine.params.journal) }
+    ensures full { result ≡ Err Fault.JournalFull → length core.new.machine.kernel.journal ≡ journal_entries }
     ensures kind { IfErr result IsRunFault }
+    ensures zero_leads { D.leads zero.old zero.new }
+    ensures one_leads { E.leads one.old one.new }
+    ensures files_lead { F.leads files.old files.new }
     ensures holds { F.holds files.new ≡ F.holds files.old }
     ensures open_faults { F.open_faults files.new ≡ F.open_faults files.old }
     ensures page_faults { CountsPages (stopped_as (unfinished_of result)) (F.page_faults files.old) (F.page_faults files.new) }

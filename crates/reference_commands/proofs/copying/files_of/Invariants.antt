@@ -1,6 +1,6 @@
 use Rattle.std.proofs.Common.{◌≡◌, map, take}
 use Rattle.io_edge.specs.FileHolding.{named_file}
-use Rattle.run_command.specs.Asking.{AreOctetFiles}
+use Rattle.io_edge.specs.Octets.{AreOctetFiles}
 use Rattle.reference_commands.specs.InMemory.{file_of}
 use Rattle.reference_commands.proofs.copying.files_of.Given as goal
 

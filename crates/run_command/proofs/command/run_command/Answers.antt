@@ -1,13 +1,13 @@
 use Rattle.std.proofs.Common.{Bor, List, ℕ, map, refl}
 use Rattle.command_words.specs.Command.{word_list}
 use Rattle.run_command.specs.Asking.{Request}
-use Rattle.run_command.specs.Seen.{Seen}
+use Rattle.run_command.specs.Seen.{Seen, NoneFailed}
 use Rattle.run_command.specs.Paired.{image_together}
 use Rattle.run_command.proofs.Runs.{lacking_runs}
 use Rattle.run_command.proofs.command.run_command.Goals as goal
 
-pub returns-in-Err : goal.returns-in-Err
-returns-in-Err g c =
+pub returns-in-Err-clause-runs : goal.returns-in-Err-clause-runs
+returns-in-Err-clause-runs g c =
     let files = c.args.files.now in
     let zero = c.args.zero.now in
     let one = c.args.one.now in
@@ -27,4 +27,6 @@ returns-in-Err g c =
       sink_faults_before = g.S.Sink.faults c.args.sink.now;
       sink_faults_after = g.S.Sink.faults c.write_run.new.sink;
     } in
-    record { runs = lacking_runs request seen c.write_run.result c.write_run.ensures refl }
+    let reads : NoneFailed seen.reads = record { zero = refl; one = refl } in
+    let writes : NoneFailed seen.writes = record { zero = refl; one = refl } in
+    lacking_runs request seen refl reads writes refl c.write_run.result c.write_run.ensures.writes refl

@@ -1,4 +1,4 @@
-use Rattle.std.proofs.Common.{List, ℕ, map, refl, sym, ap, ◌∙◌, subst}
+use Rattle.std.proofs.Common.{List, ℕ, ◌≤◌, length, OnOk, map, refl, sym, ap, ◌∙◌, subst}
 use Rattle.vm_facts.specs.declared.entry.Entry.{Entry}
 use Rattle.vm_facts.specs.declared.event.Event.{Event}
 use Rattle.machine_state.specs.Machine.{Standing}
@@ -8,13 +8,13 @@ use Rattle.run_command.specs.Seen.{Seen}
 use Rattle.run_command.specs.Naming.{shown_as}
 use Rattle.run_command.specs.Machines.{machine_of, IsOfOpening}
 use Rattle.run_command.specs.Paired.{image_together}
-use Rattle.run_command.specs.Ends.{RunCaused, WritesSome}
-use Rattle.run_command.proofs.Endings.{run_ended}
+use Rattle.run_command.specs.Ends.{NoneFaulted, WritesSome}
+use Rattle.run_command.proofs.Endings.{StopCaused, run_ended}
 use Rattle.run_command.proofs.Runs.{run_caused, opened_runs, opened_lacking}
 use Rattle.run_command.proofs.command.run_opened.Goals as goal
 
-pub returns-in_default : goal.returns-in_default
-returns-in_default g c =
+pub returns-in_default-clause-runs : goal.returns-in_default-clause-runs
+returns-in_default-clause-runs g c =
     let files = c.args.files.now in
     let zero = c.args.zero.now in
     let one = c.args.one.now in
@@ -33,10 +33,12 @@ returns-in_default g c =
       sink_faults_before = g.S.Sink.faults c.args.sink.now;
       sink_faults_after = g.S.Sink.faults c.write_run.new.sink;
     } in
-    record { runs = opened_lacking (IsOfOpening c.args.numbers c.args.opening.now (g.F.Files.holds files)) c.args.traced seen c.write_run.result c.write_run.ensures refl }
+    let none : NoneFaulted seen
+    = record { files = record { open_same = refl; page_same = refl }; reads = record { zero = refl; one = refl }; writes = record { zero = refl; one = refl } } in
+    opened_lacking (IsOfOpening c.args.numbers c.args.opening.now (g.F.Files.holds files)) c.args.traced seen c.write_run.result c.write_run.ensures.writes refl none
 
-pub returns : goal.returns
-returns g c =
+pub returns-clause-runs : goal.returns-clause-runs
+returns-clause-runs g c =
     let files = c.args.files.now in
     let after = c.run_paired-ending.new.files in
     let zero = c.args.zero.now in
@@ -61,15 +63,14 @@ returns g c =
       sink_faults_after = g.S.Sink.faults c.write_run-status.new.sink;
     } in
     let written : WritesSome c.args.traced es r seen.written_before seen.written_after seen.sink_faults_before seen.sink_faults_after c.write_run-status.result
-    = subst (λ (entries : List Entry). WritesSome c.args.traced entries r seen.written_before seen.written_after seen.sink_faults_before seen.sink_faults_after c.write_run-status.result) c.journal.ensures c.write_run-status.ensures in
+    = subst (λ (entries : List Entry). WritesSome c.args.traced entries r seen.written_before seen.written_after seen.sink_faults_before seen.sink_faults_after c.write_run-status.result) c.journal.ensures c.write_run-status.ensures.writes in
     let machine = c.in-Ok.ensures.machine ∙ ap (λ (images : List OpenedImage). machine_of c.args.numbers (map shown_as images)) c.as_slice.ensures.value in
-    let caused : RunCaused seen es r = run_caused seen es r ran.kind ran.open_faults ran.page_faults ran.reads ran.writes ran.none_made ran.untouched in
-    record {
-      runs = opened_runs (IsOfOpening c.args.numbers c.args.opening.now (g.F.Files.holds files)) c.args.traced seen es r c.write_run-status.result written caused ran.kind
-          (λ A image is told.
-          run_ended A es image seen.swap_after r ran.kind ran.full
-          (ran.ends A image
-          (subst (λ (lines : List Event). IsAskedOf A c.in-Ok.core.machine c.as_slice-2.result.now lines (g.F.Files.holds files) image) (sym c.as_slice-3.ensures.value)
-          (subst (λ (first : List ℕ). IsAskedOf A c.in-Ok.core.machine first c.args.opening.now.lines.items (g.F.Files.holds files) image) (sym c.as_slice-2.ensures.value)
-          (subst (λ (m : Standing). IsAskedOf A m c.args.opening.now.first.items c.args.opening.now.lines.items (g.F.Files.holds files) image) (sym machine) is))) told));
-    }
+    let caused : StopCaused seen es r = run_caused seen es r ran.kind ran.open_faults ran.page_faults ran.reads ran.writes ran.none_made ran.untouched ran.full
+    (subst (λ (m : Standing). OnOk r (length es ≤ m.params.journal)) machine ran.within) in
+    opened_runs (IsOfOpening c.args.numbers c.args.opening.now (g.F.Files.holds files)) c.args.traced seen es r c.write_run-status.result written caused ran.kind
+    (λ A image is told.
+    run_ended seen A es image r ran.kind caused
+    (ran.ends A image
+    (subst (λ (lines : List Event). IsAskedOf A c.in-Ok.core.machine c.as_slice-2.result.now lines (g.F.Files.holds files) image) (sym c.as_slice-3.ensures.value)
+    (subst (λ (first : List ℕ). IsAskedOf A c.in-Ok.core.machine first c.args.opening.now.lines.items (g.F.Files.holds files) image) (sym c.as_slice-2.ensures.value)
+    (subst (λ (m : Standing). IsAskedOf A m c.args.opening.now.first.items c.args.opening.now.lines.items (g.F.Files.holds files) image) (sym machine) is))) told))

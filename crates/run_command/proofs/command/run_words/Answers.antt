@@ -35,8 +35,8 @@ run_opened-requires-clause-ready g c =
       lines = let few = said.few_lines in omega arith;
     }
 
-pub returns-in-Ok : goal.returns-in-Ok
-returns-in-Ok g c =
+pub returns-in-Ok-clause-runs : goal.returns-in-Ok-clause-runs
+returns-in-Ok-clause-runs g c =
     let files = c.args.files.now in
     let opened = c.open_run-opened.new.files in
     let after = c.run_opened.new.files in
@@ -90,15 +90,13 @@ returns-in-Ok g c =
       few = (let few = said.few_first in let most = c.requires.words.few in omega arith);
       lines = subst (λ (found : FoundFiles). HasEvents found.schedule opening.lines.items) (made.is_told list told) with.lines;
     } in
-    record {
-      runs = opened_words request seen opening status runs c.requires.allowed good known
-          (λ image told.
-          room_told (g.D.SwapDev.blocks zero) (g.E.SwapDev.blocks one) c.args.numbers.swap (g.D.SwapDev.image zero) (g.E.SwapDev.image one) image (g.met.D.SwapDev.whole zero) (g.met.E.SwapDev.whole one)
-          (needs_met c.args.numbers.swap (g.D.SwapDev.blocks zero) (g.E.SwapDev.blocks one) with.devices) c.requires.allowed.most_swap told);
-    }
+    opened_words request seen opening status runs c.requires.allowed with.devices good known
+    (λ image told.
+    room_told (g.D.SwapDev.blocks zero) (g.E.SwapDev.blocks one) c.args.numbers.swap (g.D.SwapDev.image zero) (g.E.SwapDev.image one) image (g.met.D.SwapDev.whole zero) (g.met.E.SwapDev.whole one)
+    (needs_met c.args.numbers.swap (g.D.SwapDev.blocks zero) (g.E.SwapDev.blocks one) with.devices) c.requires.allowed.most_swap told)
 
-pub returns-in-Err : goal.returns-in-Err
-returns-in-Err g c =
+pub returns-in-Err-clause-runs : goal.returns-in-Err-clause-runs
+returns-in-Err-clause-runs g c =
     let files = c.args.files.now in
     let opened = c.open_run-opened.new.files in
     let zero = c.args.zero.now in
@@ -125,4 +123,4 @@ returns-in-Err g c =
     = λ z o. Made (EndsOpening request.schedule request.words request.numbers.swap z o) (found_told request.schedule request.words) seen.files seen.faults (let r : Result Opening Fault = Err c.in-Err.fault in r) in
     let made : opening_of (g.D.SwapDev.blocks zero) (g.E.SwapDev.blocks one)
     = subst (opening_of (g.D.SwapDev.blocks zero)) c.blocks-3.ensures (subst (λ (z : ℕ). opening_of z c.blocks-3.result) c.blocks-2.ensures c.in-Err.ensures.ends) in
-    record { runs = unopened_runs request seen refl reads writes c.open_run-opened.ensures.page_faults c.in-Err.fault c.write_run.result c.write_run.ensures made c.in-Err.ensures.open_faults }
+    unopened_runs request seen refl reads writes c.open_run-opened.ensures.page_faults c.in-Err.fault c.write_run.result c.write_run.ensures.writes made c.in-Err.ensures.open_faults

@@ -16,20 +16,24 @@ use Rattle.run_command.specs.Loads.{load_names, load_numbers, load_inputs, Write
 use Rattle.run_command.proofs.Openings.{are_sound, are_names}
 use Rattle.run_command.proofs.Inputs.{have_few_moves}
 use Rattle.run_command.proofs.Loadings.{loads_unmade, loads_judged, loads_run, meets_needs, only_memory}
-use Rattle.run_command.proofs.Workloads.{found_in, same_images, files_opened, short_opened, is_asked_of, has_room, few_lines}
+use Rattle.run_command.proofs.Workloads.{found_in, same_images, files_opened, short_opened, starts_from, is_asked_of, has_room, few_lines}
 use Rattle.run_command.proofs.loading.load_command.Goals as goal
 
-pub returns-in_default : goal.returns-in_default
-returns-in_default g c = record { loads = λ told failed. loads_unmade c.args.number _ c.write_counts.result refl c.write_counts.ensures }
+pub returns-in_default-clause-loads : goal.returns-in_default-clause-loads
+returns-in_default-clause-loads g c = λ told opens pages.
+    loads_unmade c.args.number _ c.write_counts.result refl
+    (record { files = record { open_same = refl; page_same = refl }; reads = record { zero = refl; one = refl }; writes = record { zero = refl; one = refl } }) c.write_counts.ensures
 
-pub returns-in-Some : goal.returns-in-Some
-returns-in-Some g c =
+pub returns-in-Some-clause-loads : goal.returns-in-Some-clause-loads
+returns-in-Some-clause-loads g c =
     let short : device_fault load_numbers.swap (g.D.SwapDev.blocks c.args.zero.now) (g.E.SwapDev.blocks c.args.one.now) ≡ Some c.in-Some.fault = search rules in
-    record {
-      loads = λ told failed.
-          loads_judged c.args.number _ c.write_counts-in-Some.result c.in-Some.fault short
-          (record { journal_is = refl; swap = refl; reads = record { zero = refl; one = refl }; writes = record { zero = refl; one = refl } }) c.write_counts-in-Some.ensures;
-    }
+    λ told opens pages.
+    loads_judged c.args.number _ c.write_counts-in-Some.result c.in-Some.fault short
+    (record {
+      nothing = record { journal_is = refl; swap = refl; reads = record { zero = refl; one = refl }; writes = record { zero = refl; one = refl } };
+      files = record { open_same = refl; page_same = refl };
+    })
+    c.write_counts-in-Some.ensures
 
 pub run_load-requires-clause-sound : goal.run_load-requires-clause-sound
 run_load-requires-clause-sound g c =
@@ -50,40 +54,38 @@ run_load-requires-clause-moves g c = subst HaveFewMoves (sym c.as_slice-in-Ok-op
 pub run_load-requires-clause-count : goal.run_load-requires-clause-count
 run_load-requires-clause-count g c = few_lines c.args.number _ _ c.as_slice-in-Ok-open_images.ensures.value c.in-Ok.ensures.lines
 
-pub returns-in-Ok-open_images : goal.returns-in-Ok-open_images
-returns-in-Ok-open_images g c =
+pub returns-in-Ok-open_images-clause-loads : goal.returns-in-Ok-open_images-clause-loads
+returns-in-Ok-open_images-clause-loads g c =
     let number = c.args.number in
     let os = c.in-Ok-open_images.images.items in
     let xs = c.as_slice.result.now in
     let same = same_images number _ _ os c.new-files.ensures c.in-Ok.ensures.files c.in-Ok.ensures.images c.in-Ok-open_images.ensures.answers in
+    let is_opened = ap (images_in (load_files number)) c.as_slice.ensures.value ∙ same in
     let holds = c.new-files.ensures ∙ ap (λ (fs : List NamedFile). Some fs) c.in-Ok.ensures.files in
     let are_in = c.in-Ok-open_images.ensures.are_in (load_files number) holds in
     let long : device_fault load_numbers.swap (g.D.SwapDev.blocks c.args.zero.now) (g.E.SwapDev.blocks c.args.one.now) ≡ None = search rules in
-    record {
-      loads = λ told failed.
-          loads_run _ number _ c.run_load.result long
-          (λ image before.
-          is_asked_of number xs (ap (images_in (load_files number)) c.as_slice.ensures.value ∙ same) _ c.as_slice-in-Ok-open_images.result.now image
-          (c.open_images.ensures.holds ∙ holds) (c.as_slice-in-Ok-open_images.ensures.value ∙ c.in-Ok.ensures.lines)
-          (subst (All (IsIn (load_files number))) (sym c.as_slice.ensures.value) are_in)
-          (has_room (g.D.SwapDev.blocks c.args.zero.now) (g.E.SwapDev.blocks c.args.one.now) (g.D.SwapDev.image c.args.zero.now) (g.E.SwapDev.image c.args.one.now) image
-          (g.met.D.SwapDev.whole c.args.zero.now) (g.met.E.SwapDev.whole c.args.one.now) (meets_needs _ _ long) before))
-          (c.run_load.ensures.runs told failed);
-    }
+    λ told opens pages.
+    loads_run _ _ number _ c.run_load.result long (record { open_same = refl; page_same = refl }) (starts_from number xs is_opened)
+    (λ image before.
+    is_asked_of number xs is_opened _ c.as_slice-in-Ok-open_images.result.now image
+    (c.open_images.ensures.holds ∙ holds) (c.as_slice-in-Ok-open_images.ensures.value ∙ c.in-Ok.ensures.lines)
+    (subst (All (IsIn (load_files number))) (sym c.as_slice.ensures.value) are_in)
+    (has_room (g.D.SwapDev.blocks c.args.zero.now) (g.E.SwapDev.blocks c.args.one.now) (g.D.SwapDev.image c.args.zero.now) (g.E.SwapDev.image c.args.one.now) image
+    (g.met.D.SwapDev.whole c.args.zero.now) (g.met.E.SwapDev.whole c.args.one.now) (meets_needs _ _ long) before))
+    (c.run_load.ensures.runs told opens pages)
 
-pub returns : goal.returns
-returns g c =
+pub returns-clause-loads : goal.returns-clause-loads
+returns-clause-loads g c =
     let number = c.args.number in
     let fault = c.in-Err.fault in
     let holds = c.new-files.ensures ∙ ap (λ (fs : List NamedFile). Some fs) c.in-Ok.ensures.files in
     let lacks : fault ≡ faults.NoMemory
     = only_memory (λ (images : Vec OpenedImage Global). images_in (load_files number) images.items) (images_found (load_files number) load_names) (load_inputs number).images fault
     (found_in number _ c.in-Ok.ensures.files c.in-Ok.ensures.images) (c.in-Err.ensures.answers (load_files number) holds) c.in-Err.ensures.open_faults c.in-Err.ensures.error in
-    record {
-      loads = λ told failed.
-          loads_unmade number _ c.write_counts-in-Err.result refl
-          (subst
-          (λ (f : Fault). WritesCounts number [] (Err f) (g.S.Sink.written c.args.sink.now) (g.S.Sink.written c.write_counts-in-Err.new.sink) (g.S.Sink.faults c.args.sink.now)
-          (g.S.Sink.faults c.write_counts-in-Err.new.sink) c.write_counts-in-Err.result)
-          lacks c.write_counts-in-Err.ensures);
-    }
+    λ told opens pages.
+    loads_unmade number _ c.write_counts-in-Err.result refl
+    (record { files = record { open_same = refl; page_same = refl }; reads = record { zero = refl; one = refl }; writes = record { zero = refl; one = refl } })
+    (subst
+    (λ (f : Fault). WritesCounts number [] (Err f) (g.S.Sink.written c.args.sink.now) (g.S.Sink.written c.write_counts-in-Err.new.sink) (g.S.Sink.faults c.args.sink.now)
+    (g.S.Sink.faults c.write_counts-in-Err.new.sink) c.write_counts-in-Err.result)
+    lacks c.write_counts-in-Err.ensures)

@@ -54,7 +54,7 @@ returns-in-Err-Stopped-clause-reads g c =
       one_before = g.E.SwapDev.read_faults old.one.now;
       one_after = g.E.SwapDev.read_faults new.one.now;
     } in
-    reads_fail f old.reads.count new.reads.count old.reads.last new.reads.last c.run_schedule.ensures.swap_leads.4 c.requires.no_reads c.requires.no_read
+    reads_fail f old.reads.count new.reads.count old.reads.last new.reads.last c.run_schedule.ensures.swap_leads.4 c.requires.no_reads c.requires.no_read new.reads.device
     c.in-Err-Stopped.stop c.fault_of.result
     (subst (λ (u : Unfinished). CountsReads {A = Unit {0}} (stopped_as (Err u)) old.reads.count new.reads.count) c.in-Err-Stopped.field-0-is c.in-Err-Stopped.ensures.read_faults) c.fault_of.ensures.unfinished c.fault_of.ensures.kind
     (λ device e. sym c.failed_read.ensures.device ∙ c.fault_of.ensures.read_device device e)
@@ -69,7 +69,7 @@ returns-in-Err-Stopped-clause-writes g c =
       one_before = g.E.SwapDev.write_faults old.one.now;
       one_after = g.E.SwapDev.write_faults new.one.now;
     } in
-    writes_fail f old.writes.count new.writes.count old.writes.last new.writes.last c.run_schedule.ensures.swap_leads.5 c.requires.no_writes c.requires.no_write
+    writes_fail f old.writes.count new.writes.count old.writes.last new.writes.last c.run_schedule.ensures.swap_leads.5 c.requires.no_writes c.requires.no_write new.writes.device
     c.in-Err-Stopped.stop c.fault_of.result
     (subst (λ (u : Unfinished). CountsWrites {A = Unit {0}} (stopped_as (Err u)) old.writes.count new.writes.count) c.in-Err-Stopped.field-0-is c.in-Err-Stopped.ensures.write_faults) c.fault_of.ensures.unfinished c.fault_of.ensures.kind
     (λ device e. sym c.failed_write.ensures.device ∙ c.fault_of.ensures.write_device device e)
