@@ -1,13 +1,15 @@
--- A run of sound inputs, over which no call fails, is finished or lacks memory.
-use Rattle.std.specs.Prelude.{◌≡◌, ◌⊎◌, ℕ, ◌≤◌, List, length, Some, Err}
+-- A run of sound inputs, over which no call fails, is finished, or lacks memory, or has a full journal.
+use Rattle.std.specs.Prelude.{◌≡◌, ◌⊎◌, ℕ, List, length, Some, Err}
 use Rattle.io_edge.specs.Count.{Rose}
 use Rattle.io_edge.specs.FileHolding.{NamedFile}
 use Rattle.flat_state.specs.Flat.{Inputs}
 use Rattle.flat_model.specs.Asked.{start_held}
-use Rattle.run_command.specs.Asking.{Request, AsksFor, AreOctetFiles}
+use Rattle.io_edge.specs.Octets.{AreOctetFiles}
+use Rattle.run_command.specs.Asking.{Request, AsksFor}
 use Rattle.run_command.specs.Seen.{Seen, DeviceFailed}
 use Rattle.run_command.specs.Machines.{journal_entries}
-use Rattle.run_command.specs.Ends.{AllGood, Runs}
+use Rattle.run_command.specs.Ends.{DevicesSuffice, AllGood, Runs}
+use Rattle.run_command.specs.Loads.{load_numbers, Loads}
 
 -- Files and swap are told, the schedule, the images and the devices are good, and the first processes' pieces find their places.
 pub record IsSound (request : Request) (seen : Seen) (files : List NamedFile) (image : List ℕ) : Type 0 where
@@ -27,9 +29,17 @@ pub record NoneRose (seen : Seen) : Type 0 where
 
 -- it is finished; or it found no memory; or its journal has all entries that it may have
 abbrev pub IsComplete : (request : Request) (seen : Seen) (status : ℕ) → Runs request seen status → Type 0
-IsComplete request seen status runs = (status ≡ 0) ⊎ ((status ≡ 9) ⊎ ((status ≡ 10) × (journal_entries ≤ length runs.journal)))
+IsComplete request seen status runs = (status ≡ 0) ⊎ ((status ≡ 9) ⊎ ((status ≡ 10) × (length runs.journal ≡ journal_entries)))
 
 abbrev pub RunsComplete : Type 0
 RunsComplete =
     (request : Request) (seen : Seen) (status : ℕ) (files : List NamedFile) (image : List ℕ) (runs : Runs request seen status)
     → IsSound request seen files image → NoneRose seen → IsComplete request seen status runs
+
+-- The same of a load, whose devices have the blocks that it needs.
+abbrev pub IsCompleteLoad : (number : ℕ) (seen : Seen) (status : ℕ) → Loads number seen status → Type 0
+IsCompleteLoad number seen status loads = (status ≡ 0) ⊎ ((status ≡ 9) ⊎ ((status ≡ 10) × (length loads.journal ≡ journal_entries)))
+
+abbrev pub LoadsComplete : Type 0
+LoadsComplete =
+    (number : ℕ) (seen : Seen) (status : ℕ) (loads : Loads number seen status) → DevicesSuffice load_numbers.swap seen → NoneRose seen → IsCompleteLoad number seen status loads

@@ -1,3 +1,4 @@
 pub mod Obeying
 pub mod Complete
 pub mod Explaining
+pub mod InMemory

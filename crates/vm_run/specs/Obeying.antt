@@ -30,6 +30,12 @@ Obeys (Some (Owners entries numbers schedule images)) seen status =
     Answers (questions.Owners entries) (record { numbers = numbers; schedule = schedule; words = images })
     seen.files seen.faults seen.written_before seen.written_after seen.sink_faults_before seen.sink_faults_after status
 
+-- words that ask for no command, or for one that reads no file, leave the files
+abbrev pub LeavesFiles : Option Asked → Type 0 → Type 0
+LeavesFiles None same = same
+LeavesFiles (Some (Load number)) same = same
+LeavesFiles asked same = Unit {0}
+
 -- a command that touches no swap device leaves them
 abbrev pub LeavesDevice : Option Asked → Type 0 → Type 0
 LeavesDevice (Some (Run traced numbers schedule images)) same = Unit {0}

@@ -1,7 +1,7 @@
 ghost use Rattle.std.specs.Prelude.{◌≡◌, map};
 ghost use Rattle.command_words.specs.Asked.{asked_of};
 ghost use Rattle.run_command.specs.Paired.{image_together};
-ghost use Rattle.vm_run.specs.Obeying.{Obeys, LeavesDevice};
+ghost use Rattle.vm_run.specs.Obeying.{Obeys, LeavesFiles, LeavesDevice};
 
 use command_ending::{Fault, write_ending};
 use command_words::{Command, read_words};
@@ -43,6 +43,9 @@ pub fn vmrun<F: Files, D: SwapDev, E: SwapDev, S: Sink>(
       sink_faults_before = S.faults sink.old;
       sink_faults_after = S.faults sink.new;
     }) result }
+    ensures files { LeavesFiles (asked_of (map (λ word. word.now) words.now)) (files.new ≡ files.old) }
+    ensures zero_leads { D.leads zero.old zero.new }
+    ensures one_leads { E.leads one.old one.new }
     ensures zero { LeavesDevice (asked_of (map (λ word. word.now) words.now)) (zero.new ≡ zero.old) }
     ensures one { LeavesDevice (asked_of (map (λ word. word.now) words.now)) (one.new ≡ one.old) }
 {

@@ -1,8 +1,14 @@
-ghost use Rattle.vm_run.specs.Complete.{RunsComplete};
+ghost use Rattle.vm_run.specs.Complete.{RunsComplete, LoadsComplete};
 
 /// Where files and swap devices are told, the schedule, the images and the devices are good, the first processes' pieces find their
-/// places, and no call on files, devices or output fails, a run answers 0; or 9, where memory was refused; or 10, where its journal has
-/// all its entries.
+/// places, and no call on files, devices or output fails, a run answers 0; or 9, want of memory; or 10, where its journal has all its
+/// 16,777,216 entries.
 pub fn sound_runs_complete()
     ensures { RunsComplete }
+{}
+
+/// Where the swap devices have as many blocks as a load needs, and no call on devices or output fails, a load answers 0; or 9, want of
+/// memory; or 10, where its journal has all its entries.
+pub fn sound_loads_complete()
+    ensures { LoadsComplete }
 {}

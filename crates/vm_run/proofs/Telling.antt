@@ -1,0 +1,53 @@
+-- What words do where files and a swap image are told.
+use Rattle.std.proofs.Common.{◌≡◌, ℕ, List, [], Option, Some, None, subst}
+use Rattle.io_edge.specs.FileHolding.{NamedFile}
+use Rattle.command_words.specs.Asked.{Asked, Run, Load, Replay, Assemble, Show, Optimum, Curve, Owners}
+use Rattle.command_ending.specs.Ending.{Ending as CommandEnding}
+use Rattle.command_ending.specs.Command.{Faults, Completes}
+use Rattle.io_edge.specs.Octets.{AreOctetFiles}
+use Rattle.run_command.specs.Seen.{Seen}
+use Rattle.vm_run.specs.Obeying.{Obeys}
+use Rattle.vm_run.specs.InMemory.{blank_pair, seen_of, CompletesTold, ObeysTold}
+
+completes_told : {R : Type 0} (Ends : R → Faults → CommandEnding → Type 0) (told : List NamedFile → R) (seen : Seen) (files : List NamedFile) (status : ℕ) → seen.files ≡ Some files
+    → Completes Ends told seen.files seen.faults seen.written_before seen.written_after seen.sink_faults_before seen.sink_faults_after status → CompletesTold Ends (told files) seen status
+completes_told {R} Ends told seen files status is x = record {
+  ending = x.ending;
+  ends = subst (λ (read : R). Ends read seen.faults x.ending) (x.made.is_told files is) x.made.ends;
+  writes = x.writes;
+}
+
+pub obeys_told : (asked : Option Asked) (seen : Seen) (files : List NamedFile) (image : List ℕ) (status : ℕ) → seen.files ≡ Some files → AreOctetFiles files → seen.swap_before ≡ Some image
+    → Obeys asked seen status → ObeysTold asked seen files image status
+obeys_told None seen files image status is octets swap x = x
+obeys_told (Some (Run traced numbers schedule images)) seen files image status is octets swap x =
+    record { ending = x.ending; journal = x.journal; writes = x.writes; caused = x.caused; judged = x.judged files is; told = x.told files image is octets swap }
+obeys_told (Some (Load number)) seen files image status is octets swap x =
+    record { ending = x.ending; journal = x.journal; writes = x.writes; caused = x.caused; told = x.told image swap }
+obeys_told (Some (Replay transcript images)) seen files image status is octets swap x = completes_told _ _ seen files status is x
+obeys_told (Some (Assemble source)) seen files image status is octets swap x = completes_told _ _ seen files status is x
+obeys_told (Some (Show name)) seen files image status is octets swap x = completes_told _ _ seen files status is x
+obeys_told (Some (Optimum size numbers schedule images)) seen files image status is octets swap x = completes_told _ _ seen files status is x
+obeys_told (Some (Curve numbers schedule images)) seen files image status is octets swap x = completes_told _ _ seen files status is x
+obeys_told (Some (Owners entries numbers schedule images)) seen files image status is octets swap x = completes_told _ _ seen files status is x
+
+-- What is seen where files and devices are in memory.
+pub same_seen : (files : Option (List NamedFile)) (list : List NamedFile) (zb ob zero_blocks one_blocks : ℕ) (before after swap : Option (List ℕ)) (empty written : Option (List ℕ)) (none faults : ℕ) → files ≡ Some list
+    → zb ≡ zero_blocks → ob ≡ one_blocks → before ≡ Some (blank_pair zero_blocks one_blocks) → after ≡ swap → empty ≡ Some [] → none ≡ 0
+    → (
+    let seen : Seen = record {
+      files = files;
+      faults = record { open_before = 0; open_after = 0; page_before = 0; page_after = 0 };
+      zero_blocks = zb;
+      one_blocks = ob;
+      swap_before = before;
+      swap_after = after;
+      reads = record { zero_before = 0; zero_after = 0; one_before = 0; one_after = 0 };
+      writes = record { zero_before = 0; zero_after = 0; one_before = 0; one_after = 0 };
+      written_before = empty;
+      written_after = written;
+      sink_faults_before = none;
+      sink_faults_after = faults;
+    } in seen)
+    ≡ seen_of list zero_blocks one_blocks swap written faults
+same_seen files list zb ob zero_blocks one_blocks before after swap empty written none faults f z o b a e n = cc

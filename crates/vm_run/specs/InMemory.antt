@@ -1,0 +1,96 @@
+-- What words do where files, swap devices and output are in memory, and tell what they hold: what is told, without a premise.
+use Rattle.std.specs.Prelude.{◌≡◌, ◌*◌, ℕ, List, [], replicate, Option, Some, None}
+use Rattle.io_edge.specs.FileHolding.{NamedFile}
+use Rattle.io_edge.specs.Striping.{pair_blocks, first_blocks}
+use Rattle.vm_facts.specs.declared.entry.Entry.{Entry}
+use Rattle.run_files.specs.Told.{bytes_told, image_told}
+use Rattle.command_words.specs.Asked.{Asked, Run, Load, Replay, Assemble, Show, Optimum, Curve, Owners}
+use Rattle.command_ending.specs.Ending.{Ending as CommandEnding}
+use Rattle.command_ending.specs.Command.{Faults, Writes, WritesEnding}
+use Rattle.source_commands.specs.Command.{source_bytes, EndsAssembly, EndsListing}
+use Rattle.replay_command.specs.Reading.{read_told as replay_told}
+use Rattle.replay_command.specs.Command.{EndsReplay}
+use Rattle.run_command.specs.Asking.{Request}
+use Rattle.run_command.specs.Seen.{Seen}
+use Rattle.run_command.specs.Paired.{image_together}
+use Rattle.run_command.specs.Ends.{Ending, status_of, Writing, IsCaused, IsJudged, EndsTold}
+use Rattle.run_command.specs.Loads.{load_written, IsLoadCaused, LoadEnded}
+use Rattle.reference_commands.specs.declared.question.Question.{Question}
+use Rattle.reference_commands.specs.declared.question.Question.TheVariants as questions
+use Rattle.reference_commands.specs.Reading.{read_told}
+use Rattle.reference_commands.specs.Asking.{Subject}
+use Rattle.reference_commands.specs.Ends.{EndsQuestion}
+use Rattle.vm_run.specs.Obeying.{Obeys}
+
+-- a device of so many blocks to which nothing was written
+abbrev pub blank_device : ℕ → List ℕ
+blank_device blocks = replicate (512 * blocks) 0
+
+-- the swap image that two such devices make together
+abbrev pub blank_pair : ℕ → ℕ → List ℕ
+blank_pair zero_blocks one_blocks = first_blocks (pair_blocks zero_blocks one_blocks) (blank_device zero_blocks) (blank_device one_blocks)
+
+-- What is seen of these files and two blank devices, which never fail, and of an output that was empty.
+abbrev pub seen_of : List NamedFile → ℕ → ℕ → Option (List ℕ) → Option (List ℕ) → ℕ → Seen
+seen_of files zero_blocks one_blocks swap written faults = record {
+  files = Some files;
+  faults = record { open_before = 0; open_after = 0; page_before = 0; page_after = 0 };
+  zero_blocks = zero_blocks;
+  one_blocks = one_blocks;
+  swap_before = Some (blank_pair zero_blocks one_blocks);
+  swap_after = swap;
+  reads = record { zero_before = 0; zero_after = 0; one_before = 0; one_after = 0 };
+  writes = record { zero_before = 0; zero_after = 0; one_before = 0; one_after = 0 };
+  written_before = Some [];
+  written_after = written;
+  sink_faults_before = 0;
+  sink_faults_after = faults;
+}
+
+-- a run, whose files and swap image are told
+pub record RunsTold (request : Request) (seen : Seen) (files : List NamedFile) (image : List ℕ) (status : ℕ) : Type 0 where
+  pub ending : Ending
+  pub journal : List Entry
+  pub writes : Writing request.traced seen journal ending status
+  pub caused : IsCaused request seen journal ending
+  pub judged : IsJudged request seen files ending
+  pub told : EndsTold request seen files journal image ending
+
+-- a load, whose swap image is told
+pub record LoadsTold (number : ℕ) (seen : Seen) (image : List ℕ) (status : ℕ) : Type 0 where
+  pub ending : Ending
+  pub journal : List Entry
+  pub writes : Writes seen.written_before seen.written_after seen.sink_faults_before seen.sink_faults_after (load_written number journal ending) (status_of ending) status
+  pub caused : IsLoadCaused seen journal ending
+  pub told : LoadEnded number seen journal image ending
+
+-- another command, by what it reads in the files
+pub record CompletesTold {R : Type 0} (Ends : R → Faults → CommandEnding → Type 0) (read : R) (seen : Seen) (status : ℕ) : Type 0 where
+  pub ending : CommandEnding
+  pub ends : Ends read seen.faults ending
+  pub writes : WritesEnding seen.written_before seen.written_after seen.sink_faults_before seen.sink_faults_after ending status
+
+-- a question about a run
+abbrev pub AnswersTold : Question → Subject → Seen → List NamedFile → ℕ → Type 0
+AnswersTold question subject seen files status = CompletesTold (EndsQuestion question subject) (read_told subject.schedule subject.words files) seen status
+
+-- The words are none of a command, and the line that says so was written; or they ask for a command, and it did what it is for.
+abbrev pub ObeysTold : Option Asked → Seen → List NamedFile → List ℕ → ℕ → Type 0
+ObeysTold None seen files image status = Obeys None seen status
+ObeysTold (Some (Run traced numbers schedule images)) seen files image status =
+    RunsTold (record { traced = traced; numbers = numbers; schedule = schedule; words = images }) seen files image status
+ObeysTold (Some (Load number)) seen files image status = LoadsTold number seen image status
+ObeysTold (Some (Replay transcript images)) seen files image status = CompletesTold (EndsReplay transcript images) (replay_told transcript images files) seen status
+ObeysTold (Some (Assemble source)) seen files image status = CompletesTold (EndsAssembly source) (bytes_told files source source_bytes) seen status
+ObeysTold (Some (Show image_name)) seen files image status = CompletesTold (EndsListing image_name) (image_told files image_name) seen status
+ObeysTold (Some (Optimum size numbers schedule images)) seen files image status =
+    AnswersTold (questions.Optimum size) (record { numbers = numbers; schedule = schedule; words = images }) seen files status
+ObeysTold (Some (Curve numbers schedule images)) seen files image status =
+    AnswersTold questions.Curve (record { numbers = numbers; schedule = schedule; words = images }) seen files status
+ObeysTold (Some (Owners entries numbers schedule images)) seen files image status =
+    AnswersTold (questions.Owners entries) (record { numbers = numbers; schedule = schedule; words = images }) seen files status
+
+-- words over these files and two blank devices leave this on the devices and the output, with this status
+abbrev pub DoesInMemory : Option Asked → List NamedFile → ℕ → ℕ → Option (List ℕ) → Option (List ℕ) → Option (List ℕ) → ℕ → ℕ → Type 0
+DoesInMemory asked files zero_blocks one_blocks zero one written faults status =
+    ObeysTold asked (seen_of files zero_blocks one_blocks (image_together zero_blocks one_blocks zero one) written faults) files (blank_pair zero_blocks one_blocks) status
