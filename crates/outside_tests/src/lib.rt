@@ -4,4 +4,6 @@
 #[cfg(test)]
 mod memory;
 #[cfg(test)]
+mod real_files;
+#[cfg(test)]
 mod system;

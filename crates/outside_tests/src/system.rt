@@ -1,7 +1,7 @@
 // The adapters over the system: a real folder, an output that takes little at a time, and a disk that is full. No clause can
 // say what a disk gives.
 use io_edge::{
-    DirFiles, FileSwap, Files, Found, Moved, OutSink, Sink, SureSwap, SwapDev, SwapPair,
+    DirFiles, FileSwap, Files, Found, LockFile, Moved, OutSink, Sink, SureSwap, SwapDev, SwapPair,
 };
 use std::alloc::{AllocError, Allocator, Global};
 use std::cell::Cell;
@@ -29,10 +29,7 @@ fn an_absent_file_is_told_from_one_that_cannot_be_read(rt: HostRuntime) -> Resul
     // A file has no files in it: whether there is one can't be told.
     assert_eq!(rt; files.find("some.file/inside"), Found::Failed);
     assert_eq!(rt; files.find("some.folder/inside"), Found::Absent);
-    let Found::Is { id: folder, .. } = files.find("some.folder") else {
-        return Err(Fail::from("not found"));
-    };
-    assert_eq!(rt; files.read_at(folder, 0, &mut buf), Moved::Failed);
+    assert_eq!(rt; files.find("some.folder"), Found::Failed);
     fs::remove_file(&rt, "some.file")?;
     fs::remove_dir(&rt, "some.folder")?;
     Ok(())
@@ -211,6 +208,12 @@ impl OpenFile for FullFile {
     }
 }
 
+impl LockFile for FullFile {
+    fn try_lock_exclusive(&self) -> io::Result<()> {
+        Ok(())
+    }
+}
+
 impl rt::Files for FullDisk {
     type File = FullFile;
 
@@ -268,8 +271,11 @@ fn a_write_that_the_system_refuses_fails(rt: HostRuntime) -> Result<(), Fail> {
     assert_eq!(rt; pair.failed_write(), None);
     assert_eq!(rt; pair.write(1024, &[1; 1024]), Moved::Failed);
     assert_eq!(rt; pair.failed_write(), Some(1));
-    let mut page = [0; 1024];
-    assert_eq!(rt; pair.read(1024, &mut page), Moved::Failed);
-    assert_eq!(rt; pair.failed_read(), Some(1));
+
+    // Nothing was written there, so it holds zeros.
+    let mut page = [9; 1024];
+    assert_eq!(rt; pair.read(1024, &mut page), Moved::Done);
+    assert_eq!(rt; page, [0; 1024]);
+    assert_eq!(rt; pair.failed_read(), None);
     Ok(())
 }

@@ -1,7 +1,8 @@
 // What no clause says: the bytes of sources that were written down before the assembler was, and the texts of instructions.
 use crate::examples::EXAMPLES;
 use std::process::Abort;
-use vax_asm::{Assembled, BadLine, Encoded, Label, Reason, Shown, assemble, encode, explain, show};
+use vax_asm::{Assembled, BadLine, Encoded, Label, Reason, assemble, encode, explain};
+use vax_disasm::{Shown, show};
 
 // The line names these bytes.
 fn encoded(rt: &impl Abort, line: &[u8], at: u32, wanted: &[u8]) {
