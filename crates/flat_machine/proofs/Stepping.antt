@@ -1,21 +1,17 @@
 -- A step, from what its instruction came to.
 use Rattle.std.proofs.Common.{◌≡◌, ℕ, Bool, false, List, length, Option, Some, None, Result, Ok, Err, ℤ, refl, sym, ap, ◌∙◌}
 use Rattle.vm_facts.specs.Answers.{ByteWrite}
-use Rattle.flat_state.specs.Space.{Space, answers_of, puts, byte_at, may_write_at, address_in}
+use Rattle.flat_state.specs.Space.{Space, answers_of, puts}
 use Rattle.flat_state.specs.Flat.{Process, FlatState, NamedImage, Inputs, process_of}
 use Rattle.vm_facts.specs.declared.regs.Regs.{Regs}
-use Rattle.user_vax.specs.Program.{Program, run, Access, ReadOf, TestOf}
+use Rattle.user_vax.specs.Program.{run}
 use Rattle.user_vax.specs.Effects.{Effect}
 use Rattle.user_vax.specs.Instruction.{answer_of, answer_of_call, registers_after, writes_of, instruction}
 use Rattle.user_vax.specs.declared.refused.Refused.{Refused}
 use Rattle.user_vax.specs.declared.refused.Refused.TheVariants as refusals
 use Rattle.user_vax.specs.declared.stepping.Stepped.{Stepped}
 use Rattle.user_vax.specs.declared.stepping.Stepped.TheVariants as steps
-use Rattle.user_vax.specs.Laws.{read_refusal, test_refusal, refusal}
-use Rattle.user_vax.proofs.Order.{keeps_order}
 use Rattle.flat_model.specs.Instruction.{instruction_in}
-use Rattle.flat_state.specs.declared.spot.Spot.{Spot}
-use Rattle.flat_state.specs.declared.spot.Spot.TheVariants.{Text, Data, Stack, Below, Outside}
 use Rattle.flat_state.specs.Change.{apply_writes, apply_change, wrote_by, wrote_if, with_process}
 use Rattle.flat_state.specs.declared.change.Change.TheVariants.{Keep}
 use Rattle.flat_model.specs.declared.calls.Reply.{Reply}

@@ -4,7 +4,7 @@ use Rattle.flat_state.specs.Flat.{FlatState, Inputs, can_step}
 use Rattle.vm_facts.specs.declared.entry.Entry.{Entry}
 use Rattle.vm_facts.specs.declared.entry.Entry.TheVariants as entries
 use Rattle.flat_state.specs.Journal.{instructions_of}
-use Rattle.flat_model.specs.Step.{Step, flat_step, call_entry}
+use Rattle.flat_model.specs.Step.{flat_step, call_entry}
 use Rattle.flat_model.specs.Run.{Point, same_as, first_if, flat_run}
 use Rattle.flat_machine.specs.declared.deed.Did.{Did}
 use Rattle.flat_machine.specs.declared.deed.Did.TheVariants as deeds
