@@ -56,12 +56,9 @@ fn a_page_is_read_from_where_it_begins(rt: HostRuntime) -> Result<(), Fail> {
     assert_eq!(rt; len, 2080);
     for start in [32usize, 1056, 0, 1055] {
         let mut page = [0; 1024];
+        let end = start.saturating_add(1024);
         assert_eq!(rt; files.read_at(id, start as u64, &mut page), Moved::Done);
-        assert_eq!(rt;
-            bytes.get(start..start + 1024),
-            Some(page.as_slice()),
-            "at {start}"
-        );
+        assert_eq!(rt; bytes.get(start..end), Some(page.as_slice()), "at {start}");
     }
     let mut rest = [0; 4];
     assert_eq!(rt; files.read_at(id, 2076, &mut rest), Moved::Done);
@@ -75,7 +72,9 @@ fn a_page_is_read_from_where_it_begins(rt: HostRuntime) -> Result<(), Fail> {
 #[derive(Drop)]
 struct NarrowOutput {
     taken: Cell<usize>,
-    kept: Cell<[u8; 5]>,
+
+    // The bytes that it took, as the digits of a number.
+    digits: Cell<u32>,
 }
 
 impl Print for NarrowOutput {
@@ -93,13 +92,12 @@ impl Print for NarrowOutput {
 
     fn write_some(&self, bytes: &[u8]) -> io::Result<usize> {
         let taken = self.taken.get();
-        let mut kept = self.kept.get();
-        let mut count = 0;
-        for (place, byte) in kept.iter_mut().skip(taken).take(2).zip(bytes) {
-            *place = *byte;
-            count += 1;
+        let count = bytes.len().min(2).min(5usize.saturating_sub(taken));
+        let mut digits = self.digits.get();
+        for byte in bytes.iter().take(count) {
+            digits = digits.wrapping_mul(10).wrapping_add(u32::from(*byte));
         }
-        self.kept.set(kept);
+        self.digits.set(digits);
         self.taken.set(taken.saturating_add(count));
         Ok(count)
     }
@@ -109,15 +107,15 @@ impl Print for NarrowOutput {
 fn a_piece_is_written_in_parts_until_output_takes_nothing(rt: HostRuntime) -> Result<(), Fail> {
     let output = NarrowOutput {
         taken: Cell::new(0),
-        kept: Cell::new([0; 5]),
+        digits: Cell::new(0),
     };
     let mut sink = OutSink::new(&output);
     assert_eq!(rt; sink.put(&[1, 2, 3]), Moved::Done);
     assert_eq!(rt; output.taken.get(), 3);
-    assert_eq!(rt; output.kept.get(), [1, 2, 3, 0, 0]);
+    assert_eq!(rt; output.digits.get(), 123);
     assert_eq!(rt; sink.put(&[4, 5, 6]), Moved::Failed);
     assert_eq!(rt; output.taken.get(), 5);
-    assert_eq!(rt; output.kept.get(), [1, 2, 3, 4, 5]);
+    assert_eq!(rt; output.digits.get(), 12_345);
     Ok(())
 }
 
@@ -156,13 +154,15 @@ fn a_swap_file_holds_each_page_apart(rt: HostRuntime) -> Result<(), Fail> {
     Ok(())
 }
 
-// A file system on a full disk: its files take no bytes.
+// A file system whose disk gets full: a file takes a page and no more.
 #[derive(Drop)]
 struct FullDisk;
 
-// A file that has nothing and takes nothing.
+// A file that takes as many bytes as it has room for, and gives none back.
 #[derive(Drop)]
-struct FullFile;
+struct FullFile {
+    room: usize,
+}
 
 fn disk_full() -> io::Error {
     io::Error::from(ErrorKind::StorageFull)
@@ -175,8 +175,13 @@ impl Read for FullFile {
 }
 
 impl Write for FullFile {
-    fn write(&mut self, _buf: &[u8]) -> io::Result<usize> {
-        Err(disk_full())
+    fn write(&mut self, buf: &[u8]) -> io::Result<usize> {
+        let count = buf.len().min(self.room);
+        if count == 0 {
+            return Err(disk_full());
+        }
+        self.room = self.room.saturating_sub(count);
+        Ok(count)
     }
 
     fn flush(&mut self) -> io::Result<()> {
@@ -220,7 +225,7 @@ impl rt::Files for FullDisk {
     type Dir = FullFile;
 
     fn open_file(&self, _how: &OpenOptions, _path: &str) -> io::Result<FullFile> {
-        Ok(FullFile)
+        Ok(FullFile { room: 1024 })
     }
 
     fn open_dir(&self, _path: &str) -> io::Result<FullFile> {
@@ -261,21 +266,20 @@ impl rt::Files for FullDisk {
 }
 
 #[test]
-fn a_write_that_the_system_refuses_fails(rt: HostRuntime) -> Result<(), Fail> {
+fn what_the_system_refuses_fails(rt: HostRuntime) -> Result<(), Fail> {
     let disk = FullDisk;
     let mut zero = SureSwap::new(rt.alloc(), 2048)?;
     let mut one = FileSwap::new(&disk, "full.swap", 2048);
     let mut pair = SwapPair::new(&mut zero, &mut one);
     assert_eq!(rt; pair.blocks(), 4096);
     assert_eq!(rt; pair.write(0, &[1; 1024]), Moved::Done);
+    assert_eq!(rt; pair.write(1024, &[1; 1024]), Moved::Done);
     assert_eq!(rt; pair.failed_write(), None);
-    assert_eq!(rt; pair.write(1024, &[1; 1024]), Moved::Failed);
+    assert_eq!(rt; pair.write(1026, &[1; 1024]), Moved::Failed);
     assert_eq!(rt; pair.failed_write(), Some(1));
 
-    // Nothing was written there, so it holds zeros.
-    let mut page = [9; 1024];
-    assert_eq!(rt; pair.read(1024, &mut page), Moved::Done);
-    assert_eq!(rt; page, [0; 1024]);
-    assert_eq!(rt; pair.failed_read(), None);
+    let mut page = [0; 1024];
+    assert_eq!(rt; pair.read(1024, &mut page), Moved::Failed);
+    assert_eq!(rt; pair.failed_read(), Some(1));
     Ok(())
 }

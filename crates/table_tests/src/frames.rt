@@ -50,27 +50,33 @@ fn a_new_map_has_all_frames_free(rt: HostRuntime) {
 #[test]
 fn a_freed_text_page_is_found_and_reclaimed(rt: HostRuntime) {
     let mut map = CoreMap::new(rt.alloc(), 3).expect(&rt, "memory for three frames");
-    assert_eq!(rt; map.find_text(1, 7), None);
     let (token, _page) = map.take_free().expect(&rt, "a free frame");
     assert_eq!(rt; token.number(), 1);
+    assert_eq!(rt; map.find_text(1, 7), None);
     map.seat(token.zeroed(), TEXT);
 
     // It is changed, and freed.
-    assert_eq!(rt; map.owner(1), Whose::Resident(TEXT));
+    let Whose::Resident(page) = map.owner(1) else {
+        panic!(&rt; "not resident");
+    };
     map.put_byte(1, 3, 9);
     map.set_dirty(1, true);
-    assert_eq!(rt; (map.bytes(1)[3], map.is_dirty(1)), (9, true));
+    assert_eq!(rt; (page, map.bytes(1)[3], map.is_dirty(1)), (TEXT, 9, true));
     let token = map.lift(1);
-    map.give_tail(token.release(), TEXT);
+    map.give_tail(token.release(), page);
     assert_eq!(rt; map.find_text(1, 7), Some(1));
     assert_eq!(rt; map.find_text(2, 7), None);
 
     // It comes back with its bytes, and is unchanged from there on.
-    assert_eq!(rt; map.owner(1), Whose::Free(Some(TEXT)));
+    let Whose::Free(Some(page)) = map.owner(1) else {
+        panic!(&rt; "not free");
+    };
     let token = map.reclaim(1);
-    map.seat(token, TEXT);
-    assert_eq!(rt; map.owner(1), Whose::Resident(TEXT));
-    assert_eq!(rt; (map.bytes(1)[3], map.is_dirty(1)), (9, false));
+    map.seat(token, page);
+    let Whose::Resident(page) = map.owner(1) else {
+        panic!(&rt; "not resident");
+    };
+    assert_eq!(rt; (page, map.bytes(1)[3], map.is_dirty(1)), (TEXT, 9, false));
     assert_eq!(rt; map.free_frames(), 2);
     map.close();
 }
@@ -78,12 +84,15 @@ fn a_freed_text_page_is_found_and_reclaimed(rt: HostRuntime) {
 #[test]
 fn a_forgotten_frame_is_taken_first(rt: HostRuntime) {
     let mut map = CoreMap::new(rt.alloc(), 3).expect(&rt, "memory for three frames");
-    assert_eq!(rt; map.find_text(1, 7), None);
     let (token, _page) = map.take_free().expect(&rt, "a free frame");
     assert_eq!(rt; token.number(), 1);
+    assert_eq!(rt; map.find_text(1, 7), None);
     map.give_tail(token, TEXT);
     assert_eq!(rt; map.find_text(1, 7), Some(1));
-    assert_eq!(rt; map.owner(1), Whose::Free(Some(TEXT)));
+    let Whose::Free(page) = map.owner(1) else {
+        panic!(&rt; "not free");
+    };
+    assert_eq!(rt; page, Some(TEXT));
     map.forget(1);
     assert_eq!(rt; map.find_text(1, 7), None);
     let (token, page) = map.take_free().expect(&rt, "a free frame");
