@@ -3,3 +3,4 @@ mod Numerals
 mod RunWords
 mod Refusals
 mod Finding
+mod Joining

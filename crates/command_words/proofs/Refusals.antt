@@ -7,8 +7,8 @@ use Rattle.command_words.specs.declared.command.Numbers.{Numbers}
 use Rattle.command_words.specs.declared.reasons.Argument.{Argument}
 use Rattle.command_words.specs.declared.reasons.Argument.TheVariants.{Frames, Swap, Limit, ShortLimit, Number, Size, Entries, Schedule, Transcript, Source, Listed, Image}
 use Rattle.command_words.specs.Words.{is_plain, number_in, is_name, is_image_word, are_image_words, without_trace}
-use Rattle.command_words.specs.Asked.{Asked, Run, Load, Replay, Assemble, Show, Optimum, Curve, Owners, all_numbers, run_numbers, asked_with_run, asked_load, asked_replay, asked_assemble, asked_show, asked_optimum, asked_owners, asked_run, asked_other, asked_of}
-use Rattle.command_words.specs.Reasons.{Why, Missing, Unknown, Refused, TooMany, TooManyImages, NotPlain, takes, bad_image, none_starts, or_else, why_images, why_rest, why_words, bad_plain, why_form, why_other, why_command, why_bad}
+use Rattle.command_words.specs.Asked.{Asked, Load, Replay, Assemble, Show, Optimum, Curve, Owners, all_numbers, run_numbers, asked_with_run, asked_load, asked_replay, asked_assemble, asked_show, asked_optimum, asked_owners, asked_run, asked_other, asked_of}
+use Rattle.command_words.specs.Reasons.{Why, Refused, NotPlain, takes, bad_image, or_else, why_images, why_rest, why_words, bad_plain, why_form, why_other, why_command, why_bad}
 
 -- Choices.
 
@@ -251,7 +251,7 @@ asked_plain name words =
     else None))))))
 
 other_by : (p : Bool) (name : List ℕ) (words : List (List ℕ)) → list_all is_plain words ≡ p → is_none (why_other name words) ≡ p && is_some (asked_plain name words)
-unfolding why_other
+unfolding why_other asked_plain
 other_by true name words are =
     chosen (bytes_eq name (codes "load")) _ _ _ _ (with_plain _ _ words _ are (load words))
     (chosen (bytes_eq name (codes "replay")) _ _ _ _ (with_plain _ _ words _ are (replay words))
@@ -274,7 +274,7 @@ unless_plain true asked = refl
 unless_plain false asked = refl
 
 other : (name : List ℕ) (words : List (List ℕ)) → is_none (why_other name words) ≡ is_some (asked_other name words)
-unfolding asked_other
+unfolding asked_other asked_plain
 other name words = other_by (list_all is_plain words) name words refl ∙ sym (unless_plain (list_all is_plain words) (asked_plain name words))
 
 -- the law

@@ -1,6 +1,6 @@
 // Why words are no command's, as a line of text.
 ghost use Rattle.std.specs.Prelude.{◌≡◌, ◌++◌, map, option_map, IfOk, OnOk};
-ghost use Rattle.command_words.specs.Reasons.{why_of, Unknown, NotPlain, Missing, Refused};
+ghost use Rattle.command_words.specs.Reasons.{why_of, NoCommand, Unknown, NotPlain, Missing, Refused, TooManyImages, NoneStarts};
 ghost use Rattle.command_words.specs.Explaining.{argument_name, range_text, kind_text, why_text, why_line, words_explained};
 
 use crate::reasons::{Argument, BadWord, bad_word};
@@ -82,7 +82,8 @@ fn put_missing(text: &mut Vec<u8>, argument: Argument) -> Result<(), AllocError>
 {
     text.extend_from_slice(argument_name(argument))?;
     text.extend_from_slice(b" is missing: ")?;
-    put_kind(text, argument)
+    put_kind(text, argument)?;
+    Ok(())
 }
 
 // What is said of a word that isn't what its argument may be.
@@ -96,14 +97,30 @@ fn put_refused(text: &mut Vec<u8>, argument: Argument, word: &str) -> Result<(),
     put_kind(text, argument)
 }
 
+fn put_no_command(text: &mut Vec<u8>) -> Result<(), AllocError>
+    ensures { OnOk result (text.new.items ≡ text.old.items ++ why_text NoCommand) }
+{
+    text.extend_from_slice(b"no command is named: ")?;
+    text.extend_from_slice(COMMANDS)
+}
+
+fn put_too_many_images(text: &mut Vec<u8>) -> Result<(), AllocError>
+    ensures { OnOk result (text.new.items ≡ text.old.items ++ why_text TooManyImages) }
+{
+    text.extend_from_slice(b"there are more than 16 words of images")
+}
+
+fn put_none_starts(text: &mut Vec<u8>) -> Result<(), AllocError>
+    ensures { OnOk result (text.new.items ≡ text.old.items ++ why_text NoneStarts) }
+{
+    text.extend_from_slice(b"no image is started: each has a = before it")
+}
+
 fn put_why(text: &mut Vec<u8>, bad: BadWord<'_>) -> Result<(), AllocError>
-    ensures { OnOk result (text.new.items ≡ text.old.items ++ why_text (why_of bad)) }
+    ensures { OnOk result (text.new.items ≡ text.old.items ++ why_text (why_of bad.entry)) }
 {
     match bad {
-        BadWord::NoCommand => {
-            text.extend_from_slice(b"no command is named: ")?;
-            text.extend_from_slice(COMMANDS)
-        }
+        BadWord::NoCommand => put_no_command(text),
         BadWord::Unknown(name) => put_unknown(text, name),
         BadWord::NotPlain(word) => put_option(text, word),
         BadWord::Missing(argument) => put_missing(text, argument),
@@ -112,17 +129,13 @@ fn put_why(text: &mut Vec<u8>, bad: BadWord<'_>) -> Result<(), AllocError>
             text.extend_from_slice(word.as_bytes())?;
             text.extend_from_slice(b" is a word too many")
         }
-        BadWord::TooManyImages => {
-            text.extend_from_slice(b"there are more than 16 words of images")
-        }
-        BadWord::NoneStarts => {
-            text.extend_from_slice(b"no image is started: each has a = before it")
-        }
+        BadWord::TooManyImages => put_too_many_images(text),
+        BadWord::NoneStarts => put_none_starts(text),
     }
 }
 
 fn why_line(alloc: Global, bad: BadWord<'_>) -> Result<Vec<u8>, AllocError>
-    ensures { IfOk result (λ text. text.items ≡ why_line (why_of bad)) }
+    ensures { IfOk result (λ text. text.items ≡ why_line (why_of bad.entry)) }
 {
     let mut text = Vec::from_slice(alloc, b"vmrun: ")?;
     put_why(&mut text, bad)?;

@@ -20,7 +20,7 @@ fn are_each_image_word(words: &[&str]) -> bool
     words.iter().all(|word| is_image_word(word))
 }
 
-pub(crate) fn starts_some(words: &[&str]) -> bool
+fn starts_some(words: &[&str]) -> bool
     ensures { result ≡ list_any (λ word. starts word.now) words.now }
 {
     words.iter().any(|word| starts(word))
@@ -134,7 +134,7 @@ impl<'a> ImageWords<'a> {
         are_each_image_word(self.before) && are_each_image_word(self.after)
     }
 
-    fn starts_some(self) -> bool
+    pub(crate) fn starts_some(self) -> bool
         ensures { result ≡ list_any starts (map (λ word. word.now) (word_list self.entry)) }
     {
         starts_some(self.before) || starts_some(self.after)

@@ -6,7 +6,7 @@ ghost use Rattle.command_words.specs.Words.{is_image_word, is_plain, without_tra
 ghost use Rattle.command_words.specs.declared.reasons.Argument.TheVariants.{Frames, Swap, Limit, Schedule};
 ghost use Rattle.command_words.specs.Reasons.{why_of, least_of, most_of, takes, bad_image, bad_plain, none_starts, why_images, why_rest, why_words, why_form, why_other, why_command, why_bad, RefusedHaveReasons};
 
-use crate::image_words::{ImageWords, starts_some};
+use crate::image_words::ImageWords;
 use crate::word::{is_image_word, is_name, is_plain, read_number, starts};
 use std::alloc::{AllocError, Global};
 
@@ -139,7 +139,7 @@ fn bad_plain<'a>(words: &[&'a str]) -> Option<BadWord<'a>>
 fn none_starts<'a>(words: &[&'a str]) -> Option<BadWord<'a>>
     ensures { option_map why_of result ≡ (if list_any starts (map (λ word. word.now) words.now) then None else Some (none_starts (map (λ word. word.now) words.now))) }
 {
-    if starts_some(words) {
+    if ImageWords::all(words).starts_some() {
         None
     } else if words.is_empty() {
         Some(BadWord::Missing(Argument::Image))
