@@ -180,12 +180,11 @@ class Lines:
 
 
 def assemble(lines, size, folder, vmrun):
-    """the bytes of these lines, by `as` of the words `vmrun`; the last line tells whether they are as many as they were
-    taken for"""
+    """the bytes of these lines, by `vmrun as`; the last line tells whether they are as many as they were taken for"""
     source = os.path.join(folder, "source.s")
     with open(source, "w", encoding="ascii") as file:
         file.write("\n".join(lines + ["behind: .long behind"]) + "\n")
-    ran = subprocess.run([*vmrun, "as", "source.s"], cwd=folder, capture_output=True, check=False)
+    ran = subprocess.run([vmrun, "as", "source.s"], cwd=folder, capture_output=True, check=False)
     if ran.returncode:
         said = (ran.stderr or ran.stdout).decode("latin-1").strip()
         if ran.returncode == 125:
