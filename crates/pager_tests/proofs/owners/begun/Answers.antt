@@ -1,7 +1,7 @@
 -- The process may begin: there is an image, and nothing ran yet.
 use Rattle.std.proofs.Common.{◌≡◌, List, [], map, length, None, subst}
 use Rattle.std.specs.Prelude.{IfOk}
-use Rattle.machine_state.specs.declared.named.Named.{Named}
+use Rattle.machine_state.specs.Named.{Named}
 use Rattle.machine_state.specs.New.{fresh_kernel}
 use Rattle.machine_state.specs.Machine.{image_shown}
 use Rattle.machine_state.proofs.FirstBegins.{may_first}

@@ -1,5 +1,7 @@
 use Rattle.std.proofs.Common.{Some, OnOk, map, subst}
+use Rattle.std.specs.Prelude.{◌*◌}
 use Rattle.io_edge.specs.FileHolding.{named_file}
+use Rattle.io_edge.specs.Zeros.{with_zeros}
 use Rattle.pager_tests.specs.Ready.{IsReady}
 use Rattle.pager_tests.proofs.Readiness.{moved_ready}
 use Rattle.pager_tests.proofs.paging.moved.Goals as goal
@@ -9,6 +11,6 @@ returns g c =
     let call = c.move_hands in
     let later = Some (map named_file call.new.files.store.files.items) in
     let more = call.new.swap.store.blocks in
-    subst (λ r. OnOk r (IsReady call.new.m later more)) c.expect.ensures (moved_ready call.result c.args.n c.args.m.now call.new.m (Some c.args.swap.now.store.image.items)
-    (Some call.new.swap.store.image.items) (Some (map named_file c.args.files.now.store.files.items)) later c.args.swap.now.store.blocks more call.ensures.moved call.ensures.holds
+    subst (λ r. OnOk r (IsReady call.new.m later more)) c.expect.ensures (moved_ready call.result c.args.n c.args.m.now call.new.m (Some (with_zeros (512 * c.args.swap.now.store.blocks) c.args.swap.now.store.written.items))
+    (Some (with_zeros (512 * call.new.swap.store.blocks) call.new.swap.store.written.items)) (Some (map named_file c.args.files.now.store.files.items)) later c.args.swap.now.store.blocks more call.ensures.moved call.ensures.holds
     call.ensures.blocks c.requires.ready)

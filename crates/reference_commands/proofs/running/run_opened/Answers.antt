@@ -1,6 +1,8 @@
 use Rattle.std.proofs.Common.{◌≡◌, ℕ, List, Some, map, sym, subst}
 use Rattle.flat_state.specs.Flat.{Inputs}
+use Rattle.std.specs.Prelude.{◌*◌}
 use Rattle.io_edge.specs.FileHolding.{named_file}
+use Rattle.io_edge.specs.Zeros.{with_zeros}
 use Rattle.machine_state.specs.Machine.{Standing}
 use Rattle.machine_state.specs.Files.{AreFiles}
 use Rattle.vm_core.specs.Full.{RunOver}
@@ -33,11 +35,11 @@ returns c =
     = subst (λ (m : Standing). IsAskedOf A m c.args.first.now c.args.lines.now (Some (map named_file c.args.files.now.files.items)) (blank_swap c.args.numbers.swap)) (sym c.in_ok-core.ensures.machine)
     (asked c.args.entries c.args.numbers c.args.images.now c.args.opened.now c.args.first.now c.args.lines.now c.requires.opened c.requires.runnable c.requires.octets (Some (map named_file c.args.files.now.files.items)) c.requires.held) in
     record {
-      left = Some c.run_schedule-end.new.swap.image.items;
+      left = Some (with_zeros (512 * c.run_schedule-end.new.swap.blocks) c.run_schedule-end.new.swap.written.items);
       ends = c.run_schedule-end.ensures.ends A (blank_swap c.args.numbers.swap) is_asked c.in_ok-swap.ensures.zeros;
       full = c.run_schedule-end.ensures.full A (blank_swap c.args.numbers.swap) is_asked c.in_ok-swap.ensures.zeros;
       over = on_ok_so c.run_schedule-end.result
-          ((B : Inputs) (image : List ℕ) → IsAskedOf B c.in_ok-core.core.machine c.args.first.now c.args.lines.now (Some (map named_file c.args.files.now.files.items)) image → Some c.in_ok-swap.swap.image.items ≡ Some image
+          ((B : Inputs) (image : List ℕ) → IsAskedOf B c.in_ok-core.core.machine c.args.first.now c.args.lines.now (Some (map named_file c.args.files.now.files.items)) image → Some (with_zeros (512 * c.in_ok-swap.swap.blocks) c.in_ok-swap.swap.written.items) ≡ Some image
           → RunOver B c.run_schedule-end.new.core.machine)
           (RunOver A c.run_schedule-end.new.core.machine)
           (λ told. told A (blank_swap c.args.numbers.swap) is_asked c.in_ok-swap.ensures.zeros) c.run_schedule-end.ensures.over;
