@@ -1,11 +1,12 @@
 -- What words do where files and a swap image are told.
-use Rattle.std.proofs.Common.{◌≡◌, ℕ, List, [], Option, Some, None, subst}
+use Rattle.std.proofs.Common.{◌≡◌, ◌∙◌, ℕ, List, [], Option, Some, None, ap, subst}
 use Rattle.io_edge.specs.FileHolding.{NamedFile}
 use Rattle.command_words.specs.Asked.{Asked, Run, Load, Replay, Assemble, Show, Optimum, Curve, Owners}
 use Rattle.command_ending.specs.Ending.{Ending as CommandEnding}
 use Rattle.command_ending.specs.Command.{Faults, Completes}
 use Rattle.io_edge.specs.Octets.{AreOctetFiles}
 use Rattle.run_command.specs.Seen.{Seen}
+use Rattle.run_command.specs.Paired.{image_together}
 use Rattle.vm_run.specs.Obeying.{Obeys}
 use Rattle.vm_run.specs.InMemory.{blank_pair, seen_of, CompletesTold, ObeysTold}
 
@@ -51,3 +52,12 @@ pub same_seen : (files : Option (List NamedFile)) (list : List NamedFile) (zb ob
     } in seen)
     ≡ seen_of list zero_blocks one_blocks swap written faults
 same_seen files list zb ob zero_blocks one_blocks before after swap empty written none faults f z o b a e n = cc
+
+-- The swap image of two devices whose blocks and images are known.
+pub together : (zb ob zero_blocks one_blocks : ℕ) (i j zero one : Option (List ℕ)) → zb ≡ zero_blocks → ob ≡ one_blocks → i ≡ zero → j ≡ one
+    → image_together zb ob i j ≡ image_together zero_blocks one_blocks zero one
+together zb ob zero_blocks one_blocks i j zero one zs os is js =
+    ap (λ (k : ℕ). image_together k ob i j) zs
+    ∙ ap (λ (k : ℕ). image_together zero_blocks k i j) os
+    ∙ ap (λ (x : Option (List ℕ)). image_together zero_blocks one_blocks x j) is
+    ∙ ap (λ (x : Option (List ℕ)). image_together zero_blocks one_blocks zero x) js

@@ -1,0 +1,24 @@
+use Rattle.std.proofs.Common.{◌≡◌, ◌*◌, ◌∙◌, ℕ, List, Option, Some, Bor, map, refl, subst}
+use Rattle.io_edge.specs.FileHolding.{NamedFile, named_file}
+use Rattle.io_edge.specs.Octets.{AreOctetFiles}
+use Rattle.io_edge.specs.Zeros.{with_zeros}
+use Rattle.command_words.specs.Asked.{Asked, asked_of}
+use Rattle.run_command.specs.Seen.{Seen}
+use Rattle.run_command.specs.Paired.{image_together}
+use Rattle.vm_run.specs.Obeying.{Obeys}
+use Rattle.vm_run.specs.InMemory.{blank_pair, blank_device, seen_of}
+use Rattle.vm_run.proofs.Telling.{obeys_told, same_seen, together}
+use Rattle.vm_run.proofs.in_memory.vmrun_in_memory.Goals as goal
+
+pub returns : goal.returns
+returns c =
+    let asked : Option Asked = asked_of (map (λ (word : Bor (List ℕ)). word.now) c.args.words.now) in
+    let files : List NamedFile = map named_file c.args.files.items in
+    let zero : Option (List ℕ) = Some (with_zeros (512 * c.vmrun-status.new.zero.blocks) c.vmrun-status.new.zero.written.items) in
+    let one : Option (List ℕ) = Some (with_zeros (512 * c.vmrun-status.new.one.blocks) c.vmrun-status.new.one.written.items) in
+    let before = together c.in_ok-zero.zero.blocks c.in_ok-one.one.blocks c.args.zero_blocks c.args.one_blocks _ _ (Some (blank_device c.args.zero_blocks)) (Some (blank_device c.args.one_blocks)) c.in_ok-zero.ensures.blocks c.in_ok-one.ensures.blocks c.in_ok-zero.ensures.zeros c.in_ok-one.ensures.zeros in
+    let after = together c.vmrun-status.new.zero.blocks c.vmrun-status.new.one.blocks c.args.zero_blocks c.args.one_blocks zero one zero one (c.vmrun-status.ensures.zero_leads ∙ c.in_ok-zero.ensures.blocks) (c.vmrun-status.ensures.one_leads ∙ c.in_ok-one.ensures.blocks) refl refl in
+    let seen = same_seen _ files _ _ c.args.zero_blocks c.args.one_blocks _ _ (image_together c.args.zero_blocks c.args.one_blocks zero one) _ _ _ _ c.new-files.ensures c.in_ok-zero.ensures.blocks c.in_ok-one.ensures.blocks before after c.in_ok-output.ensures.written c.in_ok-output.ensures.faults in
+    let octets : AreOctetFiles files = subst (λ xs. AreOctetFiles (map named_file xs)) c.as_slice.ensures.value c.are_octet_files.ensures in
+    obeys_told asked _ files (blank_pair c.args.zero_blocks c.args.one_blocks) c.vmrun-status.result refl octets refl
+    (subst (λ (s : Seen). Obeys asked s c.vmrun-status.result) seen c.vmrun-status.ensures.obeys)
