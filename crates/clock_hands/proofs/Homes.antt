@@ -19,7 +19,7 @@ use Rattle.page_laws.proofs.Lists.Local.{none_some}
 use Rattle.page_laws.proofs.Lists.Pages.{numbered_hit, numbered_miss}
 use Rattle.page_laws.proofs.Moves.Steps.{page_in}
 use Rattle.page_laws.proofs.Ownership.Pages.{seated_alone}
-use Rattle.table_view.specs.Views.{ShowsPage}
+use Rattle.kluster_io.specs.Views.{ShowsPage}
 use Rattle.machine_state.specs.Showing.{ShowsCore}
 use Rattle.machine_state.specs.Sharing.{IsSharer}
 use Rattle.clock_hands.specs.Seen.{IsHome}

@@ -18,7 +18,7 @@ use Rattle.page_model.specs.Ownership.{OwnsFrames, seats}
 use Rattle.page_laws.proofs.Lists.Local.{none_some}
 use Rattle.page_laws.proofs.Moves.Steps.{frame_in, once_at}
 use Rattle.page_laws.proofs.Ownership.Pages.{seated_alone}
-use Rattle.table_view.specs.Shown.{is_away}
+use Rattle.kluster_io.specs.TableViewShown.{is_away}
 use Rattle.machine_state.specs.Showing.{ShowsCore}
 
 pub seat_frame : (p : Placement) (q : Page) (f : ℕ) → IsSeated p q f → frame_of (state_of p q) ≡ Some f

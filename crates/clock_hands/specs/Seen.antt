@@ -8,7 +8,7 @@ use Rattle.page_model.specs.Placement.{Placement}
 use Rattle.page_model.specs.Runs.{run_out}
 use Rattle.page_model.specs.Hands.{expire, hand_run}
 use Rattle.page_model.specs.Conditions.{IsSeated}
-use Rattle.table_view.specs.Views.{IsNamedBy, ShowsSpace}
+use Rattle.kluster_io.specs.Views.{IsNamedBy, ShowsSpace}
 use Rattle.machine_state.specs.Showing.{ShowsCore}
 
 -- the page that holds this frame off the free list and isn't locked; none, where no page does

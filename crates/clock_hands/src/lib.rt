@@ -12,5 +12,6 @@ mod looking;
 mod moving;
 
 pub use forcing::make_room;
+pub use kluster_io;
 pub use laws::moves_are_asked;
 pub use moving::move_hands;

@@ -12,7 +12,7 @@ use Rattle.machine_state.specs.Machine.{Standing, image_shown}
 use Rattle.machine_state.specs.New.{fresh_kernel}
 use Rattle.machine_state.specs.Sourced.{ImageNamed}
 use Rattle.machine_state.proofs.FirstBegins.{shown_facts}
-use Rattle.run_start.specs.Starting.{IsNew, AreAmong}
+use Rattle.vm_core.specs.RunStartStarting.{IsNew, AreAmong}
 use Rattle.vm_core.specs.Cores.{Underway}
 use Rattle.vm_core.specs.Starting.{IsFresh}
 use Rattle.core_vectors.specs.Ready.{AreFit, MayStart}

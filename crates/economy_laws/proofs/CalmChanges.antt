@@ -20,7 +20,7 @@ use Rattle.flat_state.proofs.PageNames.{same_page_self}
 use Rattle.page_laws.proofs.Lists.Runs.{each_page_append, pages_from_each}
 use Rattle.page_laws.proofs.Ownership.Changes.{Alike, BlankSlot, AllBlank, blank_slot_at, child_blank, unfilled_blank, sized_past, sized_within, cut, numbered_hit, numbered_miss, removed_other, removed_same, dropped_pages}
 use Rattle.page_laws.proofs.Due.Changes.{leave_all_other}
-use Rattle.kernel_laws.proofs.Pieces.Sizes.{leave_text_sharers}
+use Rattle.run_laws.proofs.Sizes.{leave_text_sharers}
 use Rattle.economy_laws.proofs.Calm.{is_going, CalmSlot, Calm, put_calm, is_text}
 use Rattle.aout_image.specs.declared.Image.{Image}
 

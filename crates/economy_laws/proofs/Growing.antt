@@ -25,7 +25,7 @@ use Rattle.page_model.specs.Swapper.{is_out}
 use Rattle.page_laws.proofs.Lists.Pages.{mapped, changed_same, changed_other}
 use Rattle.page_laws.proofs.Lists.Runs.{each_page_imp}
 use Rattle.page_laws.proofs.Ownership.Changes.{cut, sized_within}
-use Rattle.flat_laws.proofs.Asking.{own_space}
+use Rattle.run_laws.proofs.FlatLawsAsking.{own_space}
 use Rattle.flat_model.specs.Instruction.{instruction_in}
 use Rattle.flat_model.specs.Run.{step_at, is_refused}
 use Rattle.run_model.specs.State.{State}

@@ -15,9 +15,9 @@ use Rattle.flat_state.specs.Change.{with_process, changed_if, apply_change, wrot
 use Rattle.kernel_model.specs.Coupled.{Fits, SameTables}
 use Rattle.page_model.specs.Pages.{SpacePages, numbered}
 use Rattle.page_model.specs.Placement.{space_number}
-use Rattle.flat_laws.proofs.Asking.{own_space}
-use Rattle.flat_laws.proofs.Others.{number_of_found}
-use Rattle.flat_laws.proofs.Shown.{is_touched}
+use Rattle.run_laws.proofs.FlatLawsAsking.{own_space}
+use Rattle.run_laws.proofs.Others.{number_of_found}
+use Rattle.run_laws.proofs.Shown.{is_touched}
 use Rattle.flat_model.specs.Instruction.{instruction_in}
 use Rattle.flat_model.specs.Run.{step_at, is_refused}
 use Rattle.flat_model.specs.Step.{Step, data_pages_of, pages_down_to}

@@ -15,11 +15,11 @@ use Rattle.page_model.specs.Place.{space_of_process}
 use Rattle.page_model.specs.Serve.{serve_entry}
 use Rattle.page_model.specs.Swapper.{is_out}
 use Rattle.kernel_model.specs.Start.{ImagesFit}
-use Rattle.kernel_laws.proofs.Flat.Lists.{Parts, parts_at, found_is, replaced_at}
+use Rattle.run_laws.proofs.Lists.{Parts, parts_at, found_is, replaced_at}
 use Rattle.page_laws.proofs.Swapper.PuttingOut.{unit_case}
 use Rattle.page_laws.proofs.Moves.Units.{unit_is, now_unit}
-use Rattle.flat_laws.proofs.Finding.{found_by_number, found_passes}
-use Rattle.flat_laws.proofs.Others.{number_of_found}
+use Rattle.run_laws.proofs.Finding.{found_by_number, found_passes}
+use Rattle.run_laws.proofs.Others.{number_of_found}
 use Rattle.run_model.specs.declared.mark.Mark.{Mark}
 use Rattle.run_model.specs.declared.mark.Mark.TheVariants as marks
 use Rattle.flat_model.specs.Run.{Point, process_of_entry, step_at, is_refused, act as next_of_step, due}

@@ -18,7 +18,7 @@ use Rattle.page_model.specs.Conditions.{EachPage}
 use Rattle.page_model.specs.Dues.{NotDue}
 use Rattle.page_model.specs.Ownership.{OwnsFrames}
 use Rattle.page_laws.proofs.Due.Entries.{get_due_list, fill_due_list}
-use Rattle.kernel_laws.proofs.Stands.Steps.{reclaim_due}
+use Rattle.run_laws.proofs.Steps.{reclaim_due}
 use Rattle.page_laws.proofs.Moves.Stays.{Steady, Stays, done_steady, force_stays}
 use Rattle.page_laws.proofs.Moves.Units.{unit_is, entry_steps}
 use Rattle.flat_model.specs.Run.{process_of_entry}

@@ -10,9 +10,9 @@ use Rattle.page_model.specs.Placement.{Placement}
 use Rattle.page_model.specs.Moves.{touch_all}
 use Rattle.page_model.specs.Place.{place_change, space_of_process, facts_of}
 use Rattle.page_model.specs.Swapper.{is_out}
-use Rattle.kernel_laws.proofs.Flat.Lists.{found_is, replaced_at}
+use Rattle.run_laws.proofs.Lists.{found_is, replaced_at}
 use Rattle.page_laws.proofs.Moves.Units.{unit_is}
-use Rattle.flat_laws.proofs.Others.{number_of_found}
+use Rattle.run_laws.proofs.Others.{number_of_found}
 use Rattle.flat_model.specs.Run.{process_of_entry, step_at}
 use Rattle.run_model.specs.State.{State}
 use Rattle.run_model.specs.Wanted.{locked}

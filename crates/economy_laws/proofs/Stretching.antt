@@ -21,7 +21,7 @@ use Rattle.page_laws.proofs.Swapper.Residences.{moved_own}
 use Rattle.page_laws.proofs.Moves.Stays.{Steady, Stays, done_steady, force_stays}
 use Rattle.page_laws.proofs.Moves.Transfers.{fill_count}
 use Rattle.page_laws.proofs.Moves.Units.{unit_is, served_valid}
-use Rattle.touch_laws.proofs.Distinct.{among_first}
+use Rattle.run_laws.proofs.Distinct.{among_first}
 use Rattle.flat_model.specs.Run.{Point, process_of_entry, may_follow, is_outcome_of, is_call_of, flat_entry, flat_entry_by, flat_entry_if}
 use Rattle.run_model.specs.State.{State}
 use Rattle.flat_model.specs.Touched.{touched}

@@ -21,15 +21,15 @@ use Rattle.page_laws.proofs.Moves.Stays.{Stays, force_stays}
 use Rattle.page_laws.proofs.Moves.Units.{unit_is}
 use Rattle.page_laws.proofs.Moves.Locks.{serve_spares, spares_both}
 use Rattle.page_laws.proofs.Ownership.Serve.{serve_owner}
-use Rattle.span_laws.specs.Spans.{takings}
-use Rattle.span_laws.proofs.Spanning.{units_added_false}
-use Rattle.span_laws.proofs.Serving.{served_short}
-use Rattle.span_laws.proofs.Serving as short
+use Rattle.clock_hands.specs.Spans.{takings}
+use Rattle.clock_hands.proofs.Spanning.{units_added_false}
+use Rattle.clock_hands.proofs.Serving.{served_short}
+use Rattle.clock_hands.proofs.Serving as short
 use Rattle.machine_state.specs.Machine.{Standing}
-use Rattle.paging_units.specs.LastMoves.{last_moves}
-use Rattle.paging_units.specs.Made.{ground}
-use Rattle.paging_units.proofs.LastMoves.{last_of}
-use Rattle.paging_units.proofs.Units.{made_journal}
+use Rattle.clock_hands.specs.LastMoves.{last_moves}
+use Rattle.clock_hands.specs.Made.{ground}
+use Rattle.clock_hands.proofs.LastMoves.{last_of}
+use Rattle.clock_hands.proofs.PagingUnitsUnits.{made_journal}
 use Rattle.fault_fill.specs.Serving.{CanServe, ServesTo, StopsServing}
 use Rattle.fault_fill.specs.Answers.{AllStayValid, IsShort}
 use Rattle.fault_fill.proofs.Serving.{still_served, calm_unit}

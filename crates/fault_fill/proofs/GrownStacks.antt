@@ -19,8 +19,8 @@ use Rattle.kernel_model.specs.Kernel.{Life, HoldsSpace, Kernel, Proc, note_step}
 use Rattle.kernel_model.specs.Asks.{HasSpace, asked}
 use Rattle.kernel_model.specs.Sound.{Sound, has_life, lives_in}
 use Rattle.kernel_model.specs.ChangeStep.{space_of_life, life_of_proc, change_if, change_by}
-use Rattle.paging_units.specs.LastMoves.{last_moves}
-use Rattle.paging_units.proofs.LastMoves.{last_of}
+use Rattle.clock_hands.specs.LastMoves.{last_moves}
+use Rattle.clock_hands.proofs.LastMoves.{last_of}
 use Rattle.machine_state.specs.declared.pieces.Want.{Want}
 use Rattle.machine_state.specs.Machine.{Standing}
 use Rattle.machine_state.specs.Wants.{wanted_of, found_for, fits_for}

@@ -14,7 +14,7 @@ use Rattle.page_model.specs.Placement.{Placement, space_number, IsThere, sharers
 use Rattle.page_model.specs.Conditions.{IsShared}
 use Rattle.page_laws.proofs.Lists.Pages.{numbered_hit, numbered_miss}
 use Rattle.kernel_model.specs.Asks.{HasSpace}
-use Rattle.table_view.specs.Views.{IsNamedBy, ShowsPage, ShowsSpace}
+use Rattle.machine_state.specs.Views.{IsNamedBy, ShowsPage, ShowsSpace}
 use Rattle.machine_state.specs.Sharing.{IsSharer}
 use Rattle.machine_state.proofs.UserFrames.{get_below}
 use Rattle.fault_fill.specs.Homes.{IsHome}

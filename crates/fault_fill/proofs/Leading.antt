@@ -11,8 +11,8 @@ use Rattle.io_edge.specs.FileHolding.{NamedFile}
 use Rattle.flat_state.specs.Journal.{append}
 use Rattle.page_model.specs.Placement.{Placement, Transfer, state_of}
 use Rattle.page_laws.proofs.Moves.Units.{unit_is}
-use Rattle.paging_units.specs.LastMoves.{last_moves}
-use Rattle.paging_units.proofs.LastMoves.{last_done}
+use Rattle.clock_hands.specs.LastMoves.{last_moves}
+use Rattle.clock_hands.proofs.LastMoves.{last_done}
 use Rattle.page_model.specs.Serve.{serve_unit}
 use Rattle.page_model.specs.Ownership.{OwnsFrames}
 use Rattle.kernel_model.specs.Kernel.{Kernel}
@@ -22,11 +22,11 @@ use Rattle.machine_state.specs.Files.{AreFiles}
 use Rattle.machine_state.specs.Conditions.{HasStopped, KeepsFlat}
 use Rattle.machine_state.specs.Done.{KeepsThrough, CountsPages, CountsReads, CountsWrites}
 use Rattle.machine_state.specs.Settled.{IsSameBeside}
-use Rattle.paging_units.specs.Made.{Ground, ground, MadeBy, ImageBy, SameBeside}
-use Rattle.paging_units.specs.Stops.{CauseBy, SpoilsBy}
-use Rattle.paging_units.proofs.Stopping.{held_here}
-use Rattle.paging_units.proofs.Units.{served_place, unit_journal, unit_same, made_append, made_one, made_same, makes_none, makes_both, makes_on}
-use Rattle.paging_units.proofs.Keeping.{made_shaped, keeps_flat, keeps_same, keeps_both}
+use Rattle.clock_hands.specs.Made.{Ground, ground, MadeBy, ImageBy, SameBeside}
+use Rattle.clock_hands.specs.Stops.{CauseBy, SpoilsBy}
+use Rattle.clock_hands.proofs.Stopping.{held_here}
+use Rattle.clock_hands.proofs.PagingUnitsUnits.{served_place, unit_journal, unit_same, made_append, made_one, made_same, makes_none, makes_both, makes_on}
+use Rattle.clock_hands.proofs.Keeping.{made_shaped, keeps_flat, keeps_same, keeps_both}
 use Rattle.clock_hands.proofs.Units.{made_on}
 use Rattle.fault_fill.specs.Serving.{CanServe, UnitMade, UnitStops, ServesTo, StopsServing}
 use Rattle.fault_fill.specs.Units.{AnyUnit, PlainMade, PlainStop, EndMade, EndStops, NoneMade}

@@ -1,3 +1,8 @@
+pub use Rattle.clock_hands.proofs.Asked
+pub use Rattle.clock_hands.proofs.Keeping
+pub use Rattle.clock_hands.proofs.LastMoves
+pub use Rattle.clock_hands.proofs.Stopping
+pub use Rattle.clock_hands.proofs.PagingUnitsUnits
 pub mod Grows
 pub mod GrownStacks
 pub mod Homes

@@ -3,8 +3,8 @@ use Rattle.std.proofs.Common.{◌≡◌, ◌⊎◌, inl, inr, ℕ, ◌+◌, ◌<
 use Rattle.std.proofs.lemmas.Bool.Decides.{nat_tests}
 use Rattle.std.proofs.lemmas.Option.{same_Some}
 use Rattle.flat_state.specs.Journal.{append}
-use Rattle.paging_units.specs.LastMoves.{last_moves}
-use Rattle.paging_units.proofs.LastMoves.{last_of}
+use Rattle.clock_hands.specs.LastMoves.{last_moves}
+use Rattle.clock_hands.proofs.LastMoves.{last_of}
 use Rattle.vm_facts.specs.declared.page.Page.{Page}
 use Rattle.vm_facts.specs.declared.page.Page.TheVariants.{Data, Stack, Text}
 use Rattle.vm_facts.specs.declared.page.PageState.{PageState}
@@ -33,7 +33,7 @@ use Rattle.page_laws.proofs.Ownership.Serve.{force_owner, serve_owner}
 use Rattle.page_laws.proofs.Ends.Serving.{Landed, land_all_lands, is_coming, in_flight, read_comes, serve_falls, full_some}
 use Rattle.page_laws.proofs.Ends.Hands.{serve_stands}
 use Rattle.page_laws.proofs.Ends.Wholes.{serve_sizes, serve_room}
-use Rattle.span_laws.proofs.Serving.{done_less}
+use Rattle.clock_hands.proofs.Serving.{done_less}
 use Rattle.machine_state.specs.PlaceOf.{is_blank}
 use Rattle.fault_fill.specs.Serving.{CanServe}
 use Rattle.fault_fill.specs.Units.{is_flying}

@@ -19,7 +19,7 @@ use Rattle.page_laws.proofs.Lists.Pages.{numbered_hit, numbered_miss}
 use Rattle.kernel_model.specs.Kernel.{Life, HoldsSpace, Kernel, Proc}
 use Rattle.kernel_model.specs.Asks.{HasSpace}
 use Rattle.kernel_model.specs.ChangeStep.{space_of_life, life_of_proc}
-use Rattle.table_view.specs.Views.{IsNamedBy, ShowsSpace}
+use Rattle.machine_state.specs.Views.{IsNamedBy, ShowsSpace}
 use Rattle.machine_state.specs.Alike.{AreRecords}
 use Rattle.machine_state.specs.Machine.{proc_of, processes_of}
 use Rattle.machine_state.specs.UserMemory.{CanLend}

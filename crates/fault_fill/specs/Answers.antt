@@ -4,7 +4,7 @@ use Rattle.vm_facts.specs.declared.page.Page.{Page}
 use Rattle.io_edge.specs.FileHolding.{NamedFile}
 use Rattle.page_model.specs.Pages.{is_valid}
 use Rattle.page_model.specs.Placement.{Placement, state_of}
-use Rattle.span_laws.specs.Spans.{takings}
+use Rattle.clock_hands.specs.Spans.{takings}
 use Rattle.machine_state.specs.Machine.{Standing}
 use Rattle.fault_fill.specs.Serving.{ServesTo}
 use Rattle.fault_fill.specs.Units.{is_flying, NeedsFrame}

@@ -13,8 +13,8 @@ use Rattle.machine_state.specs.Machine.{Standing}
 use Rattle.machine_state.specs.PlaceOf.{is_blank}
 use Rattle.machine_state.specs.Done.{KeepsThrough}
 use Rattle.machine_state.specs.Settled.{IsSameBeside}
-use Rattle.paging_units.specs.Made.{ground, MadeBy, ImageBy, Made, Makes}
-use Rattle.paging_units.specs.Stops.{StopsAt}
+use Rattle.clock_hands.specs.Made.{ground, MadeBy, ImageBy, Made, Makes}
+use Rattle.clock_hands.specs.Stops.{StopsAt}
 
 -- A page that is there, of text that a space shares where it is text, and not due. Another page may be due, unless this
 -- one has to be filled with zeros.

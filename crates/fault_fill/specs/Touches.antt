@@ -6,7 +6,7 @@ use Rattle.vm_facts.specs.declared.stop.Stop.{Stop}
 use Rattle.vm_facts.specs.declared.stop.Stop.TheVariants as stops
 use Rattle.io_edge.specs.FileHolding.{NamedFile}
 use Rattle.page_model.specs.Conditions.{Spares}
-use Rattle.paging_units.specs.LastMoves.{last_moves}
+use Rattle.clock_hands.specs.LastMoves.{last_moves}
 use Rattle.machine_state.specs.Machine.{Standing}
 use Rattle.machine_state.specs.Conditions.{HasStopped}
 use Rattle.fault_fill.specs.Serving.{CanServe, StopsServing}

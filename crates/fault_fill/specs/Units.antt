@@ -11,8 +11,8 @@ use Rattle.page_model.specs.Placement.{Placement, state_of}
 use Rattle.machine_state.specs.Machine.{Standing}
 use Rattle.machine_state.specs.Done.{sources, IsDone, ImageAfter, KeepsThrough}
 use Rattle.machine_state.specs.Settled.{IsSameBeside}
-use Rattle.paging_units.specs.Stops.{StopsAt}
-use Rattle.paging_units.specs.LastMoves.{last_moves}
+use Rattle.clock_hands.specs.Stops.{StopsAt}
+use Rattle.clock_hands.specs.LastMoves.{last_moves}
 use Rattle.fault_fill.specs.Serving.{UnitMade, UnitStops, ServesTo}
 use Rattle.fault_fill.specs.declared.unit.Unit.{Unit as Came}
 use Rattle.fault_fill.specs.declared.unit.Unit.TheVariants as came

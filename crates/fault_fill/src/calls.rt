@@ -4,7 +4,7 @@ ghost use Rattle.page_model.specs.Conditions.{Spares};
 ghost use Rattle.page_model.specs.Rank.{HasRoom};
 ghost use Rattle.machine_state.specs.Files.{AreFiles};
 ghost use Rattle.machine_state.specs.Done.{CountsPages, CountsReads, CountsWrites};
-ghost use Rattle.paging_units.specs.LastMoves.{last_moves};
+ghost use Rattle.clock_hands.specs.LastMoves.{last_moves};
 ghost use Rattle.fault_fill.specs.Serving.{CanServe, StopsServing};
 ghost use Rattle.fault_fill.specs.Answers.{ServedAs, ServedNow, IsShort, AllStayValid};
 

@@ -9,5 +9,6 @@ mod unit;
 
 pub use access::{Access, access_in};
 pub use calls::{serve_page, serve_page_now};
+pub use clock_hands;
 pub use pages::Served as Came;
 pub use touch::{Served, serve, serve_now};

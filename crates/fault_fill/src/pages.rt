@@ -3,7 +3,7 @@ ghost use Rattle.std.specs.Prelude.{◌≡◌, ◌≤◌, true, false, [], Match
 ghost use Rattle.machine_state.specs.Files.{AreFiles};
 ghost use Rattle.machine_state.specs.Done.{CountsPages, CountsReads, CountsWrites};
 ghost use Rattle.page_model.specs.Rank.{HasRoom};
-ghost use Rattle.paging_units.specs.LastMoves.{last_moves};
+ghost use Rattle.clock_hands.specs.LastMoves.{last_moves};
 ghost use Rattle.fault_fill.specs.Serving.{CanServe, StopsServing};
 ghost use Rattle.fault_fill.specs.Units.{GoesFurther};
 ghost use Rattle.fault_fill.specs.Answers.{ServesAs, ServesNow};

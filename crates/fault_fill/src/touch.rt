@@ -4,14 +4,14 @@ ghost use Rattle.core_map.specs.Frames.{Frames};
 ghost use Rattle.page_model.specs.Placement.{image_of};
 ghost use Rattle.page_model.specs.Place.{data_count};
 ghost use Rattle.page_model.specs.Rank.{HasRoom};
-ghost use Rattle.table_view.specs.Views.{ShowsSpace};
+ghost use Rattle.machine_state.specs.Views.{ShowsSpace};
 ghost use Rattle.machine_state.specs.Machine.{proc_shown};
 ghost use Rattle.machine_state.specs.Showing.{ShowsCore};
 ghost use Rattle.machine_state.specs.Files.{AreFiles};
 ghost use Rattle.machine_state.specs.Done.{CountsPages, CountsReads, CountsWrites};
 ghost use Rattle.machine_state.specs.Conditions.{HasStopped};
 ghost use Rattle.machine_state.specs.UserMemory.{CanLend};
-ghost use Rattle.paging_units.specs.LastMoves.{last_moves};
+ghost use Rattle.clock_hands.specs.LastMoves.{last_moves};
 ghost use Rattle.fault_fill.specs.Growth.{proc_in, space_held, access_by, IsAsked, AsksGrowth, IsGrowth, GrowsBy};
 ghost use Rattle.fault_fill.specs.Touches.{Reaches, ReadyIf, TouchedAs, TouchedNow, AccessComes, AccessStops};
 

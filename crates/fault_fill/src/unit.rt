@@ -8,7 +8,7 @@ ghost use Rattle.flat_state.specs.PageNames.{number_of};
 ghost use Rattle.vm_facts.specs.declared.page.PageState.TheVariants.{Invalid};
 ghost use Rattle.page_model.specs.Runs.{run_in, spare_frames};
 ghost use Rattle.kernel_model.specs.Asks.{HasSpace};
-ghost use Rattle.table_view.specs.Views.{IsNamedBy, ShowsSpace};
+ghost use Rattle.machine_state.specs.Views.{IsNamedBy, ShowsSpace};
 ghost use Rattle.machine_state.specs.Showing.{ShowsCore};
 ghost use Rattle.machine_state.specs.PlaceOf.{is_blank};
 ghost use Rattle.machine_state.specs.Files.{AreFiles};
@@ -17,8 +17,8 @@ ghost use Rattle.fault_fill.specs.Homes.{IsHome};
 ghost use Rattle.fault_fill.specs.Serving.{CanServe};
 ghost use Rattle.fault_fill.specs.Units.{PlainMade, PlainStop, AnyUnit, AnyStop, EndMade, EndStops, ComesTo};
 
+use clock_hands::kluster_io::pick_in;
 use io_edge::{Files, SwapDev};
-use kluster_io::pick_in;
 use machine_state::Machine;
 use space_map::SpaceMap;
 use vm_facts::{Page, PageState, Stop};

@@ -23,10 +23,10 @@ use Rattle.flat_state.specs.Numbers.{IsAbsent, AllDistinct, IsNumbered}
 use Rattle.kernel_model.specs.Numbers.{Numbered}
 use Rattle.kernel_model.specs.Start.{ImagesFit}
 use Rattle.kernel_model.specs.Asks.{text_asked, image_asked, change_asks, asked}
-use Rattle.page_laws.proofs.Lists.Local.{none_some}
+use Rattle.kernel_laws.proofs.Local.{none_some}
 use Rattle.std.proofs.lemmas.Option.{same_Some}
 use Rattle.kernel_laws.proofs.Flat.Numbered.{absent_none}
-use Rattle.page_laws.proofs.Lists.Pages.{numbered_hit, numbered_miss}
+use Rattle.kernel_laws.proofs.PageLawsListsPages.{numbered_hit, numbered_miss}
 use Rattle.vm_facts.proofs.Tests.{eq_self}
 use Rattle.std.proofs.lemmas.Bool.{eqb-true}
 use Rattle.kernel_laws.proofs.Flat.Lists.{sid_of, held, held_at, held_own}

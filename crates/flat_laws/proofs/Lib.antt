@@ -1,3 +1,7 @@
+pub use Rattle.kernel_laws.proofs.Stands.Starts
+pub use Rattle.touch_laws.proofs.Distinct
+pub use Rattle.touch_laws.proofs.Few as TouchLawsFew
+pub use Rattle.touch_laws.proofs.Sized
 pub mod Entries
 pub mod Pages
 pub mod Shown

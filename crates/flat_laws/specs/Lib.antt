@@ -1,3 +1,4 @@
+pub use Rattle.touch_laws.specs.Whole
 pub mod Shown
 pub mod Others
 pub mod Determined

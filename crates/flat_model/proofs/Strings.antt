@@ -2,7 +2,7 @@
 use Rattle.std.proofs.Common.{◌≡◌, ℕ, ◌+◌, ◌-◌, ◌*◌, ◌<◌, ◌≤◌, List, [], ◌∷◌, ◌++◌, length, drop, replicate, get_or, All, refl, sym, ap, ◌∙◌, append_assoc, arith}
 use Rattle.std.proofs.lemmas.List.{drop_more, length-append, length-replicate}
 use Rattle.std.proofs.lemmas.List.Elements.{All-tail, recursion_from_All}
-use Rattle.aout_image.specs.Image.{word_bytes}
+use Rattle.flat_state.specs.AoutImageImageSpecs.{word_bytes}
 use Rattle.flat_state.specs.Flat.{strings_of, in_longwords, string_area, strings_at, pointers_from, argument_area}
 use Rattle.flat_model.specs.Arguments.{AreArguments}
 

@@ -7,7 +7,7 @@ use Rattle.flat_state.specs.Space.{Space}
 use Rattle.flat_state.specs.Flat.{Holding, Holds, Lends, Zombie, Process, FlatState, NamedImage, Inputs, image_numbered, process_of, can_step}
 use Rattle.vm_facts.specs.declared.entry.Entry.{Entry}
 use Rattle.vm_facts.specs.declared.entry.Entry.TheVariants.{Grew, Call, Ended}
-use Rattle.aout_image.specs.Image.{Loaded, text_pages_of, data_pages_of}
+use Rattle.flat_state.specs.AoutImageImageSpecs.{Loaded, text_pages_of, data_pages_of}
 use Rattle.swap_book.specs.declared.Owner.{Owner}
 use Rattle.swap_book.specs.declared.Owner.TheVariants as owners
 use Rattle.swap_book.specs.Owners.{pieces_of}

@@ -6,7 +6,7 @@ use Rattle.vm_facts.specs.declared.regs.Regs.{Regs}
 use Rattle.user_vax.specs.Program.{Program, Gives, Reads, ◌>>=◌}
 use Rattle.user_vax.specs.Operands.{register, with_register, past, number_at}
 use Rattle.user_vax.specs.declared.refused.Refused.{Refused}
-use Rattle.aout_image.specs.Image.{pages_for}
+use Rattle.flat_state.specs.AoutImageImageSpecs.{pages_for}
 use Rattle.flat_state.specs.Change.{with_results, is_zombie_child}
 use Rattle.flat_state.specs.declared.change.Change.{Change}
 use Rattle.flat_state.specs.declared.change.Change.TheVariants.{Keep, Resize, Fork, Lend, Exec, Reap, Sleep, End}

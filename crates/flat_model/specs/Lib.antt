@@ -1,3 +1,4 @@
+pub use Rattle.user_vax.specs.Laws
 pub mod Arguments
 pub mod Calls
 pub mod Instruction

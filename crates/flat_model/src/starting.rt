@@ -1,7 +1,7 @@
 // The stack page and the registers with which an image starts.
 
 ghost use Rattle.std.specs.Prelude.{◌≡◌, ℕ, ◌+◌, ◌-◌, ◌*◌, ◌/◌, ◌%◌, ◌^◌, ◌<◌, ◌≤◌, [], ◌∷◌, ◌++◌, length, replicate, IfOk, OnOk};
-ghost use Rattle.aout_image.specs.Image.{word_bytes};
+ghost use Rattle.flat_state.specs.AoutImageImageSpecs.{word_bytes};
 ghost use Rattle.flat_model.specs.Arguments.{AreArguments};
 ghost use Rattle.flat_state.specs.Flat.{strings_of, pointers_from, in_longwords, argument_area, start_page, start_regs};
 

@@ -1,3 +1,5 @@
+pub use Rattle.aout_image.specs.Image as AoutImageImageSpecs
+pub use Rattle.aout_image.specs.declared.Image as AoutImageImage
 pub mod Space
 pub mod Flat
 pub mod Change

@@ -8,8 +8,8 @@ use Rattle.run_model.specs.State.{State}
 use Rattle.run_model.specs.After.{after}
 use Rattle.run_model.specs.Next.{next_unit}
 use Rattle.run_model.specs.Lawful.{Follows}
-use Rattle.run_laws.specs.Running.{IsRun}
-use Rattle.run_laws.proofs.Wholes.{unit_run, unit_ready}
+use Rattle.paging_laws.specs.RunLawsRunning.{IsRun}
+use Rattle.paging_laws.proofs.Wholes.{unit_run, unit_ready}
 use Rattle.paging_laws.proofs.Called.{zero_called, get_called, get_run, reclaim_called, copy_called}
 use Rattle.paging_laws.proofs.SmallReads.{read_small}
 use Rattle.paging_laws.proofs.Lost.{unit_lost, unit_written}

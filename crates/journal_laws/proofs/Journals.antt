@@ -9,12 +9,12 @@ use Rattle.run_model.specs.State.{State, start}
 use Rattle.run_model.specs.Lawful.{Follows, IsLawful}
 use Rattle.run_model.specs.Swapped.{swapped_from, swapped}
 use Rattle.run_model.proofs.After.{units_journal}
-use Rattle.run_laws.specs.Machine.{StandsAt}
-use Rattle.run_laws.specs.Running.{CanRun}
-use Rattle.run_laws.proofs.Lawful.{follows_state}
-use Rattle.run_laws.proofs.Machines.{makes_follows}
-use Rattle.run_laws.proofs.SwapImages.{images_same, swapped_same}
-use Rattle.run_laws.proofs.Wholes.{start_run, reached_lawful}
+use Rattle.paging_laws.specs.Machine.{StandsAt}
+use Rattle.paging_laws.specs.RunLawsRunning.{CanRun}
+use Rattle.paging_laws.proofs.Lawful.{follows_state}
+use Rattle.paging_laws.proofs.Machines.{makes_follows}
+use Rattle.paging_laws.proofs.SwapImages.{images_same, swapped_same}
+use Rattle.paging_laws.proofs.Wholes.{start_run, reached_lawful}
 use Rattle.run_units.specs.Leads.{Leads}
 use Rattle.run_units.specs.Serving.{At}
 use Rattle.journal_laws.specs.Accounts.{Account}

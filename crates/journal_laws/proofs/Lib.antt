@@ -1,3 +1,5 @@
+pub use Rattle.run_units.proofs.Idle
+pub use Rattle.run_units.proofs.Units
 pub mod Owners
 pub mod Refusals
 pub mod Accounts

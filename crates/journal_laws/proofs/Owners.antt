@@ -10,8 +10,8 @@ use Rattle.kernel_model.specs.Sound.{Sound, has_life, lives_in, lives}
 use Rattle.kernel_model.specs.Start.{kept_of}
 use Rattle.kernel_laws.proofs.Flat.Lists.{found_is}
 use Rattle.run_model.specs.State.{State}
-use Rattle.run_laws.specs.Standing.{Placed, machine_of}
-use Rattle.run_laws.specs.Running.{IsRun}
+use Rattle.paging_laws.specs.Standing.{Placed, machine_of}
+use Rattle.paging_laws.specs.RunLawsRunning.{IsRun}
 use Rattle.journal_laws.specs.Accounts.{living_with, living_if, is_living, IsOwned}
 
 living_kept : (ps : List Process) (pid : ℕ) → lives (map kept_of ps) pid ≡ living_if (numbered (λ (q : Process). q.pid) pid ps)

@@ -16,18 +16,18 @@ use Rattle.run_model.specs.Next.{when, line_or_turn, next_mark}
 use Rattle.run_model.specs.Kinds.{Kind, Fills, Brings, Copies, Serves, Acts, ComesIn, Interrupts, Moves, PutsOut, Notes, Begins}
 use Rattle.run_model.specs.Lawful.{Follows}
 use Rattle.run_model.proofs.NextUnits.{kind_of}
-use Rattle.run_laws.specs.Running.{IsRun}
-use Rattle.run_laws.proofs.Flows.{Acted, Settles, Refuses, Steps, acted, steps_own}
-use Rattle.run_laws.proofs.Plain.{IsPaging, serve_paging, zero_paging, copy_paging, move_paging}
-use Rattle.run_laws.proofs.Wholes.{unit_run, units_run}
-use Rattle.economy_laws.specs.Stretch.{turns, turns_of, NoneCounts}
-use Rattle.economy_laws.specs.Worth.{renews, Happens}
-use Rattle.economy_laws.proofs.Opening.{few_touched, stretch_entries, whole_stretch}
-use Rattle.economy_laws.proofs.Sleeping.{sleep_stops}
-use Rattle.economy_laws.proofs.Growing.{all_grown}
-use Rattle.economy_laws.proofs.Growth.{growth_touches}
-use Rattle.economy_laws.proofs.Idle.{count_most, few_turns, many_behind, many_on}
-use Rattle.economy_laws.proofs.Writes.{writes_worth}
+use Rattle.paging_laws.specs.RunLawsRunning.{IsRun}
+use Rattle.paging_laws.proofs.Flows.{Acted, Settles, Refuses, Steps, acted, steps_own}
+use Rattle.paging_laws.proofs.Plain.{IsPaging, serve_paging, zero_paging, copy_paging, move_paging}
+use Rattle.paging_laws.proofs.Wholes.{unit_run, units_run}
+use Rattle.run_units.specs.Stretch.{turns, turns_of, NoneCounts}
+use Rattle.run_units.specs.Worth.{renews, Happens}
+use Rattle.run_units.proofs.Opening.{few_touched, stretch_entries, whole_stretch}
+use Rattle.run_units.proofs.Sleeping.{sleep_stops}
+use Rattle.run_units.proofs.Growing.{all_grown}
+use Rattle.run_units.proofs.Growth.{growth_touches}
+use Rattle.run_units.proofs.Idle.{count_most, few_turns, many_behind, many_on}
+use Rattle.run_units.proofs.Writes.{writes_worth}
 use Rattle.journal_laws.specs.Economy.{IsPart, IsStretch, IsShort, Stores, Economy}
 use Rattle.journal_laws.proofs.Parts.{both_follow, PartFollows, part_follows}
 

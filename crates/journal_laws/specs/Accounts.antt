@@ -15,7 +15,7 @@ use Rattle.flat_model.specs.Run.{is_refused, process_of_entry}
 use Rattle.flat_model.specs.Asked.{asks}
 use Rattle.run_model.specs.State.{State}
 use Rattle.run_model.specs.After.{after}
-use Rattle.run_laws.specs.Running.{IsReady}
+use Rattle.paging_laws.specs.RunLawsRunning.{IsReady}
 use Rattle.paging_laws.specs.Called.{IsWanted, IsStartDue, IsCopyDue, IsParentOfDue, IsSmallRead}
 use Rattle.paging_laws.specs.Lost.{IsLost}
 use Rattle.paging_laws.specs.Cleaned.{IsCleaned}

@@ -8,8 +8,8 @@ use Rattle.flat_state.specs.PageNames.{is_among}
 use Rattle.span_laws.specs.Spans.{takings}
 use Rattle.run_model.specs.State.{State}
 use Rattle.run_model.specs.After.{after, state_after}
-use Rattle.economy_laws.specs.Stretch.{begins_stretch, NoneBegins, copies_of, IsClosing, turns_of, NoneCounts}
-use Rattle.economy_laws.specs.Worth.{stored_pages, renews, Happens}
+use Rattle.run_units.specs.Stretch.{begins_stretch, NoneBegins, copies_of, IsClosing, turns_of, NoneCounts}
+use Rattle.run_units.specs.Worth.{stored_pages, renews, Happens}
 
 -- of units from a state on, some in a row, and the state before these
 pub record IsPart (A : Inputs) (s : State) (us : List Entry) (at : State) (part : List Entry) : Type 0 where

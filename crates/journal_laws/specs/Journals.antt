@@ -9,8 +9,8 @@ use Rattle.kernel_model.specs.Start.{ImagesFit}
 use Rattle.run_model.specs.State.{State, start}
 use Rattle.run_model.specs.Lawful.{Follows, IsLawful}
 use Rattle.run_model.specs.Swapped.{swapped_from, swapped}
-use Rattle.run_laws.specs.Machine.{StandsAt}
-use Rattle.run_laws.specs.Running.{IsRun, CanRun}
+use Rattle.paging_laws.specs.Machine.{StandsAt}
+use Rattle.paging_laws.specs.RunLawsRunning.{IsRun, CanRun}
 use Rattle.run_units.specs.Leads.{Leads}
 use Rattle.run_units.specs.Serving.{At}
 use Rattle.journal_laws.specs.Accounts.{Account}

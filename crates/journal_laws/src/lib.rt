@@ -11,3 +11,4 @@
 mod laws;
 
 pub use laws::{lawful_journals, leads_say_image, units_are_accounted, units_are_economical};
+pub use run_units::clock_hands;

@@ -1,3 +1,4 @@
+pub use Rattle.swap_dmap.specs.Chunks
 pub mod Processes
 pub mod Paging
 pub mod Beginning

@@ -3,14 +3,14 @@
 -- flat_model, and `asks_agree` of flat_laws joins the two views.
 use Rattle.std.specs.Prelude.{◌≡◌, ◌≢◌, ℕ, zero, suc, ◌+◌, ◌*◌, ◌==◌, Bool, true, false, cond, List, [], ◌∷◌, ◌++◌, length, drop, Option, Some, None, Result}
 use Rattle.vm_facts.specs.declared.page.Page.TheVariants.{Text}
-use Rattle.aout_image.specs.declared.Image.{Image}
-use Rattle.aout_image.specs.Image.{data_pages_of}
-use Rattle.swap_dmap.specs.Chunks.{pieces, text_pieces}
-use Rattle.swap_book.specs.declared.Owner.{Owner}
-use Rattle.swap_book.specs.declared.Owner.TheVariants as owners
-use Rattle.swap_book.specs.Owners.{u_pieces}
-use Rattle.swap_book.specs.Holdings.{Holdings}
-use Rattle.swap_book.specs.Placing.{Wanted, wanted, place_all}
+use Rattle.flat_state.specs.AoutImageImage.{Image}
+use Rattle.flat_state.specs.AoutImageImageSpecs.{data_pages_of}
+use Rattle.page_model.specs.Chunks.{pieces, text_pieces}
+use Rattle.page_model.specs.Owner.{Owner}
+use Rattle.page_model.specs.Owner.TheVariants as owners
+use Rattle.page_model.specs.Owners.{u_pieces}
+use Rattle.page_model.specs.Holdings.{Holdings}
+use Rattle.page_model.specs.Placing.{Wanted, wanted, place_all}
 use Rattle.flat_state.specs.declared.change.Change.{Change}
 use Rattle.flat_state.specs.declared.change.Change.TheVariants.{Resize, Fork, Lend, Exec, End}
 use Rattle.page_model.specs.Pages.{numbered}

@@ -3,9 +3,9 @@ use Rattle.std.specs.Prelude.{ℕ, zero, suc, ◌+◌, ◌*◌, ◌==◌, Bool, 
 use Rattle.vm_facts.specs.declared.page.Page.TheVariants.{Stack}
 use Rattle.vm_facts.specs.declared.regs.Regs.{Regs}
 use Rattle.vm_facts.specs.declared.entry.Entry.{Entry}
-use Rattle.swap_dmap.specs.Chunks.{pieces}
-use Rattle.swap_book.specs.declared.Owner.TheVariants as owners
-use Rattle.swap_book.specs.Holdings.{Holdings, kept}
+use Rattle.page_model.specs.Chunks.{pieces}
+use Rattle.page_model.specs.Owner.TheVariants as owners
+use Rattle.page_model.specs.Holdings.{Holdings, kept}
 use Rattle.flat_state.specs.declared.change.Change.{Change}
 use Rattle.flat_state.specs.declared.change.Change.TheVariants.{Keep, Resize, Fork, Lend, Exec, Reap, Sleep, End}
 use Rattle.flat_state.specs.Change.{with_results}
@@ -14,7 +14,7 @@ use Rattle.page_model.specs.Pages.{numbered}
 use Rattle.page_model.specs.Placement.{Placement, image_of, sharers}
 use Rattle.page_model.specs.Place.{place_change}
 use Rattle.kernel_model.specs.Kernel.{Life, New, HoldsSpace, LendsSpace, Ended, Proc, StartBytes, Kernel}
-use Rattle.aout_image.specs.declared.Image.{Image}
+use Rattle.flat_state.specs.AoutImageImage.{Image}
 
 -- Records.
 

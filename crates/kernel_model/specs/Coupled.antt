@@ -5,9 +5,9 @@ use Rattle.flat_state.specs.Flat.{Process, FlatState, NamedImage, image_numbered
 use Rattle.vm_facts.specs.declared.page.Page.{Page}
 use Rattle.vm_facts.specs.declared.page.Page.TheVariants.{Data, Stack, Text}
 use Rattle.vm_facts.specs.declared.regs.Regs.{Regs}
-use Rattle.aout_image.specs.Image.{page_at}
-use Rattle.swap_book.specs.declared.Owner.TheVariants as owners
-use Rattle.swap_book.specs.Holdings.{block_in}
+use Rattle.flat_state.specs.AoutImageImageSpecs.{page_at}
+use Rattle.page_model.specs.Owner.TheVariants as owners
+use Rattle.page_model.specs.Holdings.{block_in}
 use Rattle.page_model.specs.Pages.{SpacePages, numbered}
 use Rattle.page_model.specs.Placement.{Placement, Transfer, Part, Errand, Writes, Reads, space_number, image_of, slots_of}
 use Rattle.page_model.specs.PageBytes.{zeros, Bytes, CouplesPages, source_bytes}

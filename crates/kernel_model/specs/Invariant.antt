@@ -3,8 +3,8 @@ use Rattle.std.specs.Prelude.{◌≡◌, ℕ, ◌*◌, ◌<◌, ◌≤◌, true,
 use Rattle.vm_facts.specs.Answers.{ByteWrite}
 use Rattle.vm_facts.specs.declared.page.Page.{Page}
 use Rattle.vm_facts.specs.declared.page.PageState.TheVariants.{Unfilled, Valid}
-use Rattle.swap_book.specs.Holdings.{Holdings}
-use Rattle.swap_book.specs.Placing.{Wanted, place_all}
+use Rattle.page_model.specs.Holdings.{Holdings}
+use Rattle.page_model.specs.Placing.{Wanted, place_all}
 use Rattle.flat_state.specs.Space.{Space, address_in}
 use Rattle.flat_state.specs.Flat.{Holds, Process, FlatState, NamedImage, Inputs, process_of, image_numbered, start_state}
 use Rattle.flat_state.specs.Numbers.{IsNumbered}

@@ -5,7 +5,7 @@ use Rattle.vm_facts.specs.declared.page.Page.{Page}
 use Rattle.vm_facts.specs.declared.regs.Regs.{Regs}
 use Rattle.vm_facts.specs.declared.entry.Entry.{Entry}
 use Rattle.vm_facts.specs.declared.entry.Entry.TheVariants as entries
-use Rattle.swap_book.specs.Holdings.{Holdings}
+use Rattle.page_model.specs.Holdings.{Holdings}
 use Rattle.flat_state.specs.Journal.{append}
 use Rattle.page_model.specs.Pages.{frame_of}
 use Rattle.flat_state.specs.PageNames.{same_page}

@@ -2,7 +2,7 @@
 use Rattle.std.specs.Prelude.{◌≡◌, ℕ, ◌*◌, ◌≤◌, Bool, true, false, ◌||◌, List, [], ◌∷◌, length, Option, Some, None, ◌<◌}
 use Rattle.vm_facts.specs.declared.page.Page.{Page}
 use Rattle.vm_facts.specs.declared.page.Page.TheVariants.{Text}
-use Rattle.aout_image.specs.Image.{Loaded, data_given, data_pages_of, page_at}
+use Rattle.flat_state.specs.AoutImageImageSpecs.{Loaded, data_given, data_pages_of, page_at}
 use Rattle.flat_state.specs.Flat.{NamedImage, image_numbered}
 use Rattle.page_model.specs.Pages.{numbered}
 use Rattle.flat_state.specs.PageNames.{same_page}

@@ -3,9 +3,9 @@ use Rattle.std.specs.Prelude.{◌≡◌, ℕ, ◌+◌, ◌*◌, ◌≤◌, false
 use Rattle.flat_state.specs.Space.{Space}
 use Rattle.flat_state.specs.Flat.{Process, NamedImage, Inputs, image_numbered, argument_area, start_page, start_regs, start_state, spaces_of}
 use Rattle.vm_facts.specs.declared.page.Page.TheVariants.{Stack}
-use Rattle.aout_image.specs.declared.Image.{Image}
-use Rattle.aout_image.specs.Image.{IsSound, text_pages_of}
-use Rattle.swap_book.specs.Holdings.{Holdings}
+use Rattle.flat_state.specs.AoutImageImage.{Image}
+use Rattle.flat_state.specs.AoutImageImageSpecs.{IsSound, text_pages_of}
+use Rattle.page_model.specs.Holdings.{Holdings}
 use Rattle.page_model.specs.Placement.{Placement, Start, Starting, new_pages, start_placement}
 use Rattle.kernel_model.specs.Kernel.{HoldsSpace, Proc, StartBytes, Kernel, life_of}
 use Rattle.kernel_model.specs.Sound.{DataFits}

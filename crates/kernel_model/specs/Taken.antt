@@ -1,11 +1,11 @@
 -- What is so right before a change of a process: the pieces that it takes were found, and nothing was given back yet.
 use Rattle.std.specs.Prelude.{◌≡◌, ℕ, ◌*◌, false, cond, List, [], ◌∷◌, length, drop}
 use Rattle.vm_facts.specs.declared.page.Page.TheVariants.{Text}
-use Rattle.swap_dmap.specs.Chunks.{pieces}
-use Rattle.swap_book.specs.declared.Owner.{Owner}
-use Rattle.swap_book.specs.declared.Owner.TheVariants as owners
-use Rattle.swap_book.specs.Owners.{same_owner, u_pieces}
-use Rattle.swap_book.specs.Placing.{Wanted}
+use Rattle.page_model.specs.Chunks.{pieces}
+use Rattle.page_model.specs.Owner.{Owner}
+use Rattle.page_model.specs.Owner.TheVariants as owners
+use Rattle.page_model.specs.Owners.{same_owner, u_pieces}
+use Rattle.page_model.specs.Placing.{Wanted}
 use Rattle.flat_state.specs.declared.change.Change.{Change}
 use Rattle.flat_state.specs.declared.change.Change.TheVariants.{Reap}
 use Rattle.page_model.specs.Pages.{numbered}
@@ -16,7 +16,7 @@ use Rattle.page_model.specs.Ownership.{text_pieces_while, u_blocks}
 use Rattle.kernel_model.specs.Kernel.{Life, Kernel, Proc}
 use Rattle.kernel_model.specs.Sound.{lives}
 use Rattle.kernel_model.specs.ChangeStep.{space_of_life, life_of_proc, gave_back}
-use Rattle.aout_image.specs.declared.Image.{Image}
+use Rattle.flat_state.specs.AoutImageImage.{Image}
 
 -- the lengths of the pieces that an owner needs in a machine
 abbrev pub needed : Kernel → Owner → List ℕ

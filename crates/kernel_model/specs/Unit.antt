@@ -7,8 +7,8 @@ use Rattle.vm_facts.specs.declared.page.Page.TheVariants.{Data, Stack}
 use Rattle.vm_facts.specs.declared.regs.Regs.{Regs}
 use Rattle.vm_facts.specs.declared.entry.Entry.{Entry}
 use Rattle.vm_facts.specs.declared.entry.Entry.TheVariants as entries
-use Rattle.swap_book.specs.declared.Owner.TheVariants as owners
-use Rattle.swap_book.specs.Holdings.{Holdings, block_in}
+use Rattle.page_model.specs.Owner.TheVariants as owners
+use Rattle.page_model.specs.Holdings.{Holdings, block_in}
 use Rattle.flat_state.specs.Flat.{FlatState, NamedImage}
 use Rattle.flat_state.specs.Change.{apply_change, apply_writes}
 use Rattle.flat_state.specs.declared.change.Change.{Change}
@@ -20,7 +20,7 @@ use Rattle.kernel_model.specs.Kernel.{Kernel, Proc, Life, New, HoldsSpace, Lends
 use Rattle.kernel_model.specs.UPage.{u_page, regs_in}
 use Rattle.kernel_model.specs.ChangeStep.{change_step, ran_by, pass_step, space_of_life}
 use Rattle.page_model.specs.Place.{facts_of}
-use Rattle.aout_image.specs.declared.Image.{Image}
+use Rattle.flat_state.specs.AoutImageImage.{Image}
 
 -- Spaces that are lent.
 

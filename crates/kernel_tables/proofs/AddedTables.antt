@@ -4,7 +4,7 @@ use Rattle.text_table.specs.Texts.{Text as SharedText}
 use Rattle.space_map.specs.Space.{Places}
 use Rattle.vm_facts.specs.declared.page.Page.{Page}
 use Rattle.page_model.specs.Placement.{Placement, state_of}
-use Rattle.page_laws.proofs.Ownership.Spaces.{reshaped_owner}
+use Rattle.kernel_laws.proofs.Spaces.{reshaped_owner}
 use Rattle.kernel_tables.specs.declared.fill.DueFill.{DueFill}
 use Rattle.kernel_tables.specs.declared.tables.Tables.{Tables}
 use Rattle.kernel_tables.specs.Due.{AreWhole, DueOnce}

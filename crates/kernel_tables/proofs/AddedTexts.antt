@@ -14,7 +14,7 @@ use Rattle.space_map.specs.Space.{Places, place_in, with_place}
 use Rattle.core_map.specs.declared.slot.Slot.{Slot as Token}
 use Rattle.page_model.specs.Pages.{Slot, frame_of}
 use Rattle.page_model.specs.Placement.{state_of}
-use Rattle.page_laws.proofs.Moves.Steps.{frame_in}
+use Rattle.kernel_laws.proofs.PageLawsMovesSteps.{frame_in}
 use Rattle.table_view.specs.Shown.{is_away, idle_state, state_shown}
 use Rattle.kernel_tables.specs.View.{Lists, text_place, pages_in, placement_of}
 use Rattle.kernel_tables.specs.Alike.{facts_in}

@@ -19,8 +19,8 @@ use Rattle.flat_state.specs.Numbers.{IsAbsent, AllDistinct, AllBelow}
 use Rattle.page_model.specs.Pages.{Slot, SpacePages}
 use Rattle.page_model.specs.Placement.{Placement, Due, sharers, sharers_in}
 use Rattle.page_model.specs.Ownership.{OwnsFrames, TextAside}
-use Rattle.page_laws.proofs.Ownership.Changes.{AllBlank, add_owner}
-use Rattle.page_laws.proofs.Blocks.Changes.{sharers-append, add_aside}
+use Rattle.kernel_laws.proofs.PageLawsOwnershipChanges.{AllBlank, add_owner}
+use Rattle.kernel_laws.proofs.PageLawsBlocksChanges.{sharers-append, add_aside}
 use Rattle.kernel_tables.specs.declared.fill.DueFill.{DueFill}
 use Rattle.kernel_tables.specs.Rising.{sids_of}
 use Rattle.kernel_tables.specs.Shown.{or_else, entry_in, changed_named, slot_shown, space_shown}

@@ -20,11 +20,11 @@ use Rattle.page_model.specs.Moves.{evict, enter, get_one, get_at, join_last}
 use Rattle.page_model.specs.Conditions.{CanEnter, IsShared}
 use Rattle.page_model.specs.Ownership.{is_marked_dirty}
 use Rattle.flat_state.specs.Numbers.{AllDistinct}
-use Rattle.page_laws.proofs.Lists.Frames.{flying-append, without_head}
-use Rattle.page_laws.proofs.Ownership.Pages.{get_owner}
-use Rattle.page_laws.proofs.Lists.Parts.{IsOpen, parts_join}
-use Rattle.page_laws.proofs.Moves.Steps.{EvictRest, evict_rest, frameless_clean}
-use Rattle.page_laws.proofs.Blocks.Steps.{get_aside}
+use Rattle.kernel_laws.proofs.Frames.{flying-append, without_head}
+use Rattle.kernel_laws.proofs.PageLawsOwnershipPages.{get_owner}
+use Rattle.kernel_laws.proofs.Parts.{IsOpen, parts_join}
+use Rattle.kernel_laws.proofs.PageLawsMovesSteps.{EvictRest, evict_rest, frameless_clean}
+use Rattle.kernel_laws.proofs.PageLawsBlocksSteps.{get_aside}
 use Rattle.kernel_tables.specs.Shown.{entry_in}
 use Rattle.table_view.specs.Shown.{is_away, idle_state}
 use Rattle.kernel_tables.specs.View.{Lists, Flown, flown_number, pages_in, flown_at, page_by, page_held, placement_of, frames_of, bytes_held, bytes_by}

@@ -23,7 +23,7 @@ use Rattle.page_model.specs.Ownership.{OwnsFrames, TextAside, IsListed, seated}
 use Rattle.flat_state.specs.Numbers.{AllDistinct}
 use Rattle.vm_facts.proofs.Lists.{times_head}
 use Rattle.std.proofs.lemmas.Option.{same_Some}
-use Rattle.page_laws.proofs.Moves.Steps.{page_in}
+use Rattle.kernel_laws.proofs.PageLawsMovesSteps.{page_in}
 use Rattle.kernel_tables.specs.Shown.{slot_shown, text_shown, entry_in, placed}
 use Rattle.kernel_tables.specs.Found.{cached_by, frame_holding}
 use Rattle.kernel_tables.specs.View.{Lists, Flown, flown_number, pages_in, text_place_by, text_place, text_slot, flown_at, page_by, page_held, placement_of}

@@ -18,10 +18,10 @@ use Rattle.page_model.specs.Moves.{evict, enter, fill, fill_at}
 use Rattle.page_model.specs.Ownership.{OwnsFrames}
 use Rattle.page_model.specs.PageBytes.{IsWritable}
 use Rattle.flat_state.specs.Numbers.{AllDistinct}
-use Rattle.page_laws.proofs.Lists.Frames.{without_head}
-use Rattle.page_laws.proofs.Lists.Local.{none_some}
+use Rattle.kernel_laws.proofs.Frames.{without_head}
+use Rattle.kernel_laws.proofs.Local.{none_some}
 use Rattle.std.proofs.lemmas.Option.{same_Some}
-use Rattle.page_laws.proofs.Moves.Steps.{EvictRest, evict_rest, evict_owner, evict_page}
+use Rattle.kernel_laws.proofs.PageLawsMovesSteps.{EvictRest, evict_rest, evict_owner, evict_page}
 use Rattle.kernel_tables.specs.Shown.{entry_in}
 use Rattle.kernel_tables.specs.View.{Lists, flown_at, page_by, bytes_by, page_held, bytes_held, placement_of, frames_of}
 use Rattle.kernel_tables.specs.Steps.{evicted, taken, seated}

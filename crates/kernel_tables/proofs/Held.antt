@@ -17,7 +17,7 @@ use Rattle.page_model.specs.Frames.{at_frame}
 use Rattle.vm_facts.specs.Lists.{times}
 use Rattle.page_model.specs.Pages.{SpacePages, TextPages}
 use Rattle.page_model.specs.Placement.{Placement, Transfer, Errand, Residence, Due, Writes, Reads, moving, parts_of, flying, page_of}
-use Rattle.page_laws.proofs.Lists.Frames.{flying-append}
+use Rattle.kernel_laws.proofs.Frames.{flying-append}
 use Rattle.vm_facts.proofs.Lists.{times_other}
 use Rattle.kernel_tables.specs.View.{Lists, Flown, flown_number, inbound_flown, outbound_flown, in_part, out_part, source_shown, transfer_shown, flown, flown_in, flown_at, page_held, bytes_held, placement_of, frames_of}
 

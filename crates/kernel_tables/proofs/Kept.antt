@@ -12,7 +12,7 @@ use Rattle.page_model.specs.Placement.{Due, Start, due_page, due_at, sharers_in}
 use Rattle.page_model.specs.Place.{due_after}
 use Rattle.page_model.specs.Dues.{NotDue}
 use Rattle.page_model.specs.Conditions.{EachPage}
-use Rattle.page_laws.proofs.Lists.Pages.{page_cases}
+use Rattle.kernel_laws.proofs.PageLawsListsPages.{page_cases}
 use Rattle.flat_state.proofs.PageNames.{same_page_is, same_page_self}
 use Rattle.kernel_tables.specs.declared.fill.DueFill.{DueFill}
 use Rattle.kernel_tables.specs.declared.fill.DueFill.TheVariants as fills

@@ -8,7 +8,7 @@ use Rattle.vm_facts.specs.declared.entry.Entry.TheVariants as entries
 use Rattle.frame_state.specs.Frame.{Frame}
 use Rattle.core_map.specs.Slots.{slot_at, page_of as token_page}
 use Rattle.core_map.specs.declared.slot.Slot.TheVariants as tokens
-use Rattle.swap_book.specs.Holdings.{Holdings}
+use Rattle.page_model.specs.Holdings.{Holdings}
 use Rattle.page_model.specs.Pages.{frame_of}
 use Rattle.page_model.specs.Placement.{Placement, IsThere, state_of}
 use Rattle.page_model.specs.Conditions.{IsShared}

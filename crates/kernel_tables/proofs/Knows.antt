@@ -9,8 +9,8 @@ use Rattle.core_map.specs.declared.slot.Slot.TheVariants as tokens
 use Rattle.core_map.specs.Slots.{slot_at, page_of as token_page}
 use Rattle.page_model.specs.Pages.{frame_of}
 use Rattle.page_model.specs.Placement.{state_of, IsThere}
-use Rattle.page_laws.proofs.Lists.Local.{none_some}
-use Rattle.page_laws.proofs.Moves.Steps.{page_in}
+use Rattle.kernel_laws.proofs.Local.{none_some}
+use Rattle.kernel_laws.proofs.PageLawsMovesSteps.{page_in}
 use Rattle.kernel_tables.specs.View.{Lists, pages_in, flown_at, page_by, placement_of}
 use Rattle.kernel_tables.specs.Steps.{AreTextsHere}
 use Rattle.kernel_tables.proofs.Shows.{text_within, pages_low}

@@ -1,3 +1,24 @@
+pub use Rattle.kernel_laws.proofs.Flat.Lists
+pub use Rattle.kernel_laws.proofs.Flat.Numbered
+pub use Rattle.kernel_laws.proofs.Kept.Begins as KernelLawsKeptBegins
+pub use Rattle.kernel_laws.proofs.Kept.Changes as KernelLawsKeptChanges
+pub use Rattle.kernel_laws.proofs.Machine.Done
+pub use Rattle.kernel_laws.proofs.Machine.Moves
+pub use Rattle.kernel_laws.proofs.Machine.Processes as KernelLawsMachineProcesses
+pub use Rattle.kernel_laws.proofs.Machine.Ready
+pub use Rattle.kernel_laws.proofs.Machine.Shapes
+pub use Rattle.kernel_laws.proofs.Machine.Swaps
+pub use Rattle.kernel_laws.proofs.Machine.Tables as KernelLawsMachineTables
+pub use Rattle.kernel_laws.proofs.Machine.Takes
+pub use Rattle.kernel_laws.proofs.Pieces.Found
+pub use Rattle.kernel_laws.proofs.Pieces.GivenBack
+pub use Rattle.kernel_laws.proofs.Pieces.Starts as KernelLawsPiecesStarts
+pub use Rattle.kernel_laws.proofs.Pieces.Wanted
+pub use Rattle.kernel_laws.proofs.Sound.Allowed as KernelLawsSoundAllowed
+pub use Rattle.kernel_laws.proofs.Sound.Begins as KernelLawsSoundBegins
+pub use Rattle.kernel_laws.proofs.Sound.Changes as KernelLawsSoundChanges
+pub use Rattle.kernel_laws.proofs.Sound.NumbersApart
+pub use Rattle.kernel_laws.proofs.Sound.Steps as KernelLawsSoundSteps
 pub mod Entries
 pub mod Likes
 pub mod Same

@@ -7,9 +7,9 @@ use Rattle.vax_pte.specs.declared.Place.TheVariants as places
 use Rattle.aout_image.specs.declared.Image.{Image}
 use Rattle.space_map.specs.Space.{Places, place_in}
 use Rattle.text_table.specs.Texts.{is_saved, text_of, Text as SharedText}
-use Rattle.page_laws.proofs.Lists.Local.{none_some}
+use Rattle.kernel_laws.proofs.Local.{none_some}
 use Rattle.std.proofs.lemmas.Option.{same_Some}
-use Rattle.page_laws.proofs.Lists.Pages.{page_cases}
+use Rattle.kernel_laws.proofs.PageLawsListsPages.{page_cases}
 use Rattle.kernel_tables.specs.Shown.{entry_in, placed, placed_by}
 use Rattle.kernel_tables.specs.Alike.{EachSpace, IsLikeFirst, AreAlike, IsFilledAt, IsFilled, facts_in}
 use Rattle.kernel_tables.specs.Steps.{left_text, left_place, evicted}

@@ -11,7 +11,7 @@ use Rattle.proc_table.specs.declared.process.Life.TheVariants as lives
 use Rattle.proc_table.specs.Records.{find, Changes, ArePidsApart}
 use Rattle.page_model.specs.Pages.{numbered}
 use Rattle.page_model.specs.Placement.{Residence}
-use Rattle.page_laws.proofs.Lists.Local.{none_some}
+use Rattle.kernel_laws.proofs.Local.{none_some}
 use Rattle.kernel_model.specs.Kernel.{Proc}
 use Rattle.kernel_model.specs.ChangeStep.{without_proc}
 use Rattle.kernel_model.specs.Unit.{lends_life, has_lender}

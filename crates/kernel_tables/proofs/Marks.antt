@@ -16,7 +16,7 @@ use Rattle.text_table.specs.Texts.{is_saved, text_of, Text as SharedText}
 use Rattle.page_model.specs.Pages.{frame_of}
 use Rattle.page_model.specs.Placement.{state_of}
 use Rattle.page_model.specs.PageBytes.{IsWritable}
-use Rattle.page_laws.proofs.Lists.Local.{none_some}
+use Rattle.kernel_laws.proofs.Local.{none_some}
 use Rattle.kernel_tables.specs.Shown.{entry_in, placed, changed_named}
 use Rattle.kernel_tables.specs.Steps.{left_place, evicted, taken, revived, dirty_shown, AreTextsHere}
 use Rattle.kernel_tables.specs.Marked.{AreMarked}

@@ -14,7 +14,7 @@ use Rattle.proc_table.specs.Records.{find, Changes}
 use Rattle.page_model.specs.Pages.{changed, numbered}
 use Rattle.page_model.specs.Placement.{Residence}
 use Rattle.page_model.specs.Swapper as swapper
-use Rattle.page_laws.proofs.Lists.Local.{none_some}
+use Rattle.kernel_laws.proofs.Local.{none_some}
 use Rattle.kernel_model.specs.Kernel.{Proc, with_regs}
 use Rattle.kernel_tables.specs.Machine.{proc_shown, proc_of, processes_of, residence_by, residence_of, residents_of}
 use Rattle.kernel_tables.specs.Alike.{AreRecords}

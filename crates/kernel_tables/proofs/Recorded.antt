@@ -6,7 +6,7 @@ use Rattle.std.proofs.lemmas.Option.{same_Some}
 use Rattle.vm_facts.specs.declared.regs.Regs.{Regs}
 use Rattle.proc_table.specs.declared.process.Proc.{Proc as Record}
 use Rattle.proc_table.specs.Records.{find, Changes, IsTable}
-use Rattle.page_laws.proofs.Lists.Local.{none_some}
+use Rattle.kernel_laws.proofs.Local.{none_some}
 use Rattle.kernel_tables.specs.Alike.{lends_to_by, lends_to, is_borrower_in, HoldsBorrowed, AreRecords}
 use Rattle.kernel_tables.specs.Families.{IsAlone}
 use Rattle.kernel_tables.proofs.Records.{any_found, found_any, both_or_neither}

@@ -9,8 +9,8 @@ use Rattle.vax_pte.specs.declared.Place.{Place}
 use Rattle.core_map.specs.declared.slot.Slot.{Slot as Token}
 use Rattle.space_map.specs.Space.{Places, place_in}
 use Rattle.flat_state.specs.Numbers.{IsAbsent, AllDistinct}
-use Rattle.page_laws.proofs.Lists.Pages.{numbered_hit, numbered_miss}
-use Rattle.page_laws.proofs.Blocks.Changes.{rest_of}
+use Rattle.kernel_laws.proofs.PageLawsListsPages.{numbered_hit, numbered_miss}
+use Rattle.kernel_laws.proofs.PageLawsBlocksChanges.{rest_of}
 use Rattle.page_model.specs.Pages.{SpacePages, numbered}
 use Rattle.page_model.specs.Placement.{sharers_in}
 use Rattle.kernel_tables.specs.Shown.{space_shown, or_else, entry_in}

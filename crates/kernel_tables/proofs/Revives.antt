@@ -9,7 +9,7 @@ use Rattle.core_map.specs.declared.slot.Whose.TheVariants as owners
 use Rattle.core_map.specs.Slots.{slot_at, page_of, is_free, token_of, with_dirty, owner_of, listings}
 use Rattle.vm_facts.specs.Lists.{times, without}
 use Rattle.core_map.specs.Frames.{IsSound}
-use Rattle.page_laws.proofs.Lists.Local.{none_some}
+use Rattle.kernel_laws.proofs.Local.{none_some}
 use Rattle.vm_facts.proofs.Lists.{without_absent}
 use Rattle.kernel_tables.specs.Steps.{revived}
 use Rattle.kernel_tables.proofs.Held.{below_length}

@@ -20,7 +20,7 @@ use Rattle.page_model.specs.Frames.{set_frame}
 use Rattle.page_model.specs.Pages.{Slot, Zeros, no_slot, SpacePages, TextPages, numbered, changed, with_data, with_stack, with_text, data_in, stack_in, text_in, frame_of, filling_behind}
 use Rattle.page_model.specs.Placement.{Placement, space_number, image_number, slots_of, slot_of, state_of, IsThere, put}
 use Rattle.flat_state.specs.Numbers.{IsAbsent, AllDistinct}
-use Rattle.page_laws.proofs.Lists.Pages.{page_cases, put_same, put_other, put_length}
+use Rattle.kernel_laws.proofs.PageLawsListsPages.{page_cases, put_same, put_other, put_length}
 use Rattle.kernel_tables.specs.Shown.{slot_shown, text_shown, space_shown, or_else, entry_in}
 use Rattle.table_view.specs.Shown.{is_away, idle_state, state_shown}
 use Rattle.kernel_tables.specs.Found.{cached_by, frame_holding}

@@ -9,8 +9,8 @@ use Rattle.vm_facts.specs.declared.page.Page.{Page}
 use Rattle.vm_facts.specs.declared.page.Page.TheVariants.{Data, Stack, Text}
 use Rattle.core_map.specs.declared.slot.Slot.{Slot as Token}
 use Rattle.space_map.specs.Space.{Places}
-use Rattle.swap_book.specs.Holdings.{Holdings}
-use Rattle.swap_book.specs.Book.{Book}
+use Rattle.page_model.specs.Holdings.{Holdings}
+use Rattle.page_model.specs.Book.{Book}
 use Rattle.transfer_ring.specs.declared.transfer.Inbound.{Inbound}
 use Rattle.transfer_ring.specs.declared.transfer.Source.{Source as From}
 use Rattle.transfer_ring.specs.declared.transfer.Source.TheVariants as froms

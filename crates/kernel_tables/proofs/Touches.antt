@@ -20,9 +20,9 @@ use Rattle.page_model.specs.Placement.{Placement, state_of, page_of, IsThere, pa
 use Rattle.page_model.specs.Moves.{touch, touch_to, turn}
 use Rattle.page_model.specs.Ownership.{seats}
 use Rattle.page_model.specs.PageBytes.{IsWritable}
-use Rattle.page_laws.proofs.Lists.Local.{none_some}
+use Rattle.kernel_laws.proofs.Local.{none_some}
 use Rattle.std.proofs.lemmas.Option.{same_Some}
-use Rattle.page_laws.proofs.Moves.Steps.{page_in, once_at}
+use Rattle.kernel_laws.proofs.PageLawsMovesSteps.{page_in, once_at}
 use Rattle.kernel_tables.specs.Shown.{entry_in, placed}
 use Rattle.kernel_tables.specs.View.{Lists, Flown, flown_number, flown_at, page_by, bytes_by, page_held, bytes_held, placement_of, frames_of}
 use Rattle.kernel_tables.specs.Known.{Known}
@@ -50,7 +50,7 @@ in_frame t q f k e = go (slot_at t.slots f) refl
     once = subst (λ (s : PageState). times f t.free + times f (flying (parts_of t.transfers)) + seats (times f t.free) s ≡ 1) e (once_at (placement_of t) q f k.owns (ap frame_of e))
 
     there : (0 < f) × (f ≤ length (placement_of t).holds)
-    there = Rattle.page_laws.proofs.Moves.Steps.frame_in (placement_of t) q f holds
+    there = Rattle.kernel_laws.proofs.PageLawsMovesSteps.frame_in (placement_of t) q f holds
 
     below : f < length t.slots
     below = let a = there.1 in let b = Rattle.kernel_tables.proofs.Held.holds_length t in let c = there.0 in omega arith

@@ -20,7 +20,7 @@ use Rattle.kernel_model.specs.Sound.{Sound}
 use Rattle.kernel_model.specs.Numbers.{Numbered}
 use Rattle.kernel_laws.proofs.Sound.Steps.{write_sound}
 use Rattle.kernel_laws.proofs.Sound.NumbersApart.{write_numbered}
-use Rattle.page_laws.proofs.Due.Changes.{touch_due}
+use Rattle.kernel_laws.proofs.PageLawsDueChanges.{touch_due}
 use Rattle.kernel_tables.specs.declared.tables.Tables.{Tables}
 use Rattle.kernel_tables.specs.Shown.{slot_shown, entry_in, placed}
 use Rattle.table_view.specs.Shown.{is_away, idle_state, state_shown}
@@ -28,7 +28,7 @@ use Rattle.kernel_tables.specs.View.{Lists, placement_of, frames_of}
 use Rattle.kernel_tables.specs.Known.{Known}
 use Rattle.kernel_tables.specs.Moves.{WroteByte}
 use Rattle.kernel_tables.specs.Machine.{Runs, Stands, lists_of, kernel_by, before_of, images_of, image_at}
-use Rattle.swap_book.specs.Holdings.{Holdings}
+use Rattle.page_model.specs.Holdings.{Holdings}
 use Rattle.kernel_tables.proofs.Stills.{images_heads, sourced_still}
 use Rattle.kernel_tables.proofs.Entries.{head_of, placed_heads}
 use Rattle.kernel_tables.proofs.Shows.{slot_or, data_shown, stack_shown}
@@ -39,7 +39,7 @@ use Rattle.kernel_tables.proofs.Touches.{InFrame, in_frame, written, write_place
 use Rattle.kernel_tables.proofs.Marks.{dirty_place, marks_placed, marks_here, alone_in, set_resident, resident_page, resident_mark}
 use Rattle.kernel_tables.proofs.Knows.{texts_here}
 use Rattle.kernel_tables.proofs.Comes.{shared_entry}
-use Rattle.page_laws.proofs.Moves.Steps.{page_in}
+use Rattle.kernel_laws.proofs.PageLawsMovesSteps.{page_in}
 
 idle_invalid : (g f : ℕ) (a c : Bool) → idle_state g a c ≡ Valid f → ⊥
 idle_invalid g f false c e = cc

@@ -5,7 +5,7 @@ use Rattle.vm_facts.specs.declared.regs.Regs.{Regs}
 use Rattle.vm_facts.specs.declared.entry.Entry.{Entry}
 use Rattle.vm_facts.specs.declared.entry.Entry.TheVariants as entries
 use Rattle.aout_image.specs.declared.Image.{Image}
-use Rattle.swap_book.specs.Placing.{place_all}
+use Rattle.page_model.specs.Placing.{place_all}
 use Rattle.flat_state.specs.Flat.{NamedImage}
 use Rattle.flat_state.specs.Change.{apply_change}
 use Rattle.flat_state.specs.declared.change.Change.{Change}

@@ -3,10 +3,10 @@ use Rattle.std.specs.Prelude.{◌≡◌, ℕ, ◌+◌, ◌*◌, ◌==◌, false,
 use Rattle.vm_facts.specs.declared.page.Page.{Page}
 use Rattle.vm_facts.specs.declared.page.Page.TheVariants.{Stack}
 use Rattle.aout_image.specs.declared.Image.{Image}
-use Rattle.swap_dmap.specs.Chunks.{pieces}
-use Rattle.swap_book.specs.declared.Owner.TheVariants as owners
-use Rattle.swap_book.specs.Holdings.{kept}
-use Rattle.swap_book.specs.Book.{with_holdings}
+use Rattle.kernel_laws.specs.Chunks.{pieces}
+use Rattle.page_model.specs.Owner.TheVariants as owners
+use Rattle.page_model.specs.Holdings.{kept}
+use Rattle.page_model.specs.Book.{with_holdings}
 use Rattle.page_model.specs.Placement.{Placement, Residence, Start, new_pages, sharers}
 use Rattle.page_model.specs.Moves.{drop_all}
 use Rattle.page_model.specs.Place.{resize, fork_space, give_up}

@@ -3,8 +3,8 @@ use Rattle.std.specs.Prelude.{◌≡◌, ◌⊎◌, ◌↔◌, ℕ, ◌<◌, ◌
 use Rattle.flat_state.specs.Flat.{FlatState, NamedImage}
 use Rattle.vm_facts.specs.declared.stop.Stop.{Stop}
 use Rattle.vm_facts.specs.declared.stop.Stop.TheVariants as stops
-use Rattle.io_edge.specs.Count.{Rose}
-use Rattle.io_edge.specs.FileHolding.{NamedFile}
+use Rattle.transfer_ring.specs.Count.{Rose}
+use Rattle.transfer_ring.specs.FileHolding.{NamedFile}
 use Rattle.page_model.specs.Placement.{Transfer, Part, Source, FromSwap, FromFile, Errand, Writes, Reads}
 use Rattle.page_model.specs.Ownership.{block_of}
 use Rattle.kernel_model.specs.Kernel.{Kernel, done_step, image_after, frame_bytes}

@@ -1,7 +1,7 @@
 -- The files of the images.
 use Rattle.std.specs.Prelude.{◌≡◌, ◌<◌, ◌≤◌, List, [], ◌∷◌, length, Option, Some, None}
 use Rattle.aout_image.specs.Image.{file_length_of, loaded}
-use Rattle.io_edge.specs.FileHolding.{NamedFile, bytes_at}
+use Rattle.transfer_ring.specs.FileHolding.{NamedFile, bytes_at}
 use Rattle.flat_state.specs.Flat.{NamedImage}
 use Rattle.kernel_tables.specs.Sourced.{ImageNamed}
 

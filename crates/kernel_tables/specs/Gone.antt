@@ -8,9 +8,9 @@ use Rattle.core_map.specs.declared.slot.Slot.TheVariants as tokens
 use Rattle.core_map.specs.Slots.{slot_at}
 use Rattle.core_map.specs.Frames.{Frames}
 use Rattle.space_map.specs.Space.{Places}
-use Rattle.swap_book.specs.declared.Owner.TheVariants as owners
-use Rattle.swap_book.specs.Holdings.{Holdings, kept}
-use Rattle.swap_book.specs.Book.{with_holdings}
+use Rattle.page_model.specs.Owner.TheVariants as owners
+use Rattle.page_model.specs.Holdings.{Holdings, kept}
+use Rattle.page_model.specs.Book.{with_holdings}
 use Rattle.text_table.specs.Texts.{text_of, with_text, left}
 use Rattle.page_model.specs.Pages.{numbered}
 use Rattle.kernel_tables.specs.declared.tables.Tables.{Tables}

@@ -8,7 +8,7 @@ use Rattle.core_map.specs.declared.slot.Slot.{Slot as Token}
 use Rattle.core_map.specs.declared.slot.Slot.TheVariants as tokens
 use Rattle.core_map.specs.Slots.{slot_at, token_of}
 use Rattle.space_map.specs.Space.{Places}
-use Rattle.swap_book.specs.Holdings.{Holdings}
+use Rattle.page_model.specs.Holdings.{Holdings}
 use Rattle.transfer_ring.specs.declared.transfer.Outbound.{Outbound}
 use Rattle.transfer_ring.specs.declared.transfer.Transfer.{Transfer as Flight}
 use Rattle.transfer_ring.specs.declared.transfer.Transfer.TheVariants as flights

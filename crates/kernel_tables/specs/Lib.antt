@@ -1,3 +1,8 @@
+pub use Rattle.proc_table.specs.Records
+pub use Rattle.proc_table.specs.declared.process.Life
+pub use Rattle.proc_table.specs.declared.process.Proc
+pub use Rattle.table_view.specs.Shown as TableViewShown
+pub use Rattle.table_view.specs.Views
 pub mod Shown
 pub mod Rising
 pub mod Found

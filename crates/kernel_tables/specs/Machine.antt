@@ -7,8 +7,8 @@ use Rattle.proc_table.specs.declared.process.Proc.{Proc as Record}
 use Rattle.proc_table.specs.declared.process.Life.{Life as RecordLife}
 use Rattle.proc_table.specs.declared.process.Life.TheVariants as lives
 use Rattle.proc_table.specs.Records.{find}
-use Rattle.swap_book.specs.Holdings.{Holdings}
-use Rattle.swap_book.specs.Placing.{Wanted, place_all}
+use Rattle.page_model.specs.Holdings.{Holdings}
+use Rattle.page_model.specs.Placing.{Wanted, place_all}
 use Rattle.page_model.specs.Placement.{Residence, image_of}
 use Rattle.kernel_model.specs.Kernel.{Life, New, HoldsSpace, LendsSpace, Ended, Proc, Kernel}
 use Rattle.kernel_model.specs.Sound.{Sound}

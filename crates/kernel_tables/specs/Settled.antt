@@ -1,7 +1,7 @@
 -- Transfers that end one after another until a space is settled.
 use Rattle.std.specs.Prelude.{◌≡◌, ℕ, zero, suc, ◌==◌, true, false, cond, List, [], ◌∷◌, Option, Some, None}
 use Rattle.vm_facts.specs.declared.stop.Stop.{Stop}
-use Rattle.io_edge.specs.FileHolding.{NamedFile}
+use Rattle.transfer_ring.specs.FileHolding.{NamedFile}
 use Rattle.space_map.specs.Space.{Places}
 use Rattle.page_model.specs.Swapper.{is_settled}
 use Rattle.kernel_model.specs.Kernel.{Kernel}

@@ -4,7 +4,7 @@ use Rattle.vm_facts.specs.declared.page.Page.{Page}
 use Rattle.vm_facts.specs.declared.page.Page.TheVariants.{Data, Stack, Text}
 use Rattle.aout_image.specs.declared.Image.{Image}
 use Rattle.aout_image.specs.Image.{IsSound, pages_of, offset_of, given_of}
-use Rattle.swap_book.specs.Holdings.{Holdings}
+use Rattle.page_model.specs.Holdings.{Holdings}
 use Rattle.transfer_ring.specs.declared.transfer.Inbound.{Inbound}
 use Rattle.transfer_ring.specs.declared.transfer.Outbound.{Outbound}
 use Rattle.transfer_ring.specs.declared.transfer.Transfer.{Transfer as Flight}

@@ -14,6 +14,7 @@ mod u_pages;
 
 pub use fill::{DueFill, fill_frame};
 pub use named::Named;
+pub use proc_table;
 pub use processes::record_of;
 pub use spaces::Spaces;
 pub use tables::{Tables, beside, number_of, owner_of};

@@ -20,9 +20,9 @@ use Rattle.page_model.specs.Pages.{SpacePages, numbered, data_in, stack_in, fram
 use Rattle.page_model.specs.Placement.{Placement, Source, Errand, Writes, Reads, Moving, moving, moving_state, parts_of, space_number, slots_of, state_of}
 use Rattle.page_model.specs.Conditions.{IsNew}
 use Rattle.page_model.specs.Ownership.{owner_of, block_of, Each, IsMoving}
-use Rattle.page_laws.proofs.Moves.Steps.{page_in, frame_of_moving}
-use Rattle.kernel_tables.specs.Sourced.{ImageNamed, named_at, IsRangeOf, IsSourced, AreSourcedIn, AreOwnBlocks, IsFlightSourced, AreSourced}
-use Rattle.kernel_tables.specs.View.{source_shown, in_part, out_part, transfer_shown}
+use Rattle.table_steps.proofs.PageLawsMovesSteps.{page_in, frame_of_moving}
+use Rattle.table_steps.specs.Sourced.{ImageNamed, named_at, IsRangeOf, IsSourced, AreSourcedIn, AreOwnBlocks, IsFlightSourced, AreSourced}
+use Rattle.table_steps.specs.View.{source_shown, in_part, out_part, transfer_shown}
 
 -- a page keeps its block where pieces are found behind those that are held
 pub block_still : (size : ℕ) (hs now : Holdings) (ws : List Wanted) (q : Page) (block : ℕ) → place_all size hs ws ≡ Ok now → block_of hs q ≡ Some block → block_of now q ≡ Some block

@@ -10,11 +10,11 @@ use Rattle.swap_book.specs.Book.{Book, with_holdings, grown_book}
 use Rattle.swap_book.proofs.GrowthLaws.{Added, place_all_adds}
 use Rattle.kernel_model.specs.Kernel.{Kernel}
 use Rattle.machine_state.specs.declared.pieces.Want.{Want}
-use Rattle.kernel_tables.specs.declared.tables.Tables.{Tables}
+use Rattle.table_steps.specs.Tables.{Tables}
 use Rattle.machine_state.specs.declared.machine.Machine.TheInside.{Inside}
 use Rattle.machine_state.specs.Wants.{found_for, fits_for, book_asked}
-use Rattle.kernel_tables.specs.Sourced.{AreSourced}
-use Rattle.kernel_tables.specs.Machine.{Standing, Runs, lists_of, kernel_by, images_of, image_at, before_of}
+use Rattle.table_steps.specs.Sourced.{AreSourced}
+use Rattle.table_steps.specs.Machine.{Standing, Runs, lists_of, kernel_by, images_of, image_at, before_of}
 use Rattle.machine_state.specs.Fields.{standing_of, RunsNow, RunsInside}
 use Rattle.machine_state.proofs.Standings.{stands_now, whole_now}
 

@@ -8,10 +8,10 @@ use Rattle.proc_table.specs.declared.process.Proc.{Proc as Record}
 use Rattle.proc_table.specs.Records.{find, Lowest}
 use Rattle.page_model.specs.Placement.{Residence}
 use Rattle.page_model.specs.Swapper as swapper
-use Rattle.kernel_tables.specs.Alike.{AreRecords}
-use Rattle.kernel_tables.specs.Machine.{residence_of}
-use Rattle.kernel_tables.proofs.Records.{keeps_none, keeps_some}
-use Rattle.kernel_tables.proofs.MovedRecords.{found_residence}
+use Rattle.table_steps.specs.Alike.{AreRecords}
+use Rattle.table_steps.specs.Machine.{residence_of}
+use Rattle.table_steps.proofs.Records.{keeps_none, keeps_some}
+use Rattle.table_steps.proofs.MovedRecords.{found_residence}
 
 -- the list from a number on
 abbrev pub over : {A : Type 0} → (ℕ → Option A) → ℕ → ℕ → List A

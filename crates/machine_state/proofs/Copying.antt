@@ -24,29 +24,29 @@ use Rattle.kernel_model.specs.Sound.{Sound}
 use Rattle.kernel_model.specs.Numbers.{Numbered}
 use Rattle.kernel_model.specs.Coupled.{beside_kernel}
 use Rattle.flat_state.proofs.PageNames.{same_page_self}
-use Rattle.page_laws.proofs.Due.Entries.{entry_due}
-use Rattle.page_laws.proofs.Bytes.Others.{filled_same}
-use Rattle.kernel_laws.proofs.Sound.Steps.{copy_sound}
-use Rattle.kernel_laws.proofs.Sound.NumbersApart.{copy_numbered}
-use Rattle.kernel_laws.proofs.Machine.Moves.{copy_coupled}
-use Rattle.kernel_tables.specs.declared.tables.Tables.{Tables}
+use Rattle.table_steps.proofs.PageLawsDueEntries.{entry_due}
+use Rattle.table_steps.proofs.Others.{filled_same}
+use Rattle.table_steps.proofs.KernelLawsSoundSteps.{copy_sound}
+use Rattle.table_steps.proofs.NumbersApart.{copy_numbered}
+use Rattle.table_steps.proofs.Moves.{copy_coupled}
+use Rattle.table_steps.specs.Tables.{Tables}
 use Rattle.machine_state.specs.declared.machine.Machine.TheInside.{Inside}
-use Rattle.kernel_tables.specs.declared.fill.DueFill.{DueFill}
-use Rattle.kernel_tables.specs.declared.fill.DueFill.TheVariants as fills
-use Rattle.kernel_tables.specs.View.{Lists, flown_at, bytes_by, due_shown, starts_of, placement_of, frames_of}
-use Rattle.kernel_tables.specs.Due.{DueOnce}
-use Rattle.kernel_tables.specs.Steps.{taken, seated}
-use Rattle.kernel_tables.specs.Moves.{TookFrame, SeatedPage, FinishedFill}
-use Rattle.kernel_tables.specs.Machine.{Runs, lists_of, kernel_by}
-use Rattle.kernel_tables.specs.Known.{Known}
-use Rattle.kernel_tables.specs.Calls.{CanCopy}
-use Rattle.kernel_tables.specs.Conditions.{KeepsFlat, SameElsewhere}
-use Rattle.kernel_tables.proofs.Evicts.{Head}
-use Rattle.kernel_tables.proofs.Fills.{Took, took_is, fill_is, seat_frames}
-use Rattle.kernel_tables.proofs.Held.{bytes_at}
-use Rattle.kernel_tables.proofs.Zeros.{zeroed, took_lists, seated_lists, finished_lists}
-use Rattle.kernel_tables.proofs.Kernels.{kernel_ext, writable_shared, zeroed_ties}
-use Rattle.kernel_tables.proofs.Kept.{Ties, tied_still, none_due}
+use Rattle.table_steps.specs.DueFill.{DueFill}
+use Rattle.table_steps.specs.DueFill.TheVariants as fills
+use Rattle.table_steps.specs.View.{Lists, flown_at, bytes_by, due_shown, starts_of, placement_of, frames_of}
+use Rattle.table_steps.specs.Due.{DueOnce}
+use Rattle.table_steps.specs.Steps.{taken, seated}
+use Rattle.table_steps.specs.Moves.{TookFrame, SeatedPage, FinishedFill}
+use Rattle.table_steps.specs.Machine.{Runs, lists_of, kernel_by}
+use Rattle.table_steps.specs.Known.{Known}
+use Rattle.table_steps.specs.Calls.{CanCopy}
+use Rattle.table_steps.specs.Conditions.{KeepsFlat, SameElsewhere}
+use Rattle.table_steps.proofs.Evicts.{Head}
+use Rattle.table_steps.proofs.Fills.{Took, took_is, fill_is, seat_frames}
+use Rattle.table_steps.proofs.Held.{bytes_at}
+use Rattle.table_steps.proofs.Zeros.{zeroed, took_lists, seated_lists, finished_lists}
+use Rattle.table_steps.proofs.Kernels.{kernel_ext, writable_shared, zeroed_ties}
+use Rattle.table_steps.proofs.Kept.{Ties, tied_still, none_due}
 use Rattle.table_steps.proofs.Residing.{Resides, seat_resides}
 
 -- What is due.
@@ -143,7 +143,7 @@ copy_kernel t u v w token copy q parent f others journal stopped z =
     kernel_ext (kernel_by w (journal ++ entries.Copy q ∷ []) stopped) (copy_step (kernel_by t journal stopped) q)
     (copy_place t u v w token copy q parent f others z)
     (ap (λ (x : Tables). x.book.holdings) rest)
-    (ap (λ (x : Tables). Rattle.kernel_tables.specs.Machine.processes_of x.processes x.next_pid) rest)
+    (ap (λ (x : Tables). Rattle.table_steps.specs.Machine.processes_of x.processes x.next_pid) rest)
     (ap (λ (x : Tables). x.next_pid) rest)
     (ap (λ (x : Tables). x.next_sid) rest)
     (ap (λ (x : Lists). starts_of x.fills) (copying_lists t u v w token copy q parent f others z) ∙ starts_next t.fills.items q parent others z.due)

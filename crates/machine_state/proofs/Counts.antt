@@ -5,8 +5,8 @@ use Rattle.transfer_ring.specs.declared.transfer.Transfer.{Transfer as Flight}
 use Rattle.transfer_ring.specs.declared.transfer.Transfer.TheVariants as flights
 use Rattle.transfer_ring.specs.Counting.{pages_of, pages_of_all}
 use Rattle.page_model.specs.Placement.{moving, parts_of}
-use Rattle.kernel_tables.specs.View.{in_part, out_part, transfer_shown}
-use Rattle.kernel_tables.proofs.Shows.{length_map}
+use Rattle.table_steps.specs.View.{in_part, out_part, transfer_shown}
+use Rattle.table_steps.proofs.Shows.{length_map}
 
 one_count : (t : Flight) → length (map (moving (transfer_shown t).errand) (transfer_shown t).parts) ≡ pages_of t
 one_count (flights.Read demanded parts) = length_map (moving (transfer_shown (flights.Read demanded parts)).errand) (map in_part parts.items) ∙ length_map in_part parts.items

@@ -8,11 +8,11 @@ use Rattle.core_map.specs.declared.slot.Slot.{Slot as Token}
 use Rattle.page_model.specs.Pages.{Slot}
 use Rattle.page_model.specs.Placement.{IsThere, is_dirty}
 use Rattle.flat_state.specs.Numbers.{AllDistinct}
-use Rattle.kernel_tables.specs.Shown.{slot_shown, entry_in, changed_named}
-use Rattle.kernel_tables.specs.Rising.{sids_of}
-use Rattle.kernel_tables.specs.Steps.{dirty_shown}
-use Rattle.kernel_tables.specs.View.{Lists, placement_of}
-use Rattle.kernel_tables.proofs.Shows.{slot_or, data_shown, stack_shown, text_at, text_within}
+use Rattle.table_steps.specs.KernelTablesShown.{slot_shown, entry_in, changed_named}
+use Rattle.table_steps.specs.Rising.{sids_of}
+use Rattle.table_steps.specs.Steps.{dirty_shown}
+use Rattle.table_steps.specs.View.{Lists, placement_of}
+use Rattle.table_steps.proofs.Shows.{slot_or, data_shown, stack_shown, text_at, text_within}
 
 mark_by : (slots : List Token) (o : Option Place) → (slot_or (slot_shown slots) o).mark ≡ changed_named o
 mark_by slots None = refl

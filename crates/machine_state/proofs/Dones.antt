@@ -18,19 +18,19 @@ use Rattle.kernel_model.specs.Kernel.{Kernel, landed, done_step, image_after_of}
 use Rattle.kernel_model.specs.Sound.{Sound, TextFits}
 use Rattle.kernel_model.specs.Coupled.{AreRead, beside_kernel}
 use Rattle.kernel_model.specs.Numbers.{Numbered}
-use Rattle.kernel_laws.proofs.Sound.Steps.{done_sound}
-use Rattle.kernel_laws.proofs.Sound.NumbersApart.{done_numbered}
-use Rattle.page_laws.proofs.Due.Entries.{entry_due}
-use Rattle.kernel_laws.proofs.Machine.Done.{done_coupled_step}
-use Rattle.kernel_tables.specs.declared.tables.Tables.{Tables}
-use Rattle.kernel_tables.specs.View.{Lists, Flown, flown_number, source_shown, in_part, out_part, outbound_flown, transfer_shown, flown_in, flown, placement_of, frames_of}
-use Rattle.kernel_tables.specs.Known.{Known}
-use Rattle.kernel_tables.specs.Sourced.{ImageNamed, IsFlightSourced, AreSourced}
-use Rattle.kernel_tables.specs.Files.{AreFiles, AreImages}
-use Rattle.kernel_tables.specs.Machine.{Runs, lists_of, kernel_by, image_at}
-use Rattle.kernel_tables.specs.Moves.{LandedAll, ending}
-use Rattle.kernel_tables.specs.Done.{ReadsTold, IsWholeFlight, ImageAfter, SpoilsBy, SpoilsAfter, StandsTold}
-use Rattle.kernel_tables.proofs.Kernels.{kernel_ext}
+use Rattle.table_steps.proofs.KernelLawsSoundSteps.{done_sound}
+use Rattle.table_steps.proofs.NumbersApart.{done_numbered}
+use Rattle.table_steps.proofs.PageLawsDueEntries.{entry_due}
+use Rattle.table_steps.proofs.Done.{done_coupled_step}
+use Rattle.table_steps.specs.Tables.{Tables}
+use Rattle.table_steps.specs.View.{Lists, Flown, flown_number, source_shown, in_part, out_part, outbound_flown, transfer_shown, flown_in, flown, placement_of, frames_of}
+use Rattle.table_steps.specs.Known.{Known}
+use Rattle.table_steps.specs.Sourced.{ImageNamed, IsFlightSourced, AreSourced}
+use Rattle.table_steps.specs.Files.{AreFiles, AreImages}
+use Rattle.table_steps.specs.Machine.{Runs, lists_of, kernel_by, image_at}
+use Rattle.table_steps.specs.Moves.{LandedAll, ending}
+use Rattle.table_steps.specs.Done.{ReadsTold, IsWholeFlight, ImageAfter, SpoilsBy, SpoilsAfter, StandsTold}
+use Rattle.table_steps.proofs.Kernels.{kernel_ext}
 use Rattle.machine_state.proofs.Ends.{IsBack, alike, ending_place, ending_known, ending_frames, brought, AreBytes, written_bytes}
 use Rattle.machine_state.proofs.ReadBytes.{pages_read, pages_written, none_written, pages_spoiled, none_spoiled}
 
@@ -79,10 +79,10 @@ done_kernel t w r o n journal stopped d =
     kernel_ext (kernel_by w (journal ++ entries.Done ∷ []) stopped) (done_step (kernel_by t journal stopped) (brought n))
     (done_place t w r o n d)
     (ap (λ (x : Tables). x.book.holdings) rest)
-    (ap (λ (x : Tables). Rattle.kernel_tables.specs.Machine.processes_of x.processes x.next_pid) rest)
+    (ap (λ (x : Tables). Rattle.table_steps.specs.Machine.processes_of x.processes x.next_pid) rest)
     (ap (λ (x : Tables). x.next_pid) rest)
     (ap (λ (x : Tables). x.next_sid) rest)
-    (ap (λ (x : Tables). Rattle.kernel_tables.specs.View.starts_of x.fills.items) rest)
+    (ap (λ (x : Tables). Rattle.table_steps.specs.View.starts_of x.fills.items) rest)
     (done_frames t w r o n d)
     refl
     refl

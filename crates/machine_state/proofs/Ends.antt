@@ -20,14 +20,14 @@ use Rattle.page_model.specs.Placement.{Placement, Transfer, Part, Errand, Writes
 use Rattle.page_model.specs.Ownership.{OwnsFrames, TextAside, Each, IsMoving}
 use Rattle.kernel_model.specs.Kernel.{read_into, landed_by}
 use Rattle.vm_facts.proofs.Lists.{times-append, times_other, times_head}
-use Rattle.page_laws.proofs.Bytes.Others.{each_front}
-use Rattle.kernel_tables.specs.declared.tables.Tables.{Tables}
-use Rattle.kernel_tables.specs.View.{Lists, Flown, flown_number, flown_at, source_of, source_shown, in_part, inbound_flown, outbound_flown, transfer_shown, flown_in, flown, page_by, bytes_by, page_flown, bytes_flown, page_held, bytes_held, placement_of, frames_of}
-use Rattle.kernel_tables.specs.Known.{Known}
-use Rattle.kernel_tables.specs.Moves.{ending}
-use Rattle.kernel_tables.proofs.Shows.{frames_set}
-use Rattle.kernel_tables.proofs.Held.{bytes_at, holds_length, placement_ext}
-use Rattle.kernel_tables.proofs.Evicts.{frames_same}
+use Rattle.table_steps.proofs.Others.{each_front}
+use Rattle.table_steps.specs.Tables.{Tables}
+use Rattle.table_steps.specs.View.{Lists, Flown, flown_number, flown_at, source_of, source_shown, in_part, inbound_flown, outbound_flown, transfer_shown, flown_in, flown, page_by, bytes_by, page_flown, bytes_flown, page_held, bytes_held, placement_of, frames_of}
+use Rattle.table_steps.specs.Known.{Known}
+use Rattle.table_steps.specs.Moves.{ending}
+use Rattle.table_steps.proofs.Shows.{frames_set}
+use Rattle.table_steps.proofs.Held.{bytes_at, holds_length, placement_ext}
+use Rattle.table_steps.proofs.Evicts.{frames_same}
 use Rattle.table_steps.proofs.Flights.{InFlight, in_flight}
 
 hit : (y : Flown) (xs : List Flown) (f : ℕ) → flown_number y ≡ f → flown_at (y ∷ xs) f ≡ Some y

@@ -11,9 +11,9 @@ use Rattle.transfer_ring.specs.declared.transfer.Finished.TheVariants as answers
 use Rattle.transfer_ring.specs.Ending.{EndsOldest}
 use Rattle.transfer_ring.specs.Parts.{IsSwap, IsFile, SomeFrom}
 use Rattle.page_model.specs.Placement.{Source, FromSwap, FromFile}
-use Rattle.kernel_tables.specs.View.{source_of, source_shown, transfer_shown}
-use Rattle.kernel_tables.specs.Sourced.{ImageNamed, AreSourcedIn, AreSourced}
-use Rattle.kernel_tables.specs.Done.{OldestReadsFrom}
+use Rattle.table_steps.specs.View.{source_of, source_shown, transfer_shown}
+use Rattle.table_steps.specs.Sourced.{ImageNamed, AreSourcedIn, AreSourced}
+use Rattle.table_steps.specs.Done.{OldestReadsFrom}
 
 swap_shown : (x : From) → IsSwap x → source_of x ≡ FromSwap
 swap_shown (froms.Swap block) h = refl

@@ -23,19 +23,19 @@ use Rattle.page_model.specs.Ownership.{OwnsBlocks, text_pieces_while, u_blocks}
 use Rattle.kernel_model.specs.Kernel.{Kernel, Proc}
 use Rattle.kernel_model.specs.Sound.{lives, lives_in}
 use Rattle.kernel_model.specs.Asks.{IsUnused, begin_asks}
-use Rattle.kernel_laws.proofs.Flat.Numbered.{absent_none, below_absent}
-use Rattle.kernel_laws.proofs.Sound.Allowed.{new_number}
+use Rattle.table_steps.proofs.Numbered.{absent_none, below_absent}
+use Rattle.table_steps.proofs.KernelLawsSoundAllowed.{new_number}
 use Rattle.flat_state.specs.Numbers.{AllBelow}
-use Rattle.kernel_tables.specs.declared.named.Named.{Named}
-use Rattle.kernel_tables.specs.declared.tables.Tables.{Tables}
+use Rattle.table_steps.specs.Named.{Named}
+use Rattle.table_steps.specs.Tables.{Tables}
 use Rattle.machine_state.specs.declared.machine.Machine.TheInside.{Inside}
-use Rattle.kernel_tables.specs.Sourced.{ImageNamed, named_at}
-use Rattle.kernel_tables.specs.View.{placement_of}
-use Rattle.kernel_tables.specs.Machine.{Standing, Runs, lists_of, kernel_by, images_of, image_shown, before_of}
-use Rattle.kernel_tables.specs.New.{fresh_kernel}
+use Rattle.table_steps.specs.Sourced.{ImageNamed, named_at}
+use Rattle.table_steps.specs.View.{placement_of}
+use Rattle.table_steps.specs.Machine.{Standing, Runs, lists_of, kernel_by, images_of, image_shown, before_of}
+use Rattle.table_steps.specs.New.{fresh_kernel}
 use Rattle.machine_state.specs.Fields.{standing_of, RunsNow, RunsInside}
 use Rattle.machine_state.specs.Beginning.{MayStart, FindsNoPlace, HoldsNone, MayLookFirst, LookedFirst, found_first, MayEnterFirst}
-use Rattle.kernel_tables.proofs.Shows.{sids_shown}
+use Rattle.table_steps.proofs.Shows.{sids_shown}
 use Rattle.machine_state.proofs.Knowing.{known_of}
 use Rattle.machine_state.proofs.Standings.{running, stands_now, whole_now}
 

@@ -12,23 +12,23 @@ use Rattle.transfer_ring.specs.declared.transfer.Transfer.{Transfer as Flight}
 use Rattle.flat_state.specs.Flat.{start_page, start_regs}
 use Rattle.page_model.specs.Placement.{Placement, Residence, image_in, image_of, new_pages}
 use Rattle.page_model.specs.Place.{facts_numbered}
-use Rattle.page_laws.proofs.Ownership.Changes.{added_other}
+use Rattle.table_steps.proofs.PageLawsOwnershipChanges.{added_other}
 use Rattle.kernel_model.specs.Kernel.{Kernel, Proc, HoldsSpace}
 use Rattle.kernel_model.specs.Asks.{begin_asks}
 use Rattle.kernel_model.specs.Start.{begin_place, begin_step}
-use Rattle.kernel_laws.proofs.Sound.NumbersApart.{begin_numbered}
-use Rattle.kernel_laws.proofs.Sound.Begins.{begin_sound}
-use Rattle.kernel_laws.proofs.Kept.Begins.{begins_due}
-use Rattle.kernel_tables.specs.declared.tables.Tables.{Tables}
+use Rattle.table_steps.proofs.NumbersApart.{begin_numbered}
+use Rattle.table_steps.proofs.KernelLawsSoundBegins.{begin_sound}
+use Rattle.table_steps.proofs.KernelLawsKeptBegins.{begins_due}
+use Rattle.table_steps.specs.Tables.{Tables}
 use Rattle.machine_state.specs.declared.machine.Machine.TheInside.{Inside}
-use Rattle.kernel_tables.specs.Tied.{Tied}
-use Rattle.kernel_tables.specs.Sourced.{ImageNamed, AreNames, named_at, AreSourced}
-use Rattle.kernel_tables.specs.View.{Lists, placement_of, frames_of, starts_of}
-use Rattle.kernel_tables.specs.Machine.{Standing, Runs, lists_of, kernel_by, images_of, image_at, image_shown, before_of, processes_of, residents_of}
+use Rattle.table_steps.specs.Tied.{Tied}
+use Rattle.table_steps.specs.Sourced.{ImageNamed, AreNames, named_at, AreSourced}
+use Rattle.table_steps.specs.View.{Lists, placement_of, frames_of, starts_of}
+use Rattle.table_steps.specs.Machine.{Standing, Runs, lists_of, kernel_by, images_of, image_at, image_shown, before_of, processes_of, residents_of}
 use Rattle.machine_state.specs.Fields.{standing_of, HasRoom, RunsNow}
-use Rattle.kernel_tables.specs.Changing.{EnteredImage, started_place, processes_in, residents_in}
+use Rattle.table_steps.specs.Changing.{EnteredImage, started_place, processes_in, residents_in}
 use Rattle.machine_state.specs.Beginning.{StartedFirst, found_first, BeganFirst}
-use Rattle.kernel_tables.proofs.Kernels.{kernel_ext}
+use Rattle.table_steps.proofs.Kernels.{kernel_ext}
 use Rattle.machine_state.proofs.FirstBegins.{Before, same_number, new_first, same_named}
 use Rattle.machine_state.proofs.AddedRing.{ring_added, beside_ring}
 

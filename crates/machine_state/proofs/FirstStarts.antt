@@ -10,13 +10,13 @@ use Rattle.proc_table.specs.Records.{find}
 use Rattle.aout_image.specs.declared.Image.{Image}
 use Rattle.flat_state.specs.Flat.{start_page, start_regs}
 use Rattle.kernel_model.specs.Kernel.{Proc, HoldsSpace}
-use Rattle.kernel_tables.specs.declared.tables.Tables.{Tables}
-use Rattle.kernel_tables.specs.Alike.{AreRecords}
-use Rattle.kernel_tables.specs.Sourced.{ImageNamed, AreNames, named_at}
-use Rattle.kernel_tables.specs.Machine.{processes_of, proc_of, images_of}
-use Rattle.kernel_tables.specs.Changing.{EnteredImage, HasOneMore}
+use Rattle.table_steps.specs.Tables.{Tables}
+use Rattle.table_steps.specs.Alike.{AreRecords}
+use Rattle.table_steps.specs.Sourced.{ImageNamed, AreNames, named_at}
+use Rattle.table_steps.specs.Machine.{processes_of, proc_of, images_of}
+use Rattle.table_steps.specs.Changing.{EnteredImage, HasOneMore}
 use Rattle.machine_state.specs.Beginning.{BeganFirst}
-use Rattle.kernel_tables.proofs.Records.{keeps_none, keeps_some}
+use Rattle.table_steps.proofs.Records.{keeps_none, keeps_some}
 
 -- Names.
 

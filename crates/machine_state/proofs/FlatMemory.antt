@@ -9,7 +9,7 @@ use Rattle.vm_facts.specs.declared.page.PageState.TheVariants.{Unfilled, Valid, 
 use Rattle.vm_facts.specs.declared.memory.ByteRead.TheVariants as reads
 use Rattle.vm_facts.specs.declared.memory.MayWrite.TheVariants as tests
 use Rattle.aout_image.specs.Image.{page_at}
-use Rattle.user_vax.specs.Laws.{Covers}
+use Rattle.flat_model.specs.Laws.{Covers}
 use Rattle.flat_state.specs.declared.spot.Spot.{Spot}
 use Rattle.flat_state.specs.declared.spot.Spot.TheVariants.{Text, Data, Stack, Below, Outside}
 use Rattle.flat_state.specs.Space.{Space, spot_at, address_in, byte_at, may_write_at, answers_of}
@@ -20,9 +20,9 @@ use Rattle.page_model.specs.PageBytes.{IsInFrame}
 use Rattle.kernel_model.specs.Kernel.{Kernel, frame_bytes}
 use Rattle.kernel_model.specs.Sound.{TextFits}
 use Rattle.kernel_model.specs.Coupled.{Coupled, Fits, IsSized, beside_kernel, memory_of, text_of, data_bytes_in, stack_bytes_in}
-use Rattle.page_laws.proofs.Bytes.Pages.{keeps_at}
-use Rattle.page_laws.proofs.Moves.Steps.{page_in}
-use Rattle.kernel_tables.specs.UserMemory.{bytes_of, text_len, data_len, stack_len, spot_in, read_by_state, read_page, read_spot, may_write_by, may_write_spot, kernel_answers}
+use Rattle.table_steps.proofs.PageLawsBytesPages.{keeps_at}
+use Rattle.table_steps.proofs.PageLawsMovesSteps.{page_in}
+use Rattle.table_steps.specs.UserMemory.{bytes_of, text_len, data_len, stack_len, spot_in, read_by_state, read_page, read_spot, may_write_by, may_write_spot, kernel_answers}
 
 -- a byte of a segment is one of its page
 byte_there : (bytes : List ℕ) (i : ℕ) → slice_index bytes i ≡ slice_index (page_at (i / 1024) bytes) (i % 1024)

@@ -25,7 +25,7 @@ use Rattle.page_model.specs.Place.{place_change}
 use Rattle.page_model.specs.Conditions.{CanChange, MayForget, ApartFrom}
 use Rattle.page_model.specs.Ownership.{OwnsFrames, OneOwner}
 use Rattle.page_model.specs.Dues.{DueStand}
-use Rattle.page_laws.proofs.Due.Changes.{change_due}
+use Rattle.table_steps.proofs.PageLawsDueChanges.{change_due}
 use Rattle.kernel_model.specs.Kernel.{Kernel, Proc, Life}
 use Rattle.kernel_model.specs.Sound.{Sound, lives, lives_in}
 use Rattle.kernel_model.specs.ChangeStep.{space_of_life, gave_back, life_of_proc, with_proc, holdings_after, procs_after, change_by}
@@ -34,30 +34,30 @@ use Rattle.kernel_model.specs.Numbers.{Numbered, TakesNext, ReadySpace, ReadyFor
 use Rattle.kernel_model.specs.Taken.{MayReap, MayChange}
 use Rattle.kernel_model.specs.Asks.{asked, MayAsk, WantsThese}
 use Rattle.kernel_model.specs.Unit.{has_lender}
-use Rattle.kernel_laws.proofs.Sound.Allowed.{new_number, may_change, wants_these, ready_sound}
-use Rattle.kernel_laws.proofs.Sound.NumbersApart.{flat_numbered}
-use Rattle.kernel_laws.proofs.Sound.Changes.{Unhanded, change_unhanded}
-use Rattle.kernel_tables.specs.declared.tables.Tables.{Tables}
-use Rattle.kernel_tables.specs.declared.named.Named.{Named}
+use Rattle.table_steps.proofs.KernelLawsSoundAllowed.{new_number, may_change, wants_these, ready_sound}
+use Rattle.table_steps.proofs.NumbersApart.{flat_numbered}
+use Rattle.table_steps.proofs.KernelLawsSoundChanges.{Unhanded, change_unhanded}
+use Rattle.table_steps.specs.Tables.{Tables}
+use Rattle.table_steps.specs.Named.{Named}
 use Rattle.machine_state.specs.declared.machine.Machine.TheInside.{Inside}
 use Rattle.machine_state.specs.Fields.{standing_of, RunsInside}
-use Rattle.kernel_tables.specs.declared.fill.DueFill.{DueFill}
-use Rattle.kernel_tables.specs.View.{Lists, due_shown, placement_of, frames_of}
-use Rattle.kernel_tables.specs.Known.{Known}
-use Rattle.kernel_tables.specs.Sourced.{ImageNamed, AreNames, AreSourced}
-use Rattle.kernel_tables.specs.Moves.{LeftRegs}
-use Rattle.kernel_tables.specs.Calls.{life_in}
-use Rattle.kernel_tables.specs.Machine.{Standing, WereFound, Stands, lists_of, kernel_by, images_of, image_shown, image_at}
-use Rattle.kernel_tables.specs.Machine.{before_of}
-use Rattle.kernel_tables.specs.Changing.{processes_in, process_in}
-use Rattle.kernel_tables.specs.Applying.{facts_named, IsEntryOf, MayAct, CanApply}
+use Rattle.table_steps.specs.DueFill.{DueFill}
+use Rattle.table_steps.specs.View.{Lists, due_shown, placement_of, frames_of}
+use Rattle.table_steps.specs.Known.{Known}
+use Rattle.table_steps.specs.Sourced.{ImageNamed, AreNames, AreSourced}
+use Rattle.table_steps.specs.Moves.{LeftRegs}
+use Rattle.table_steps.specs.Calls.{life_in}
+use Rattle.table_steps.specs.Machine.{Standing, WereFound, Stands, lists_of, kernel_by, images_of, image_shown, image_at}
+use Rattle.table_steps.specs.Machine.{before_of}
+use Rattle.table_steps.specs.Changing.{processes_in, process_in}
+use Rattle.table_steps.specs.Applying.{facts_named, IsEntryOf, MayAct, CanApply}
 use Rattle.table_steps.specs.Applied.{place_in, NamesNext, MayApply, Applied, AppliesAs}
-use Rattle.kernel_tables.proofs.Shows.{sids_shown}
-use Rattle.kernel_tables.proofs.Lives.{pid_of, HasRecord, record_of}
-use Rattle.kernel_tables.proofs.Records.{regs_are, residents_are}
-use Rattle.kernel_tables.proofs.Recorded.{regs_records}
-use Rattle.kernel_tables.proofs.UserFrames.{known_by}
-use Rattle.kernel_tables.proofs.Kernels.{kernel_ext}
+use Rattle.table_steps.proofs.Shows.{sids_shown}
+use Rattle.table_steps.proofs.Lives.{pid_of, HasRecord, record_of}
+use Rattle.table_steps.proofs.Records.{regs_are, residents_are}
+use Rattle.table_steps.proofs.Recorded.{regs_records}
+use Rattle.table_steps.proofs.UserFrames.{known_by}
+use Rattle.table_steps.proofs.Kernels.{kernel_ext}
 use Rattle.machine_state.proofs.Standings.{stands_now}
 use Rattle.machine_state.proofs.FlightsStay.{Behind, sourced_behind}
 use Rattle.table_steps.proofs.ProcessLists.{OnlyOne, only_one, found_number, regs_after, regs_lender, regs_count, regs_pids, regs_there}

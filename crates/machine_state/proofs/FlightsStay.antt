@@ -33,18 +33,18 @@ use Rattle.page_model.specs.Moves.{drop_all}
 use Rattle.page_model.specs.Place.{place_change, sized, enter_image, give_up, give_up_unless, remove_space, leave_text, leave_text_by}
 use Rattle.page_model.specs.Place.{pages_of_space, pages_of_text, resize, facts_numbered}
 use Rattle.page_model.specs.Ownership.{Each, IsMoving, OwnsFrames, OneOwner, owner_of, block_of, needs_blocks, needs_blocks_by}
-use Rattle.page_laws.proofs.Lists.Local.{none_some}
-use Rattle.page_laws.proofs.Lists.Pages.{mapped, changed_same, changed_other}
-use Rattle.page_laws.proofs.Blocks.Aside.{places_found}
-use Rattle.page_laws.proofs.Moves.Puts.{drop_all_kept, leave_all_kept}
-use Rattle.page_laws.proofs.Moves.Steps.{page_in, frame_of_moving}
-use Rattle.page_laws.proofs.Ownership.Changes.{dropped_pages, added_other, removed_other, removed_same}
+use Rattle.table_steps.proofs.Local.{none_some}
+use Rattle.table_steps.proofs.PageLawsListsPages.{mapped, changed_same, changed_other}
+use Rattle.table_steps.proofs.Aside.{places_found}
+use Rattle.table_steps.proofs.Puts.{drop_all_kept, leave_all_kept}
+use Rattle.table_steps.proofs.PageLawsMovesSteps.{page_in, frame_of_moving}
+use Rattle.table_steps.proofs.PageLawsOwnershipChanges.{dropped_pages, added_other, removed_other, removed_same}
 use Rattle.kernel_model.specs.ChangeStep.{text_given_back, given_back_unless, holdings_after}
-use Rattle.kernel_laws.proofs.Machine.Shapes.{shape_in, Shaped, image_kept, shaped_by_puts}
-use Rattle.kernel_laws.proofs.Machine.Takes.{still_found}
-use Rattle.kernel_tables.specs.Sourced.{ImageNamed, IsOwnBlock, IsRangeOf, named_at, IsSourced, AreSourcedIn, AreOwnBlocks}
-use Rattle.kernel_tables.specs.Sourced.{AreSourced}
-use Rattle.kernel_tables.specs.View.{source_shown, in_part, out_part, transfer_shown}
+use Rattle.table_steps.proofs.Shapes.{shape_in, Shaped, image_kept, shaped_by_puts}
+use Rattle.table_steps.proofs.Takes.{still_found}
+use Rattle.table_steps.specs.Sourced.{ImageNamed, IsOwnBlock, IsRangeOf, named_at, IsSourced, AreSourcedIn, AreOwnBlocks}
+use Rattle.table_steps.specs.Sourced.{AreSourced}
+use Rattle.table_steps.specs.View.{source_shown, in_part, out_part, transfer_shown}
 
 -- Blocks. What is given back moves no piece that is kept.
 

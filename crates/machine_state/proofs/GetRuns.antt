@@ -11,16 +11,16 @@ use Rattle.page_model.specs.Dues.{DueStand, NotDue}
 use Rattle.kernel_model.specs.Kernel.{Kernel, get_step}
 use Rattle.kernel_model.specs.Sound.{Sound}
 use Rattle.kernel_model.specs.Numbers.{Numbered}
-use Rattle.page_laws.proofs.Lists.Runs.{each_page_imp}
-use Rattle.kernel_laws.proofs.Sound.Steps.{plain_sound}
-use Rattle.kernel_laws.proofs.Sound.NumbersApart.{plain_numbered}
-use Rattle.page_laws.proofs.Due.Entries.{entry_due}
-use Rattle.kernel_tables.specs.declared.tables.Tables.{Tables}
+use Rattle.table_steps.proofs.Runs.{each_page_imp}
+use Rattle.table_steps.proofs.KernelLawsSoundSteps.{plain_sound}
+use Rattle.table_steps.proofs.NumbersApart.{plain_numbered}
+use Rattle.table_steps.proofs.PageLawsDueEntries.{entry_due}
+use Rattle.table_steps.specs.Tables.{Tables}
 use Rattle.machine_state.specs.declared.machine.Machine.TheInside.{Inside}
-use Rattle.kernel_tables.specs.View.{placement_of}
-use Rattle.kernel_tables.specs.Machine.{Runs, lists_of, kernel_by}
-use Rattle.kernel_tables.specs.Moves.{BeganRead}
-use Rattle.kernel_tables.specs.Conditions.{CanBringIn}
+use Rattle.table_steps.specs.View.{placement_of}
+use Rattle.table_steps.specs.Machine.{Runs, lists_of, kernel_by}
+use Rattle.table_steps.specs.Moves.{BeganRead}
+use Rattle.table_steps.specs.Conditions.{CanBringIn}
 use Rattle.table_steps.proofs.Gets.{get_kernel, reads_fresh}
 
 pub get_runs : (m : Inside) (w : Tables) (q : Page) (lo n : ℕ) (journal : List Entry) (stopped : Bool)

@@ -11,7 +11,7 @@ use Rattle.vm_facts.specs.declared.regs.Regs.{Regs}
 use Rattle.vm_facts.specs.Swap.{put_blocks}
 use Rattle.io_edge.specs.SwapImage.{HoldsPage, WritesPage}
 use Rattle.core_map.specs.declared.slot.Slot.{Slot as Token}
-use Rattle.space_map.specs.Space.{Places}
+use Rattle.table_steps.specs.Space.{Places}
 use Rattle.proc_table.specs.declared.process.Proc.{Proc as Record}
 use Rattle.proc_table.specs.declared.process.Life.{Life as RecordLife}
 use Rattle.proc_table.specs.declared.process.Life.TheVariants as lives
@@ -26,7 +26,7 @@ use Rattle.page_model.specs.Place.{moved}
 use Rattle.page_model.specs.Swapper.{is_out}
 use Rattle.page_model.specs.Dues.{DueStand}
 use Rattle.page_model.specs.Stored.{stored_at, store_at}
-use Rattle.page_laws.proofs.Due.Entries.{entry_due}
+use Rattle.table_steps.proofs.PageLawsDueEntries.{entry_due}
 use Rattle.kernel_model.specs.Kernel.{Kernel, Proc, HoldsSpace, with_regs, out_step, in_step}
 use Rattle.kernel_model.specs.ChangeStep.{life_of_proc, space_of_life}
 use Rattle.kernel_model.specs.Sound.{Sound, has_life, lives_in, lives as lives_at}
@@ -34,24 +34,24 @@ use Rattle.kernel_model.specs.Numbers.{Numbered}
 use Rattle.kernel_model.specs.Coupled.{Coupled}
 use Rattle.kernel_model.specs.UPage.{u_page, regs_in}
 use Rattle.kernel_model.specs.Unit.{u_bytes, proc_of}
-use Rattle.kernel_laws.proofs.Sound.Steps.{out_sound, in_sound}
-use Rattle.kernel_laws.proofs.Sound.NumbersApart.{out_numbered, in_numbered}
-use Rattle.kernel_laws.proofs.Machine.Swaps.{u_found, out_coupled, in_coupled_any}
-use Rattle.kernel_tables.specs.declared.tables.Tables.{Tables}
+use Rattle.table_steps.proofs.KernelLawsSoundSteps.{out_sound, in_sound}
+use Rattle.table_steps.proofs.NumbersApart.{out_numbered, in_numbered}
+use Rattle.table_steps.proofs.Swaps.{u_found, out_coupled, in_coupled_any}
+use Rattle.table_steps.specs.Tables.{Tables}
 use Rattle.machine_state.specs.declared.machine.Machine.TheInside.{Inside}
-use Rattle.kernel_tables.specs.Shown.{space_shown}
-use Rattle.kernel_tables.specs.View.{placement_of}
-use Rattle.kernel_tables.specs.Alike.{AreRecords}
-use Rattle.kernel_tables.specs.Lives.{space_by, space_held}
-use Rattle.kernel_tables.specs.Machine.{life_shown, proc_shown, Runs, Stands, lists_of, kernel_by, before_of}
-use Rattle.kernel_tables.specs.Calls.{CanGoOut, CanComeIn}
-use Rattle.kernel_tables.specs.Done.{StandsTold}
-use Rattle.kernel_tables.specs.Swapping.{u_block, Lasts, MovedRecord, IsUPage, AreStored, WritesU, KeepsOut, KeepsIn}
-use Rattle.kernel_tables.proofs.Kernels.{kernel_ext}
-use Rattle.kernel_tables.proofs.Lives.{HasRecord, record_of}
-use Rattle.kernel_tables.proofs.Stills.{Grown, pushed}
-use Rattle.kernel_tables.proofs.UserFrames.{numbered_shown}
-use Rattle.kernel_tables.proofs.MovedRecords.{moved_processes, moved_residents, moved_records, IsOutThere, out_there}
+use Rattle.table_steps.specs.KernelTablesShown.{space_shown}
+use Rattle.table_steps.specs.View.{placement_of}
+use Rattle.table_steps.specs.Alike.{AreRecords}
+use Rattle.table_steps.specs.Lives.{space_by, space_held}
+use Rattle.table_steps.specs.Machine.{life_shown, proc_shown, Runs, Stands, lists_of, kernel_by, before_of}
+use Rattle.table_steps.specs.Calls.{CanGoOut, CanComeIn}
+use Rattle.table_steps.specs.Done.{StandsTold}
+use Rattle.table_steps.specs.Swapping.{u_block, Lasts, MovedRecord, IsUPage, AreStored, WritesU, KeepsOut, KeepsIn}
+use Rattle.table_steps.proofs.Kernels.{kernel_ext}
+use Rattle.table_steps.proofs.Lives.{HasRecord, record_of}
+use Rattle.table_steps.proofs.Stills.{Grown, pushed}
+use Rattle.table_steps.proofs.UserFrames.{numbered_shown}
+use Rattle.table_steps.proofs.MovedRecords.{moved_processes, moved_residents, moved_records, IsOutThere, out_there}
 use Rattle.table_steps.proofs.Moved.{tied_moved}
 
 -- The step.
@@ -208,12 +208,12 @@ leaving_lasts t k pid was l f = subst (λ (x : Record). Lasts x.state) (same_Som
 data_length : (t : Tables) (sid : ℕ) (s : Places) → numbered (λ (s : Places). s.sid) sid t.spaces ≡ Some s → length (slots_of (placement_of (lists_of t)) (Data sid 0)) ≡ length s.data
 data_length t sid s e =
     ap (λ (o : Option Rattle.page_model.specs.Pages.SpacePages). length (Rattle.page_model.specs.Pages.data_in o)) (numbered_shown t.core.slots t.spaces sid ∙ ap (option_map (space_shown t.core.slots)) e)
-    ∙ length-map s.data (Rattle.kernel_tables.specs.Shown.slot_shown t.core.slots)
+    ∙ length-map s.data (Rattle.table_steps.specs.KernelTablesShown.slot_shown t.core.slots)
 
 stack_length : (t : Tables) (sid : ℕ) (s : Places) → numbered (λ (s : Places). s.sid) sid t.spaces ≡ Some s → length (slots_of (placement_of (lists_of t)) (Stack sid 0)) ≡ length s.stack
 stack_length t sid s e =
     ap (λ (o : Option Rattle.page_model.specs.Pages.SpacePages). length (Rattle.page_model.specs.Pages.stack_in o)) (numbered_shown t.core.slots t.spaces sid ∙ ap (option_map (space_shown t.core.slots)) e)
-    ∙ length-map s.stack (Rattle.kernel_tables.specs.Shown.slot_shown t.core.slots)
+    ∙ length-map s.stack (Rattle.table_steps.specs.KernelTablesShown.slot_shown t.core.slots)
 
 -- the bytes that are written are the kernel's u page
 pub bytes_are : (t : Tables) (j : List Entry) (b : Bool) (pid : ℕ) (bytes : List ℕ) → Leaving t (kernel_by t j b) pid → IsUPage t pid bytes → bytes ≡ u_bytes (kernel_by t j b) (proc_of (kernel_by t j b) pid)

@@ -3,7 +3,7 @@ use Rattle.std.proofs.Common.{◌≡◌, ℕ, zero, suc, List, [], ◌∷◌, Bo
 use Rattle.std.proofs.lemmas.Option.{none-some, same_Some}
 use Rattle.swap_book.specs.Holdings.{Holdings}
 use Rattle.transfer_ring.specs.declared.transfer.Transfer.{Transfer as Flight}
-use Rattle.kernel_tables.specs.Sourced.{ImageNamed, IsFlightSourced, AreSourced}
+use Rattle.table_steps.specs.Sourced.{ImageNamed, IsFlightSourced, AreSourced}
 
 sourced_in : (ns : List ImageNamed) (f : ℕ → ℕ) (hs : Holdings) (size : ℕ) (ts : List Flight) (place : ℕ) (t : Flight) → AreSourced ns f hs size ts → Some t ≡ slice_get ts place → IsFlightSourced ns f hs size t
 sourced_in ns f hs size [] place t h is = absurd (none-some t (sym is))

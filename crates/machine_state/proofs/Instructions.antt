@@ -14,29 +14,29 @@ use Rattle.page_model.specs.Placement.{Residence, image_of}
 use Rattle.kernel_model.specs.Kernel.{HoldsSpace, Proc, Kernel, life_of}
 use Rattle.kernel_model.specs.ChangeStep.{life_of_proc, ran_by}
 use Rattle.kernel_model.specs.Coupled.{Outline, outline_kept, outline_of, Coupled}
-use Rattle.kernel_laws.proofs.Flat.Numbered.{image_by}
-use Rattle.kernel_laws.proofs.Flat.Lists.{pid_of, found_is}
-use Rattle.kernel_laws.proofs.Machine.Tables.{kept_pid, outlines_at}
-use Rattle.kernel_laws.proofs.Machine.Swaps.{ran_coupled}
-use Rattle.kernel_laws.proofs.Sound.NumbersApart.{ran_numbered}
-use Rattle.kernel_laws.proofs.Sound.Steps.{ran_sound}
+use Rattle.table_steps.proofs.Numbered.{image_by}
+use Rattle.table_steps.proofs.Lists.{pid_of, found_is}
+use Rattle.table_steps.proofs.KernelLawsMachineTables.{kept_pid, outlines_at}
+use Rattle.table_steps.proofs.Swaps.{ran_coupled}
+use Rattle.table_steps.proofs.NumbersApart.{ran_numbered}
+use Rattle.table_steps.proofs.KernelLawsSoundSteps.{ran_sound}
 use Rattle.std.proofs.lemmas.Option.{same_Some}
-use Rattle.kernel_tables.specs.declared.tables.Tables.{Tables}
-use Rattle.kernel_tables.specs.Calls.{life_in}
-use Rattle.kernel_tables.specs.Conditions.{ChangesFlat}
-use Rattle.kernel_tables.specs.UserMemory.{CanLend}
-use Rattle.kernel_tables.specs.Moves.{LeftRegs}
-use Rattle.kernel_tables.specs.View.{Lists, placement_of}
-use Rattle.kernel_tables.specs.Tied.{Tied}
-use Rattle.kernel_tables.specs.Alike.{AreRecords}
-use Rattle.kernel_tables.specs.Sourced.{AreNames, AreSourced}
+use Rattle.table_steps.specs.Tables.{Tables}
+use Rattle.table_steps.specs.Calls.{life_in}
+use Rattle.table_steps.specs.Conditions.{ChangesFlat}
+use Rattle.table_steps.specs.UserMemory.{CanLend}
+use Rattle.table_steps.specs.Moves.{LeftRegs}
+use Rattle.table_steps.specs.View.{Lists, placement_of}
+use Rattle.table_steps.specs.Tied.{Tied}
+use Rattle.table_steps.specs.Alike.{AreRecords}
+use Rattle.table_steps.specs.Sourced.{AreNames, AreSourced}
 use Rattle.machine_state.specs.declared.machine.Machine.TheInside.{Inside}
 use Rattle.machine_state.specs.Fields.{standing_of}
-use Rattle.kernel_tables.specs.Machine.{Standing, Stands, lists_of, kernel_by, images_of, before_of}
-use Rattle.kernel_tables.proofs.Lives.{HasRecord, record_of}
-use Rattle.kernel_tables.proofs.Records.{regs_are, residents_are}
-use Rattle.kernel_tables.proofs.Recorded.{regs_records}
-use Rattle.kernel_tables.proofs.Stills.{append_some}
+use Rattle.table_steps.specs.Machine.{Standing, Stands, lists_of, kernel_by, images_of, before_of}
+use Rattle.table_steps.proofs.Lives.{HasRecord, record_of}
+use Rattle.table_steps.proofs.Records.{regs_are, residents_are}
+use Rattle.table_steps.proofs.Recorded.{regs_records}
+use Rattle.table_steps.proofs.Stills.{append_some}
 
 -- a process that holds a space is there
 holder : (k : Kernel) (pid : ℕ) (sid : ℕ) → life_in k pid ≡ HoldsSpace sid → (p : Proc) × (numbered kept_pid pid k.processes ≡ Some p) × (p.life ≡ HoldsSpace sid)
@@ -83,13 +83,13 @@ module _ (t u : Tables) (pid : ℕ) (regs : Regs) (left : LeftRegs t u pid regs)
   pub regs_kernel : (old journal : List Entry) (a b : Bool) → journal ≡ append old (Ran pid 1) → b ≡ a → kernel_by u journal b ≡ ran_by (kernel_by t old a) pid regs (Ran pid 1)
   regs_kernel old journal a b j s =
       ap (λ (x : Tables). kernel_by x journal b) left.rest
-      ∙ ap (λ (rs : List Residence). let x : Kernel = record (kernel_by t journal b) { place = placement_of (record (lists_of t) { residents = rs }); processes = Rattle.kernel_tables.specs.Machine.processes_of u.processes t.next_pid } in x)
+      ∙ ap (λ (rs : List Residence). let x : Kernel = record (kernel_by t journal b) { place = placement_of (record (lists_of t) { residents = rs }); processes = Rattle.table_steps.specs.Machine.processes_of u.processes t.next_pid } in x)
       (residents_are t.processes u.processes pid regs left.was t.next_pid left.there left.changes)
       ∙ ap (λ (ps : List Proc). let x : Kernel = record (kernel_by t journal b) { processes = ps } in x) (regs_are t.processes u.processes pid regs left.was t.next_pid left.there left.changes)
       ∙ ap (λ (es : List Entry). ran_regs es b) j ∙ ap (λ (x : Bool). ran_regs (append old (Ran pid 1)) x) s
     where
       ran_regs : List Entry → Bool → Kernel
-      ran_regs es x = record (kernel_by t es x) { processes = map (λ (p : Proc). cond (p.pid == pid) (record p { regs = regs }) p) (Rattle.kernel_tables.specs.Machine.processes_of t.processes t.next_pid) }
+      ran_regs es x = record (kernel_by t es x) { processes = map (λ (p : Proc). cond (p.pid == pid) (record p { regs = regs }) p) (Rattle.table_steps.specs.Machine.processes_of t.processes t.next_pid) }
 
   pub regs_stand : (old journal : List Entry) (a b : Bool) → Stands t old a → journal ≡ append old (Ran pid 1) → b ≡ a → length journal ≤ t.params.journal → Stands u journal b
   regs_stand old journal a b s j e within =
@@ -108,7 +108,7 @@ module _ (t u : Tables) (pid : ℕ) (regs : Regs) (left : LeftRegs t u pid regs)
             (subst (λ (x : Tables). AreSourced (images_of x) (λ sid. image_of (placement_of (lists_of t)) sid) (before_of x) x.book.size x.ring) (sym left.rest) s.ring);
         within = subst (λ (x : Tables). length journal ≤ x.params.journal) (sym left.rest) within;
         book = subst (λ (x : Tables). x.book.size ≡ x.params.swap_blocks) (sym left.rest) s.book;
-        found = subst (λ (x : Tables). Rattle.kernel_tables.specs.Machine.WereFound x.book.size (before_of x) x.book.holdings) (sym left.rest) s.found;
+        found = subst (λ (x : Tables). Rattle.table_steps.specs.Machine.WereFound x.book.size (before_of x) x.book.holdings) (sym left.rest) s.found;
         records = subst (λ (x : Tables). AreRecords u.processes x.next_pid) (sym left.rest)
             (regs_records t.processes u.processes t.next_pid pid regs left.was left.there left.changes left.still_sound s.records);
         named = subst (λ (x : Tables). AreNames (images_of x)) (sym left.rest) s.named;

@@ -2,11 +2,11 @@
 use Rattle.std.proofs.Common.{subst}
 use Rattle.core_map.specs.Frames.{IsSound}
 use Rattle.flat_state.specs.Numbers.{AllDistinct}
-use Rattle.kernel_tables.specs.Machine.{Runs, lists_of, kernel_by}
+use Rattle.table_steps.specs.Machine.{Runs, lists_of, kernel_by}
 use Rattle.machine_state.specs.declared.machine.Machine.TheInside.{Inside}
-use Rattle.kernel_tables.proofs.Shows.{sids_shown}
-use Rattle.kernel_tables.proofs.Held.{flown_numbers}
-use Rattle.kernel_tables.specs.Known.{Known}
+use Rattle.table_steps.proofs.Shows.{sids_shown}
+use Rattle.table_steps.proofs.Held.{flown_numbers}
+use Rattle.table_steps.specs.Known.{Known}
 
 pub known_of : (m : Inside) → IsSound m.tables.core.free m.tables.core.slots → Runs (kernel_by m.tables m.journal.items m.stopped) (lists_of m.tables) m.tables.book.size → Known (lists_of m.tables)
 known_of m c r = record {

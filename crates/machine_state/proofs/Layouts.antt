@@ -9,8 +9,8 @@ use Rattle.page_model.specs.Pages.{SpacePages, changed, with_data, with_stack}
 use Rattle.page_model.specs.Placement.{Placement, space_number, state_of, image_of, spaces_with}
 use Rattle.page_model.specs.Moves.{touch, touch_to}
 use Rattle.kernel_model.specs.Kernel.{Kernel, write_step}
-use Rattle.kernel_laws.proofs.Machine.Shapes.{touch_shaped, image_kept, sizes_kept}
-use Rattle.kernel_tables.specs.UserMemory.{bytes_of, IsLaidOut}
+use Rattle.table_steps.proofs.Shapes.{touch_shaped, image_kept, sizes_kept}
+use Rattle.table_steps.specs.UserMemory.{bytes_of, IsLaidOut}
 
 changed_kept : {A : Type 0} (number : A → ℕ) (n : ℕ) (change : A → A) (g : A → ℕ) → ((x : A) → g (change x) ≡ g x) → (xs : List A) → map g (changed number n change xs) ≡ map g xs
 changed_kept number n change g e [] = refl

@@ -15,19 +15,19 @@ use Rattle.page_model.specs.Dues.{DueStand, LeavesDue}
 use Rattle.kernel_model.specs.Kernel.{Kernel, plain_step}
 use Rattle.kernel_model.specs.Sound.{Sound}
 use Rattle.kernel_model.specs.Numbers.{Numbered}
-use Rattle.page_laws.proofs.Due.Entries.{entry_due}
-use Rattle.kernel_laws.proofs.Sound.Steps.{entry_sound}
-use Rattle.kernel_laws.proofs.Sound.NumbersApart.{plain_numbered}
-use Rattle.kernel_tables.specs.declared.tables.Tables.{Tables}
+use Rattle.table_steps.proofs.PageLawsDueEntries.{entry_due}
+use Rattle.table_steps.proofs.KernelLawsSoundSteps.{entry_sound}
+use Rattle.table_steps.proofs.NumbersApart.{plain_numbered}
+use Rattle.table_steps.specs.Tables.{Tables}
 use Rattle.machine_state.specs.declared.machine.Machine.TheInside.{Inside}
-use Rattle.kernel_tables.specs.Sourced.{ImageNamed, IsFlightSourced, AreOwnBlocks, AreSourced}
-use Rattle.kernel_tables.specs.View.{placement_of, starts_of}
-use Rattle.kernel_tables.specs.Machine.{Runs, Stands, lists_of, kernel_by, images_of, image_at, before_of, processes_of}
-use Rattle.kernel_tables.specs.Launches.{HaveOwnBlocks, IsOwnWrite, AddsWrite, MovedOn}
-use Rattle.kernel_tables.proofs.Kernels.{kernel_ext}
+use Rattle.table_steps.specs.Sourced.{ImageNamed, IsFlightSourced, AreOwnBlocks, AreSourced}
+use Rattle.table_steps.specs.View.{placement_of, starts_of}
+use Rattle.table_steps.specs.Machine.{Runs, Stands, lists_of, kernel_by, images_of, image_at, before_of, processes_of}
+use Rattle.table_steps.specs.Launches.{HaveOwnBlocks, IsOwnWrite, AddsWrite, MovedOn}
+use Rattle.table_steps.proofs.Kernels.{kernel_ext}
 use Rattle.table_steps.proofs.Sources.{own_place}
 use Rattle.machine_state.proofs.Standings.{stands_on}
-use Rattle.kernel_tables.proofs.Stills.{Still, appended, sourced_more}
+use Rattle.table_steps.proofs.Stills.{Still, appended, sourced_more}
 
 -- What is known of such a step.
 pub record Moving (m : Inside) (u : Tables) (p : Placement) (locked : List Page) (e : Entry) : Type 0 where

@@ -21,31 +21,31 @@ use Rattle.page_model.specs.PageBytes.{zeros}
 use Rattle.kernel_model.specs.Kernel.{Kernel}
 use Rattle.kernel_model.specs.Sound.{lives}
 use Rattle.page_model.specs.Ownership.{OneOwner}
-use Rattle.page_laws.proofs.Starts.{start_hands}
-use Rattle.kernel_laws.proofs.Pieces.Starts.{start_found}
-use Rattle.page_laws.proofs.Due.Changes.{none_due}
-use Rattle.table_view.specs.Shown.{state_shown}
-use Rattle.kernel_tables.specs.Found.{cached_by, frame_holding}
-use Rattle.kernel_tables.specs.View.{Lists, pages_in, text_slot, texts_of, page_by, bytes_by, page_held, bytes_held, placement_of, frames_of, transfer_shown, flown, starts_of}
-use Rattle.kernel_tables.specs.New.{fresh_kernel, AreSound}
-use Rattle.kernel_tables.specs.Machine.{Standing, Runs, Stands, images_of, image_at, before_of, lists_of, kernel_by, processes_of, residents_of}
-use Rattle.kernel_tables.specs.Alike.{AreRecords}
-use Rattle.kernel_tables.specs.Sourced.{AreNames, AreSourced}
+use Rattle.table_steps.proofs.PageLawsStarts.{start_hands}
+use Rattle.table_steps.proofs.KernelLawsPiecesStarts.{start_found}
+use Rattle.table_steps.proofs.PageLawsDueChanges.{none_due}
+use Rattle.table_steps.specs.TableViewShown.{state_shown}
+use Rattle.table_steps.specs.Found.{cached_by, frame_holding}
+use Rattle.table_steps.specs.View.{Lists, pages_in, text_slot, texts_of, page_by, bytes_by, page_held, bytes_held, placement_of, frames_of, transfer_shown, flown, starts_of}
+use Rattle.table_steps.specs.New.{fresh_kernel, AreSound}
+use Rattle.table_steps.specs.Machine.{Standing, Runs, Stands, images_of, image_at, before_of, lists_of, kernel_by, processes_of, residents_of}
+use Rattle.table_steps.specs.Alike.{AreRecords}
+use Rattle.table_steps.specs.Sourced.{AreNames, AreSourced}
 use Rattle.proc_table.specs.declared.process.Proc.{Proc as Record}
-use Rattle.kernel_tables.proofs.Recorded.{no_records}
+use Rattle.table_steps.proofs.Recorded.{no_records}
 use Rattle.swap_book.specs.Holdings.{Holdings}
 use Rattle.swap_book.specs.declared.Held.{Held}
 use Rattle.vm_facts.specs.declared.params.Params.{Params}
 use Rattle.vm_facts.specs.declared.entry.Entry.{Entry}
-use Rattle.space_map.specs.Space.{Places}
+use Rattle.table_steps.specs.Space.{Places}
 use Rattle.transfer_ring.specs.declared.transfer.Transfer.{Transfer as Flight}
-use Rattle.kernel_tables.specs.declared.tables.Tables.{Tables}
-use Rattle.kernel_tables.specs.declared.named.Named.{Named as ImageNamed}
-use Rattle.kernel_tables.specs.declared.fill.DueFill.{DueFill}
-use Rattle.kernel_tables.proofs.Kernels.{kernel_ext}
-use Rattle.kernel_tables.proofs.Finds.{holding_none}
-use Rattle.kernel_tables.proofs.Shows.{pages_hit, pages_miss}
-use Rattle.kernel_tables.proofs.Held.{placement_ext}
+use Rattle.table_steps.specs.Tables.{Tables}
+use Rattle.table_steps.specs.Named.{Named as ImageNamed}
+use Rattle.table_steps.specs.DueFill.{DueFill}
+use Rattle.table_steps.proofs.Kernels.{kernel_ext}
+use Rattle.table_steps.proofs.Finds.{holding_none}
+use Rattle.table_steps.proofs.Shows.{pages_hit, pages_miss}
+use Rattle.table_steps.proofs.Held.{placement_ext}
 
 -- The tables' lists.
 abbrev pub new_lists : List Image → ℕ → Lists

@@ -8,15 +8,15 @@ use Rattle.kernel_model.specs.Kernel.{Life, New, HoldsSpace, LendsSpace, Ended, 
 use Rattle.kernel_model.specs.ChangeStep.{life_of_proc, pass_step}
 use Rattle.kernel_model.specs.Numbers.{Numbered}
 use Rattle.kernel_model.specs.Sound.{Sound, has_life, lives_in, lives as are_alive}
-use Rattle.kernel_laws.proofs.Sound.Steps.{pass_sound}
-use Rattle.kernel_laws.proofs.Sound.NumbersApart.{pass_numbered}
-use Rattle.kernel_tables.specs.declared.tables.Tables.{Tables}
-use Rattle.kernel_tables.specs.Applying.{MayPass}
-use Rattle.kernel_tables.specs.Sourced.{AreNames, AreSourced}
-use Rattle.kernel_tables.specs.Tied.{Tied}
-use Rattle.kernel_tables.specs.View.{Lists, placement_of}
-use Rattle.kernel_tables.specs.Machine.{Standing, Stands, WereFound, lists_of, kernel_by, images_of, before_of}
-use Rattle.kernel_tables.specs.Changing.{HasProcesses, processes_in, residents_in, life_at, passed_procs}
+use Rattle.table_steps.proofs.KernelLawsSoundSteps.{pass_sound}
+use Rattle.table_steps.proofs.NumbersApart.{pass_numbered}
+use Rattle.table_steps.specs.Tables.{Tables}
+use Rattle.table_steps.specs.Applying.{MayPass}
+use Rattle.table_steps.specs.Sourced.{AreNames, AreSourced}
+use Rattle.table_steps.specs.Tied.{Tied}
+use Rattle.table_steps.specs.View.{Lists, placement_of}
+use Rattle.table_steps.specs.Machine.{Standing, Stands, WereFound, lists_of, kernel_by, images_of, before_of}
+use Rattle.table_steps.specs.Changing.{HasProcesses, processes_in, residents_in, life_at, passed_procs}
 
 -- who gives and who takes lives
 pub giver_lives : (o : Option Proc) (taker : Life) (from : ℕ) → MayPass (life_of_proc o) taker from → lives_in o ≡ true

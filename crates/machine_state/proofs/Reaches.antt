@@ -16,9 +16,9 @@ use Rattle.transfer_ring.specs.declared.transfer.Source.{Source as From}
 use Rattle.transfer_ring.specs.declared.transfer.Source.TheVariants as froms
 use Rattle.transfer_ring.specs.Sound.{IsBlock, IsThere, AreThere, AreBlocks, IsReachable, AreReachable}
 use Rattle.page_model.specs.Placement.{Source}
-use Rattle.kernel_tables.specs.View.{source_shown}
-use Rattle.kernel_tables.specs.Sourced.{ImageNamed, named_at, IsRange, IsRangeOf, IsPageRange, IsSourced, AreSourcedIn, AreOwnBlocks, IsFlightSourced, AreSourced}
-use Rattle.kernel_tables.specs.Files.{HasFile, HaveFiles, AreFiles}
+use Rattle.table_steps.specs.View.{source_shown}
+use Rattle.table_steps.specs.Sourced.{ImageNamed, named_at, IsRange, IsRangeOf, IsPageRange, IsSourced, AreSourcedIn, AreOwnBlocks, IsFlightSourced, AreSourced}
+use Rattle.table_steps.specs.Files.{HasFile, HaveFiles, AreFiles}
 
 within_file : (facts : Image) (text : Bool) (v : ℕ) → offset_of text facts + min (1024 * v) (given_of text facts) + min 1024 (given_of text facts - 1024 * v) ≤ offset_of text facts + given_of text facts
 within_file facts text v = go (offset_of text facts) (given_of text facts) (1024 * v)

@@ -19,10 +19,10 @@ use Rattle.page_model.specs.PageBytes.{source_bytes}
 use Rattle.kernel_model.specs.Kernel.{Kernel, store_all, frame_bytes}
 use Rattle.kernel_model.specs.Coupled.{beside_kernel, file_of, text_of, data_of}
 use Rattle.page_model.specs.Stored.{store_at}
-use Rattle.kernel_tables.specs.View.{source_of, in_part, out_part}
-use Rattle.kernel_tables.specs.Sourced.{ImageNamed, named_at, IsRange, IsRangeOf, IsPageRange, IsSourced, AreSourcedIn, AreOwnBlocks}
-use Rattle.kernel_tables.specs.Files.{HasFile, HaveFiles, AreFiles, AreLoaded, AreImages}
-use Rattle.kernel_tables.specs.Done.{AreWholePages, SpoilsAll}
+use Rattle.table_steps.specs.View.{source_of, in_part, out_part}
+use Rattle.table_steps.specs.Sourced.{ImageNamed, named_at, IsRange, IsRangeOf, IsPageRange, IsSourced, AreSourcedIn, AreOwnBlocks}
+use Rattle.table_steps.specs.Files.{HasFile, HaveFiles, AreFiles, AreLoaded, AreImages}
+use Rattle.table_steps.specs.Done.{AreWholePages, SpoilsAll}
 use Rattle.machine_state.proofs.Device.{read_is, written_is}
 use Rattle.machine_state.proofs.Reaches.{file_at, given_within}
 use Rattle.machine_state.proofs.Ends.{AreBytes}

@@ -13,20 +13,20 @@ use Rattle.page_model.specs.Dues.{DueStand}
 use Rattle.kernel_model.specs.Kernel.{Kernel, reclaim_step}
 use Rattle.kernel_model.specs.Sound.{Sound}
 use Rattle.kernel_model.specs.Numbers.{Numbered}
-use Rattle.kernel_laws.proofs.Sound.Steps.{plain_sound}
-use Rattle.kernel_laws.proofs.Sound.NumbersApart.{plain_numbered}
-use Rattle.page_laws.proofs.Due.Entries.{entry_due}
-use Rattle.kernel_tables.specs.declared.tables.Tables.{Tables}
+use Rattle.table_steps.proofs.KernelLawsSoundSteps.{plain_sound}
+use Rattle.table_steps.proofs.NumbersApart.{plain_numbered}
+use Rattle.table_steps.proofs.PageLawsDueEntries.{entry_due}
+use Rattle.table_steps.specs.Tables.{Tables}
 use Rattle.machine_state.specs.declared.machine.Machine.TheInside.{Inside}
-use Rattle.kernel_tables.specs.Shown.{entry_in}
-use Rattle.kernel_tables.specs.View.{placement_of}
-use Rattle.kernel_tables.specs.Steps.{revived, reclaimed, dirty_shown}
-use Rattle.kernel_tables.specs.Machine.{Runs, lists_of, kernel_by}
-use Rattle.kernel_tables.proofs.Entries.{placed_heads}
-use Rattle.kernel_tables.proofs.Likes.{placed_alike, placed_filled, frame_fits}
-use Rattle.kernel_tables.proofs.Kept.{Ties, tied_still, still_there}
-use Rattle.kernel_tables.proofs.Marks.{entry_is, marks_placed, marks_here, marks_revived, set_resident}
-use Rattle.kernel_tables.proofs.Knows.{texts_here}
+use Rattle.table_steps.specs.KernelTablesShown.{entry_in}
+use Rattle.table_steps.specs.View.{placement_of}
+use Rattle.table_steps.specs.Steps.{revived, reclaimed, dirty_shown}
+use Rattle.table_steps.specs.Machine.{Runs, lists_of, kernel_by}
+use Rattle.table_steps.proofs.KernelTablesEntries.{placed_heads}
+use Rattle.table_steps.proofs.Likes.{placed_alike, placed_filled, frame_fits}
+use Rattle.table_steps.proofs.Kept.{Ties, tied_still, still_there}
+use Rattle.table_steps.proofs.Marks.{entry_is, marks_placed, marks_here, marks_revived, set_resident}
+use Rattle.table_steps.proofs.Knows.{texts_here}
 use Rattle.table_steps.proofs.Reclaims.{Reclaiming, reclaim_kernel, reclaiming_lists, revived_mark}
 
 pub reclaim_runs : (m : Inside) (u : Tables) (q : Page) (f : ℕ) (journal : List Entry) (stopped : Bool)

@@ -10,14 +10,14 @@ use Rattle.vm_facts.specs.declared.stop.Stop.{Stop}
 use Rattle.vm_facts.specs.declared.stop.Stop.TheVariants as stops
 use Rattle.kernel_model.specs.Kernel.{Kernel, done_step}
 use Rattle.kernel_model.specs.Sound.{TextFits}
-use Rattle.kernel_laws.proofs.Machine.Shapes.{done_shaped, sizes_kept}
-use Rattle.page_laws.proofs.Moves.Transfers.{land_all_rest}
-use Rattle.kernel_tables.specs.Sourced.{ImageNamed}
-use Rattle.kernel_tables.specs.Machine.{Standing}
-use Rattle.kernel_tables.specs.Conditions.{HasStopped}
-use Rattle.kernel_tables.specs.Files.{AreImages}
-use Rattle.kernel_tables.specs.Done.{Sources, sources, IsDone, ImageAfter, KeepsThrough, StopsFor, SwapAfter}
-use Rattle.kernel_tables.specs.Settled.{SettledBy, EndsWhile, IsSameBeside, StopsSettling}
+use Rattle.table_steps.proofs.Shapes.{done_shaped, sizes_kept}
+use Rattle.table_steps.proofs.Transfers.{land_all_rest}
+use Rattle.table_steps.specs.Sourced.{ImageNamed}
+use Rattle.table_steps.specs.Machine.{Standing}
+use Rattle.table_steps.specs.Conditions.{HasStopped}
+use Rattle.table_steps.specs.Files.{AreImages}
+use Rattle.table_steps.specs.Done.{Sources, sources, IsDone, ImageAfter, KeepsThrough, StopsFor, SwapAfter}
+use Rattle.table_steps.specs.Settled.{SettledBy, EndsWhile, IsSameBeside, StopsSettling}
 
 pub beside_done : (old new : Standing) → new ≡ record old { kernel = new.kernel; room = None } → IsSameBeside old new
 beside_done old new r = record {

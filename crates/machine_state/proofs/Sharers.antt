@@ -5,13 +5,13 @@ use Rattle.std.proofs.lemmas.Bool.Decides.{nat_tests}
 use Rattle.std.proofs.lemmas.Option.{same_Some}
 use Rattle.core_map.specs.declared.slot.Slot.{Slot as Token}
 use Rattle.proc_table.specs.Records.{Lowest}
-use Rattle.space_map.specs.Space.{Places}
+use Rattle.table_steps.specs.Space.{Places}
 use Rattle.page_model.specs.Pages.{SpacePages, numbered}
 use Rattle.page_model.specs.Placement.{Placement, space_number}
-use Rattle.kernel_tables.specs.Shown.{space_shown}
-use Rattle.kernel_tables.specs.Rising.{sids_of, IsBelowAll, AreRising}
-use Rattle.kernel_tables.specs.Sharing.{IsSharer, first_sharer}
-use Rattle.kernel_tables.proofs.Shows.{hit, miss}
+use Rattle.table_steps.specs.KernelTablesShown.{space_shown}
+use Rattle.table_steps.specs.Rising.{sids_of, IsBelowAll, AreRising}
+use Rattle.table_steps.specs.Sharing.{IsSharer, first_sharer}
+use Rattle.table_steps.proofs.Shows.{hit, miss}
 
 -- The loop over the spaces.
 

@@ -14,29 +14,29 @@ use Rattle.core_map.specs.declared.slot.Slot.{Slot as Token}
 use Rattle.core_map.specs.declared.slot.Slot.TheVariants as tokens
 use Rattle.core_map.specs.Slots.{slot_at, listings}
 use Rattle.core_map.specs.Frames.{Frames}
-use Rattle.space_map.specs.Space.{Places, place_in}
+use Rattle.table_steps.specs.Space.{Places, place_in}
 use Rattle.page_model.specs.Pages.{frame_of, numbered}
 use Rattle.page_model.specs.Placement.{IsFrame, state_of, page_of, is_dirty, parts_of, flying, space_number, image_in, image_of}
 use Rattle.page_model.specs.Ownership.{seated_of}
-use Rattle.page_laws.proofs.Moves.Steps.{frame_in}
-use Rattle.page_laws.proofs.Ownership.Pages.{seated_alone}
+use Rattle.table_steps.proofs.PageLawsMovesSteps.{frame_in}
+use Rattle.table_steps.proofs.PageLawsOwnershipPages.{seated_alone}
 use Rattle.kernel_model.specs.Asks.{HasSpace}
-use Rattle.table_view.specs.Shown.{is_away, idle_state, state_shown, MarkShown, ShowsMark}
-use Rattle.table_view.specs.Views.{IsNamedBy, ShowsPage, ShowsSpace}
-use Rattle.kernel_tables.specs.Shown.{entry_in, space_shown}
-use Rattle.kernel_tables.specs.View.{Lists, pages_in, text_place, text_place_by, page_by, page_flown, flown_at, placement_of}
-use Rattle.kernel_tables.specs.Known.{Known}
-use Rattle.kernel_tables.specs.Alike.{IsLikeFirst, IsFilled}
-use Rattle.kernel_tables.specs.Rising.{sids_of, AreRising}
-use Rattle.kernel_tables.specs.PlaceOf.{text_if, place_of}
+use Rattle.table_steps.specs.TableViewShown.{is_away, idle_state, state_shown, MarkShown, ShowsMark}
+use Rattle.table_steps.specs.Views.{IsNamedBy, ShowsPage, ShowsSpace}
+use Rattle.table_steps.specs.KernelTablesShown.{entry_in, space_shown}
+use Rattle.table_steps.specs.View.{Lists, pages_in, text_place, text_place_by, page_by, page_flown, flown_at, placement_of}
+use Rattle.table_steps.specs.Known.{Known}
+use Rattle.table_steps.specs.Alike.{IsLikeFirst, IsFilled}
+use Rattle.table_steps.specs.Rising.{sids_of, AreRising}
+use Rattle.table_steps.specs.PlaceOf.{text_if, place_of}
 use Rattle.machine_state.specs.Showing.{ShowsCore}
-use Rattle.kernel_tables.proofs.Held.{held_at, above_zero, below_length, not_flown, holds_length}
+use Rattle.table_steps.proofs.Held.{held_at, above_zero, below_length, not_flown, holds_length}
 use Rattle.machine_state.proofs.Dirty.{dirty_is}
 use Rattle.table_steps.proofs.Residing.{Resides, resides, resides_seat}
-use Rattle.kernel_tables.proofs.Rising.{found_entry, data_of_space, stack_of_space, found_here}
-use Rattle.kernel_tables.proofs.PlaceStates.{TellsState, place_tells}
-use Rattle.kernel_tables.proofs.Entries.{text_hit}
-use Rattle.kernel_tables.proofs.UserFrames.{numbered_shown, at_each, at_sid, facts_pages, get_past, get_within, get_spaces}
+use Rattle.table_steps.proofs.Rising.{found_entry, data_of_space, stack_of_space, found_here}
+use Rattle.table_steps.proofs.PlaceStates.{TellsState, place_tells}
+use Rattle.table_steps.proofs.KernelTablesEntries.{text_hit}
+use Rattle.table_steps.proofs.UserFrames.{numbered_shown, at_each, at_sid, facts_pages, get_past, get_within, get_spaces}
 
 none_moves : (n : ℕ) → n ≡ 0 → false ≡ ltb 0 n
 none_moves n e = grind (arith, nat_tests)

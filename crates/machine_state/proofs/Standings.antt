@@ -9,14 +9,14 @@ use Rattle.swap_book.specs.Holdings.{Holdings}
 use Rattle.swap_book.specs.Book.{Book}
 use Rattle.transfer_ring.specs.declared.transfer.Transfer.{Transfer as Flight}
 use Rattle.kernel_model.specs.Kernel.{Kernel}
-use Rattle.kernel_tables.specs.declared.tables.Tables.{Tables}
+use Rattle.table_steps.specs.Tables.{Tables}
 use Rattle.machine_state.specs.declared.machine.Machine.TheInside.{Inside}
-use Rattle.kernel_tables.specs.Sourced.{ImageNamed, AreNames, AreSourced}
-use Rattle.kernel_tables.specs.Machine.{Standing, Runs, Stands, WereFound, lists_of, kernel_by, images_of, image_at, before_of}
-use Rattle.kernel_tables.specs.Alike.{AreRecords}
+use Rattle.table_steps.specs.Sourced.{ImageNamed, AreNames, AreSourced}
+use Rattle.table_steps.specs.Machine.{Standing, Runs, Stands, WereFound, lists_of, kernel_by, images_of, image_at, before_of}
+use Rattle.table_steps.specs.Alike.{AreRecords}
 use Rattle.machine_state.specs.Fields.{standing_of, HasRoom, RunsNow, RunsInside}
-use Rattle.kernel_tables.proofs.Entries.{head_of}
-use Rattle.kernel_tables.proofs.Stills.{Grown, Still, images_heads, sourced_still, still_before, still_images}
+use Rattle.table_steps.proofs.KernelTablesEntries.{head_of}
+use Rattle.table_steps.proofs.Stills.{Grown, Still, images_heads, sourced_still, still_before, still_images}
 
 -- a machine that runs, with no pieces found for an entry to come
 pub running : (m : Inside) (s : Standing) → RunsInside m → standing_of m ≡ s → s.kernel.stopped ≡ false → s.before ≡ s.kernel.holdings → Runs (kernel_by m.tables m.journal.items m.stopped) (lists_of m.tables) m.tables.book.size

@@ -5,12 +5,12 @@ use Rattle.vm_facts.specs.declared.page.Page.TheVariants.{Text}
 use Rattle.aout_image.specs.declared.Image.{Image}
 use Rattle.aout_image.specs.Image.{text_pages_of}
 use Rattle.page_model.specs.Placement.{slots_of}
-use Rattle.kernel_tables.specs.declared.named.Named.{Named}
-use Rattle.kernel_tables.specs.declared.tables.Tables.{Tables}
-use Rattle.kernel_tables.specs.Sourced.{ImageNamed, named_at}
-use Rattle.kernel_tables.specs.View.{pages_in, placement_of}
-use Rattle.kernel_tables.specs.Machine.{lists_of, image_shown, images_of}
-use Rattle.kernel_tables.proofs.Shows.{pages_hit, pages_miss, texts_shown, text_length}
+use Rattle.table_steps.specs.Named.{Named}
+use Rattle.table_steps.specs.Tables.{Tables}
+use Rattle.table_steps.specs.Sourced.{ImageNamed, named_at}
+use Rattle.table_steps.specs.View.{pages_in, placement_of}
+use Rattle.table_steps.specs.Machine.{lists_of, image_shown, images_of}
+use Rattle.table_steps.proofs.Shows.{pages_hit, pages_miss, texts_shown, text_length}
 
 -- as many as the header tells of the image at a place
 pages_at : (k i : ℕ) (ns : List Named) (n : ImageNamed) → slice_get (map image_shown ns) i ≡ Some n → pages_in k (k + i) (map (λ (x : Named). x.facts) ns) ≡ text_pages_of n.facts

@@ -12,9 +12,9 @@ use Rattle.kernel_model.specs.Kernel.{Kernel}
 use Rattle.kernel_model.specs.ChangeStep.{change_step}
 use Rattle.kernel_model.specs.Unit.{KernelState, has_lender, passing_change, with_found}
 use Rattle.kernel_model.specs.Invariant.{Invariant}
-use Rattle.kernel_laws.proofs.Kept.Changes.{change_kept}
-use Rattle.kernel_tables.specs.Machine.{Standing}
-use Rattle.kernel_tables.specs.Applying.{facts_named, passed_before, passed_behind, ChangesWhole}
+use Rattle.table_steps.proofs.KernelLawsKeptChanges.{change_kept}
+use Rattle.table_steps.specs.Machine.{Standing}
+use Rattle.table_steps.specs.Applying.{facts_named, passed_before, passed_behind, ChangesWhole}
 
 passing_is : (b : Bool) (images : List Image) (k : Kernel) (pid : ℕ) (regs : Regs) (e : Entry) (change : Change)
     → passing_change b images k pid regs e change ≡ passed_behind (change_step images (passed_before b k pid change) pid regs e change) pid change

@@ -2,10 +2,10 @@
 use Rattle.std.proofs.Common.{◌≡◌, ℕ, ap, ◌∙◌}
 use Rattle.vm_facts.specs.declared.page.Page.{Page}
 use Rattle.kernel_model.specs.Kernel.{Kernel, write_step}
-use Rattle.kernel_tables.specs.declared.tables.Tables.{Tables}
+use Rattle.table_steps.specs.Tables.{Tables}
 use Rattle.machine_state.specs.declared.machine.Machine.TheInside.{Inside}
 use Rattle.machine_state.specs.Fields.{standing_of}
-use Rattle.kernel_tables.proofs.Writes.{Writing, write_kernel, wrote_itself, wrote_tables}
+use Rattle.table_steps.proofs.Writes.{Writing, write_kernel, wrote_itself, wrote_tables}
 
 pub write_standing : (m : Inside) (u : Tables) (q : Page) (f at byte : ℕ) → Writing m.tables u q f at byte
     → standing_of (record m { tables = u }) ≡ record (standing_of m) { kernel = write_step (standing_of m).kernel q f at byte }

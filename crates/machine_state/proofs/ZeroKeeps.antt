@@ -11,13 +11,13 @@ use Rattle.kernel_model.specs.Kernel.{Kernel, StartBytes, start_bytes, put_first
 use Rattle.kernel_model.specs.Sound.{Sound, has_start}
 use Rattle.kernel_model.specs.Coupled.{Coupled, beside_kernel}
 use Rattle.flat_state.proofs.PageNames.{same_page_self}
-use Rattle.kernel_laws.proofs.Machine.Moves.{zero_coupled, start_coupled, after_other}
-use Rattle.page_laws.proofs.Bytes.Others.{filled_same}
-use Rattle.kernel_tables.specs.declared.fill.DueFill.{DueFill}
-use Rattle.kernel_tables.specs.declared.fill.DueFill.TheVariants as fills
-use Rattle.kernel_tables.specs.View.{due_shown, starts_of}
-use Rattle.kernel_tables.specs.Due.{IsFirstStart}
-use Rattle.kernel_tables.specs.Conditions.{CanZero, KeepsFlat, SameElsewhere}
+use Rattle.table_steps.proofs.Moves.{zero_coupled, start_coupled, after_other}
+use Rattle.table_steps.proofs.Others.{filled_same}
+use Rattle.table_steps.specs.DueFill.{DueFill}
+use Rattle.table_steps.specs.DueFill.TheVariants as fills
+use Rattle.table_steps.specs.View.{due_shown, starts_of}
+use Rattle.table_steps.specs.Due.{IsFirstStart}
+use Rattle.table_steps.specs.Conditions.{CanZero, KeepsFlat, SameElsewhere}
 
 pub zero_keeps : (size : ℕ) (k : Kernel) (q : Page) (ds : List DueFill) → Sound size k → CanZero k.place q → k.place.due ≡ map due_shown ds → k.starts ≡ starts_of ds → KeepsFlat k (zero_step k q)
 zero_keeps size k q ds so can due starts images image flat c = go ds due starts (subst (λ (x : List Due). IsFirstStart x q) due can.first)

@@ -10,17 +10,17 @@ use Rattle.page_model.specs.Dues.{DueStand}
 use Rattle.kernel_model.specs.Kernel.{Kernel, zero_step}
 use Rattle.kernel_model.specs.Sound.{Sound}
 use Rattle.kernel_model.specs.Numbers.{Numbered}
-use Rattle.kernel_laws.proofs.Sound.Steps.{zero_sound}
-use Rattle.kernel_laws.proofs.Sound.NumbersApart.{zero_numbered}
-use Rattle.page_laws.proofs.Due.Entries.{entry_due}
-use Rattle.kernel_tables.specs.declared.tables.Tables.{Tables}
+use Rattle.table_steps.proofs.KernelLawsSoundSteps.{zero_sound}
+use Rattle.table_steps.proofs.NumbersApart.{zero_numbered}
+use Rattle.table_steps.proofs.PageLawsDueEntries.{entry_due}
+use Rattle.table_steps.specs.Tables.{Tables}
 use Rattle.machine_state.specs.declared.machine.Machine.TheInside.{Inside}
-use Rattle.kernel_tables.specs.View.{placement_of}
-use Rattle.kernel_tables.specs.Machine.{Runs, lists_of, kernel_by}
-use Rattle.kernel_tables.specs.Conditions.{CanZero}
-use Rattle.kernel_tables.proofs.Zeros.{Zeroing}
-use Rattle.kernel_tables.proofs.Kept.{tied_still, left_due}
-use Rattle.kernel_tables.proofs.Kernels.{writable_shared, zero_kernel, zero_ties, zeroing_rest}
+use Rattle.table_steps.specs.View.{placement_of}
+use Rattle.table_steps.specs.Machine.{Runs, lists_of, kernel_by}
+use Rattle.table_steps.specs.Conditions.{CanZero}
+use Rattle.table_steps.proofs.Zeros.{Zeroing}
+use Rattle.table_steps.proofs.Kept.{tied_still, left_due}
+use Rattle.table_steps.proofs.Kernels.{writable_shared, zero_kernel, zero_ties, zeroing_rest}
 
 pub zero_runs : (m : Inside) (u v w : Tables) (token filling : Frame) (q : Page) (journal : List Entry) (stopped : Bool)
     → Runs (kernel_by m.tables m.journal.items m.stopped) (lists_of m.tables) m.tables.book.size → CanZero (placement_of (lists_of m.tables)) q → Zeroing m.tables u v w token filling q

@@ -13,15 +13,15 @@ use Rattle.page_model.specs.Dues.{DueStand}
 use Rattle.kernel_model.specs.Asks.{begin_asks}
 use Rattle.kernel_model.specs.Kernel.{HoldsSpace}
 use Rattle.kernel_model.specs.Start.{begin_step}
-use Rattle.kernel_tables.specs.declared.tables.Tables.{Tables}
-use Rattle.kernel_tables.specs.Machine.{Standing, lists_of, images_of}
-use Rattle.kernel_tables.specs.Sourced.{ImageNamed, AreNames, named_at}
-use Rattle.kernel_tables.specs.View.{placement_of}
-use Rattle.kernel_tables.specs.Tied.{Tied}
-use Rattle.kernel_tables.specs.Known.{Known}
-use Rattle.kernel_tables.specs.Rising.{sids_of}
-use Rattle.kernel_tables.specs.Alike.{AreRecords}
-use Rattle.kernel_tables.specs.Changing.{EnteredImage, HasOneMore}
+use Rattle.table_steps.specs.Tables.{Tables}
+use Rattle.table_steps.specs.Machine.{Standing, lists_of, images_of}
+use Rattle.table_steps.specs.Sourced.{ImageNamed, AreNames, named_at}
+use Rattle.table_steps.specs.View.{placement_of}
+use Rattle.table_steps.specs.Tied.{Tied}
+use Rattle.table_steps.specs.Known.{Known}
+use Rattle.table_steps.specs.Rising.{sids_of}
+use Rattle.table_steps.specs.Alike.{AreRecords}
+use Rattle.table_steps.specs.Changing.{EnteredImage, HasOneMore}
 
 -- the journal is empty, the number is the next and at most 16, and the image is one of the run's
 pub record MayStart (m : Standing) (pid image : ℕ) : Type 0 where

@@ -4,7 +4,7 @@ use Rattle.std.specs.Vec.{vec_capacity, vec_len}
 use Rattle.vm_facts.specs.declared.entry.Entry.{Entry}
 use Rattle.table_steps.specs.Joined.{instructions_in, last_says}
 use Rattle.machine_state.specs.declared.machine.Machine.TheInside.{Inside}
-use Rattle.kernel_tables.specs.Machine.{Standing, Stands, images_of, before_of, kernel_by}
+use Rattle.table_steps.specs.Machine.{Standing, Stands, images_of, before_of, kernel_by}
 
 abbrev pub standing_of : Inside → Standing
 standing_of m = record {

@@ -3,8 +3,8 @@ use Rattle.std.specs.Prelude.{◌≡◌, List}
 use Rattle.std.specs.Borrow.{MutBor}
 use Rattle.vm_facts.specs.Answers.{ByteWrite}
 use Rattle.machine_state.specs.declared.user_memory.Layout.{Layout}
-use Rattle.kernel_tables.specs.Machine.{Standing}
-use Rattle.kernel_tables.specs.UserMemory.{Wrote}
+use Rattle.table_steps.specs.Machine.{Standing}
+use Rattle.table_steps.specs.UserMemory.{Wrote}
 
 -- through one reference, in one space, these bytes were written
 abbrev pub WroteThrough : MutBor Standing → Layout → List ByteWrite → MutBor Standing → Layout → Type 0

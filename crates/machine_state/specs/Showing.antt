@@ -7,7 +7,7 @@ use Rattle.core_map.specs.declared.slot.Slot.TheVariants.{Free, Resident}
 use Rattle.core_map.specs.Slots.{slot_at, listings}
 use Rattle.core_map.specs.Frames.{Frames}
 use Rattle.page_model.specs.Placement.{Placement, IsFrame, page_of, is_dirty, parts_of, flying}
-use Rattle.table_view.specs.Shown.{is_away}
+use Rattle.table_steps.specs.TableViewShown.{is_away}
 
 -- There is a slot for each frame, behind one that is no frame's. The free list is the placement's, and no other frame is
 -- free; a free frame has the page that it still holds, if any; the frames in transfers are away, and no other is; and a

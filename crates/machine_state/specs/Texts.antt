@@ -3,8 +3,8 @@ use Rattle.std.specs.Prelude.{◌≡◌, ℕ, length, Some}
 use Rattle.vm_facts.specs.declared.page.Page.TheVariants.{Text}
 use Rattle.aout_image.specs.Image.{text_pages_of}
 use Rattle.page_model.specs.Placement.{slots_of}
-use Rattle.kernel_tables.specs.Machine.{Standing}
-use Rattle.kernel_tables.specs.Sourced.{ImageNamed, named_at}
+use Rattle.table_steps.specs.Machine.{Standing}
+use Rattle.table_steps.specs.Sourced.{ImageNamed, named_at}
 
 -- the text of each image has as many pages as its header tells
 abbrev pub TextsStand : Standing → Type 0

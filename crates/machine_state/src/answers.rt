@@ -1,22 +1,22 @@
 //! What the machine tells of its tables.
 ghost use Rattle.std.specs.Prelude.{◌≡◌, ◌↔◌, false, length, map, IsSome, IfSome, slice_get, option_copied, option_map};
 ghost use Rattle.core_map.specs.Frames.{Frames};
-ghost use Rattle.table_view.specs.Views.{ShowsSpace};
+ghost use Rattle.table_steps.specs.Views.{ShowsSpace};
 ghost use Rattle.kernel_model.specs.Asks.{HasSpace};
 ghost use Rattle.proc_table.specs.Records.{Lowest};
 ghost use Rattle.page_model.specs.Placement.{image_of, parts_of};
-ghost use Rattle.kernel_tables.specs.Machine.{image_shown};
-ghost use Rattle.kernel_tables.specs.Calls.{first_due, due_and_parent};
-ghost use Rattle.kernel_tables.specs.Sharing.{IsSharer};
-ghost use Rattle.kernel_tables.specs.Sourced.{IsFlightSourced};
-ghost use Rattle.kernel_tables.specs.View.{transfer_shown};
+ghost use Rattle.table_steps.specs.Machine.{image_shown};
+ghost use Rattle.table_steps.specs.Calls.{first_due, due_and_parent};
+ghost use Rattle.table_steps.specs.Sharing.{IsSharer};
+ghost use Rattle.table_steps.specs.Sourced.{IsFlightSourced};
+ghost use Rattle.table_steps.specs.View.{transfer_shown};
 ghost use Rattle.machine_state.specs.Showing.{ShowsCore};
 
 use crate::machine::Machine;
 use core_map::CoreMap;
-use kernel_tables::Named;
-use space_map::SpaceMap;
 use swap_book::Held;
+use table_steps::kernel_tables::Named;
+use table_steps::space_map::SpaceMap;
 use transfer_ring::Transfer;
 use vm_facts::{Page, Params};
 

@@ -4,7 +4,7 @@ ghost use Rattle.vm_facts.specs.declared.entry.Entry.TheVariants.{Refused};
 ghost use Rattle.swap_book.specs.Holdings.{Holdings};
 ghost use Rattle.kernel_model.specs.Kernel.{note_step};
 ghost use Rattle.machine_state.specs.Wants.{CanAsk, found_for, fits_for};
-ghost use Rattle.kernel_tables.specs.Conditions.{HasStopped, KeepsFlat, SameEverywhere};
+ghost use Rattle.table_steps.specs.Conditions.{HasStopped, KeepsFlat, SameEverywhere};
 
 use crate::machine::Machine;
 use crate::pieces::{self, Want};

@@ -7,10 +7,10 @@ ghost use Rattle.flat_state.specs.declared.change.Change.TheVariants.{Keep};
 ghost use Rattle.kernel_model.specs.Kernel.{note_step};
 ghost use Rattle.kernel_model.specs.ChangeStep.{change_step, pass_step, ran_by};
 ghost use Rattle.kernel_model.specs.Sound.{lives};
-ghost use Rattle.kernel_tables.specs.Applying.{CanApply, ChangesWhole, MayPass, facts_named};
-ghost use Rattle.kernel_tables.specs.Calls.{IsNote, life_in};
-ghost use Rattle.kernel_tables.specs.Conditions.{HasStopped, KeepsFlat, ChangesFlat, SameEverywhere};
-ghost use Rattle.kernel_tables.specs.UserMemory.{CanLend};
+ghost use Rattle.table_steps.specs.Applying.{CanApply, ChangesWhole, MayPass, facts_named};
+ghost use Rattle.table_steps.specs.Calls.{IsNote, life_in};
+ghost use Rattle.table_steps.specs.Conditions.{HasStopped, KeepsFlat, ChangesFlat, SameEverywhere};
+ghost use Rattle.table_steps.specs.UserMemory.{CanLend};
 
 use crate::machine::Machine;
 use flat_state::Change;

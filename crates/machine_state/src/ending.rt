@@ -1,6 +1,6 @@
 //! The end of a machine, which spends all tokens.
 use crate::machine::Machine;
-use kernel_tables::Tables;
+use table_steps::kernel_tables::Tables;
 use transfer_ring::{Inbound, Outbound, Transfer, TransferRing};
 
 // The frames of pages that were being read end.

@@ -1,12 +1,12 @@
 ghost use Rattle.std.specs.Prelude.{◌≡◌, ℕ, List, Some};
-ghost use Rattle.user_vax.specs.Laws.{Covers};
+ghost use Rattle.flat_model.specs.Laws.{Covers};
 ghost use Rattle.flat_state.specs.Space.{Space, answers_of};
 ghost use Rattle.flat_state.specs.Flat.{FlatState, NamedImage, image_numbered, spaces_of};
 ghost use Rattle.page_model.specs.Pages.{numbered};
 ghost use Rattle.kernel_model.specs.Kernel.{Kernel};
 ghost use Rattle.kernel_model.specs.Sound.{TextFits};
 ghost use Rattle.kernel_model.specs.Coupled.{Coupled, text_of};
-ghost use Rattle.kernel_tables.specs.UserMemory.{kernel_answers};
+ghost use Rattle.table_steps.specs.UserMemory.{kernel_answers};
 
 /// Where a machine stands for a flat state, the memory of each of its spaces answers what the flat space does, at every
 /// address where it doesn't miss; so do its tests of writes.

@@ -14,9 +14,9 @@ mod starting;
 mod swapping;
 mod user_memory;
 
-pub use kernel_tables::Named;
 pub use laws::memory_is_flat;
 pub use machine::Machine;
 pub use pieces::{Want, image_wants};
+pub use table_steps::kernel_tables::Named;
 pub use table_steps::notes::or_stop;
 pub use user_memory::SpaceMemory;

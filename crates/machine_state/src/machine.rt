@@ -1,28 +1,28 @@
 //! The machine and its steps.
 ghost use Rattle.std.specs.Prelude.{◌≡◌, ◌⊎◌, ◌<◌, ◌≤◌, ◌↔◌, true, false, [], length, map, None, IfOk, OnOk, OnErr, IfErr, Ok, Err};
-ghost use Rattle.kernel_tables.specs.New.{fresh_kernel, AreSound};
+ghost use Rattle.table_steps.specs.New.{fresh_kernel, AreSound};
 ghost use Rattle.kernel_model.specs.Kernel.{zero_step, get_step, reclaim_step};
 ghost use Rattle.page_model.specs.Dues.{DueStand};
 ghost use Rattle.flat_state.specs.PageNames.{pages_from};
 ghost use Rattle.kernel_model.specs.Numbers.{Numbered};
 ghost use Rattle.kernel_model.specs.Sound.{Sound};
-ghost use Rattle.kernel_tables.specs.Machine.{image_shown};
-ghost use Rattle.kernel_tables.specs.Sourced.{AreNames};
+ghost use Rattle.table_steps.specs.Machine.{image_shown};
+ghost use Rattle.table_steps.specs.Sourced.{AreNames};
 ghost use Rattle.machine_state.specs.Texts.{TextsStand};
 ghost use Rattle.page_model.specs.Swapper.{is_settled};
-ghost use Rattle.kernel_tables.specs.Settled.{SettledBy, IsSameBeside, StopsSettling};
-ghost use Rattle.kernel_tables.specs.Files.{AreFiles};
-ghost use Rattle.kernel_tables.specs.Done.{sources, IsDone, KeepsThrough, ImageAfter, SwapAfter, StopsFor, CountsPages, CountsReads, CountsWrites};
-ghost use Rattle.kernel_tables.specs.Conditions.{CanZero, CanBringIn, CanReclaim, HasStopped, KeepsFlat, SameElsewhere, SameEverywhere, SameOutside};
+ghost use Rattle.table_steps.specs.Settled.{SettledBy, IsSameBeside, StopsSettling};
+ghost use Rattle.table_steps.specs.Files.{AreFiles};
+ghost use Rattle.table_steps.specs.Done.{sources, IsDone, KeepsThrough, ImageAfter, SwapAfter, StopsFor, CountsPages, CountsReads, CountsWrites};
+ghost use Rattle.table_steps.specs.Conditions.{CanZero, CanBringIn, CanReclaim, HasStopped, KeepsFlat, SameElsewhere, SameEverywhere, SameOutside};
 
 use core_map::CoreMap;
 use io_edge::{Files, SwapDev};
-use kernel_tables::{Named, Spaces, Tables, fill_frame};
 use proc_table::ProcTable;
 use std::alloc::Global;
 use std::collections::VecDeque;
 use std::marker::Model;
 use swap_book::SwapBook;
+use table_steps::kernel_tables::{Named, Spaces, Tables, fill_frame};
 use table_steps::{landing, notes, reading};
 use text_table::TextTable;
 use transfer_ring::{Finished, Transfer, TransferRing};
@@ -45,7 +45,7 @@ pub struct Machine {
 }
 
 impl Model for Machine {
-    ghost use Rattle.kernel_tables.specs.Machine.{Standing};
+    ghost use Rattle.table_steps.specs.Machine.{Standing};
 
     ghost Value = { Standing };
 

@@ -6,15 +6,15 @@ ghost use Rattle.vm_facts.specs.declared.entry.Entry.TheVariants.{Hands};
 ghost use Rattle.flat_state.specs.Journal.{append};
 ghost use Rattle.kernel_model.specs.Kernel.{copy_step, push_step, hand_step};
 ghost use Rattle.core_map.specs.Slots.{slot_at, is_resident};
-ghost use Rattle.kernel_tables.specs.Calls.{CanCopy, CanPush, CanMove};
-ghost use Rattle.kernel_tables.specs.Conditions.{HasStopped, KeepsFlat, SameElsewhere, SameEverywhere};
-ghost use Rattle.kernel_tables.specs.Launches.{CopiedFrame};
-ghost use Rattle.kernel_tables.specs.Shown.{entry_in, is_frame, frame_named};
-ghost use Rattle.kernel_tables.specs.Steps.{AreTextsHere, dirty_shown};
+ghost use Rattle.table_steps.specs.Calls.{CanCopy, CanPush, CanMove};
+ghost use Rattle.table_steps.specs.Conditions.{HasStopped, KeepsFlat, SameElsewhere, SameEverywhere};
+ghost use Rattle.table_steps.specs.Launches.{CopiedFrame};
+ghost use Rattle.table_steps.specs.KernelTablesShown.{entry_in, is_frame, frame_named};
+ghost use Rattle.table_steps.specs.Steps.{AreTextsHere, dirty_shown};
 
 use crate::machine::Machine;
 use frame_state::Resident;
-use kernel_tables::{Tables, number_of};
+use table_steps::kernel_tables::{Tables, number_of};
 use table_steps::{joining, landing, launching, notes};
 use vm_facts::{Entry, Page, Stop};
 

@@ -2,11 +2,11 @@
 ghost use Rattle.std.specs.Prelude.{◌≡◌, ◌↔◌, ◌<◌, false, IsSome, IfSome};
 ghost use Rattle.core_map.specs.Slots.{slot_at};
 ghost use Rattle.page_model.specs.Placement.{IsThere, state_of, filling_of};
-ghost use Rattle.table_view.specs.Shown.{is_away, idle_state, state_shown};
-ghost use Rattle.kernel_tables.specs.Alike.{AreRecords};
-ghost use Rattle.kernel_tables.specs.Lives.{AreMarked};
-ghost use Rattle.kernel_tables.specs.Machine.{processes_of, residents_of};
-ghost use Rattle.kernel_tables.specs.PlaceOf.{place_of, is_blank};
+ghost use Rattle.table_steps.specs.TableViewShown.{is_away, idle_state, state_shown};
+ghost use Rattle.table_steps.specs.Alike.{AreRecords};
+ghost use Rattle.table_steps.specs.Lives.{AreMarked};
+ghost use Rattle.table_steps.specs.Machine.{processes_of, residents_of};
+ghost use Rattle.table_steps.specs.PlaceOf.{place_of, is_blank};
 
 use crate::machine::Machine;
 use core_map::{CoreMap, Whose};

@@ -3,15 +3,15 @@ ghost use Rattle.std.specs.Prelude.{◌≡◌, ◌<◌, true, false, [], ◌∷�
 ghost use Rattle.aout_image.specs.Image.{IsSound};
 ghost use Rattle.flat_state.specs.Flat.{start_page, start_regs};
 ghost use Rattle.machine_state.specs.Beginning.{MayStart, StartedFirst, FindsNoPlace, MayLookFirst, LookedFirst, MayEnterFirst, BeganFirst};
-ghost use Rattle.kernel_tables.specs.Conditions.{HasBrokenOff};
+ghost use Rattle.table_steps.specs.Conditions.{HasBrokenOff};
 
 use crate::machine::Machine;
 use crate::pieces::{self, Want, image_wants};
 use flat_model::{Arguments, start_page, start_regs};
-use kernel_tables::{Named, Tables};
 use proc_table::Life;
 use std::alloc::Global;
 use swap_book::Owner;
+use table_steps::kernel_tables::{Named, Tables};
 use table_steps::notes;
 use vm_facts::{Bytes, NoMemory, Regs, Stop};
 

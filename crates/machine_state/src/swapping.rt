@@ -6,17 +6,17 @@ ghost use Rattle.swap_book.specs.declared.Owner.TheVariants.{U as UOwner};
 ghost use Rattle.swap_book.specs.Holdings.{block_in};
 ghost use Rattle.page_model.specs.Pages.{numbered};
 ghost use Rattle.kernel_model.specs.Kernel.{out_step};
-ghost use Rattle.kernel_tables.specs.Lives.{space_held};
-ghost use Rattle.kernel_tables.specs.Calls.{CanGoOut, CanComeIn};
-ghost use Rattle.kernel_tables.specs.Conditions.{HasStopped};
-ghost use Rattle.kernel_tables.specs.Done.{CountsReads, CountsWrites};
-ghost use Rattle.kernel_tables.specs.Swapping.{IsIn, WritesU, SwapBehind, CallsNone, KeepsOut, KeepsIn, MovedRecord, IsUPage};
+ghost use Rattle.table_steps.specs.Lives.{space_held};
+ghost use Rattle.table_steps.specs.Calls.{CanGoOut, CanComeIn};
+ghost use Rattle.table_steps.specs.Conditions.{HasStopped};
+ghost use Rattle.table_steps.specs.Done.{CountsReads, CountsWrites};
+ghost use Rattle.table_steps.specs.Swapping.{IsIn, WritesU, SwapBehind, CallsNone, KeepsOut, KeepsIn, MovedRecord, IsUPage};
 
 use crate::machine::Machine;
 use io_edge::{Moved, SwapDev};
-use kernel_tables::{Tables, record_of, regs_in, u_page};
 use proc_table::{Life, Proc, ProcTable};
 use swap_book::Owner;
+use table_steps::kernel_tables::{Tables, record_of, regs_in, u_page};
 use table_steps::notes;
 use vm_facts::{Entry, Regs, Stop};
 

@@ -8,13 +8,13 @@ ghost use Rattle.page_model.specs.Placement.{space_number, state_of, image_of};
 ghost use Rattle.page_model.specs.PageBytes.{IsWritable};
 ghost use Rattle.page_model.specs.Ownership.{OwnsFrames};
 ghost use Rattle.kernel_model.specs.Kernel.{frame_bytes, write_step, HoldsSpace};
-ghost use Rattle.kernel_tables.specs.Calls.{life_in};
-ghost use Rattle.kernel_tables.specs.UserMemory.{spot_in, page_in, read_page, valid_frame, may_write_by, NamesFrames, IsOwnPage, IsLaidOut, HasLengths, CanLend, IsHeld, AreWhole, WrotePage};
+ghost use Rattle.table_steps.specs.Calls.{life_in};
+ghost use Rattle.table_steps.specs.UserMemory.{spot_in, page_in, read_page, valid_frame, may_write_by, NamesFrames, IsOwnPage, IsLaidOut, HasLengths, CanLend, IsHeld, AreWhole, WrotePage};
 
 use crate::machine::Machine;
 use flat_state::{PAGE, Spot, locate};
-use kernel_tables::Spaces;
-use space_map::SpaceMap;
+use table_steps::kernel_tables::Spaces;
+use table_steps::space_map::SpaceMap;
 use vm_facts::{ByteRead, MayWrite, Memory, Page};
 
 /// Where a space stands among all, and what its addresses name: the lengths of its segments are in bytes.
@@ -252,7 +252,7 @@ impl SpaceMemory<'_> {
 }
 
 impl Memory for SpaceMemory<'_> {
-    ghost use Rattle.kernel_tables.specs.UserMemory.{kernel_answers};
+    ghost use Rattle.table_steps.specs.UserMemory.{kernel_answers};
     ghost use Rattle.machine_state.specs.Lent.{WroteThrough};
 
     ghost answers = { λ m. kernel_answers m.machine.now.kernel m.layout.sid };

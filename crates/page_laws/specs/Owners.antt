@@ -4,8 +4,8 @@ use Rattle.flat_state.specs.Flat.{FlatState, process_of}
 use Rattle.vm_facts.specs.declared.page.Page.{Page}
 use Rattle.vm_facts.specs.declared.entry.Entry.{Entry}
 use Rattle.aout_image.specs.declared.Image.{Image}
-use Rattle.swap_book.specs.Holdings.{Holdings}
-use Rattle.swap_book.specs.Book.{IsBook}
+use Rattle.page_model.specs.Holdings.{Holdings}
+use Rattle.page_model.specs.Book.{IsBook}
 use Rattle.flat_state.specs.declared.change.Change.{Change as AnyChange}
 use Rattle.page_model.specs.Placement.{Placement, Starting, start_placement}
 use Rattle.page_model.specs.Moves.{touch_all}

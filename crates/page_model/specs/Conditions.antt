@@ -13,7 +13,7 @@ use Rattle.flat_state.specs.declared.change.Change.TheVariants.{Resize, Fork, Ex
 use Rattle.page_model.specs.Place.{data_count, stack_count, remove_space, enter_image, facts_numbered}
 use Rattle.vm_facts.specs.Lists.{times}
 use Rattle.page_model.specs.Placement.{Placement, Transfer, space_number, state_of, IsThere, sharers, image_of}
-use Rattle.aout_image.specs.declared.Image.{Image}
+use Rattle.flat_state.specs.AoutImageImage.{Image}
 
 -- something is so of each page
 abbrev pub EachPage : (Page → Type 0) → List Page → Type 0

@@ -1,3 +1,9 @@
+pub use Rattle.swap_book.specs.Book
+pub use Rattle.swap_book.specs.Holdings
+pub use Rattle.swap_book.specs.Owners
+pub use Rattle.swap_book.specs.Placing
+pub use Rattle.swap_book.specs.declared.Owner
+pub use Rattle.swap_book.specs.Chunks
 pub mod Frames
 pub mod Pages
 pub mod Placement

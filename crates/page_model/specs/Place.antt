@@ -6,7 +6,7 @@ use Rattle.vm_facts.specs.declared.page.PageState.{PageState}
 use Rattle.vm_facts.specs.declared.page.PageState.TheVariants.{Unfilled}
 use Rattle.vm_facts.specs.declared.entry.Entry.{Entry}
 use Rattle.vm_facts.specs.declared.entry.Entry.TheVariants as entries
-use Rattle.aout_image.specs.declared.Image.{Image}
+use Rattle.flat_state.specs.AoutImageImage.{Image}
 use Rattle.flat_state.specs.Flat.{Holding, Holds, Lends, Zombie, Process, FlatState, NamedImage, process_of}
 use Rattle.flat_state.specs.Change.{is_borrower}
 use Rattle.flat_state.specs.declared.change.Change.{Change}

@@ -4,8 +4,8 @@ use Rattle.vm_facts.specs.declared.page.Page.{Page}
 use Rattle.vm_facts.specs.declared.page.Page.TheVariants.{Data, Stack, Text}
 use Rattle.vm_facts.specs.declared.page.PageState.{PageState}
 use Rattle.vm_facts.specs.declared.page.PageState.TheVariants.{Unfilled, Coming, Going}
-use Rattle.aout_image.specs.declared.Image.{Image}
-use Rattle.aout_image.specs.Image.{data_given, data_pages_of, text_pages_of}
+use Rattle.flat_state.specs.AoutImageImage.{Image}
+use Rattle.flat_state.specs.AoutImageImageSpecs.{data_given, data_pages_of, text_pages_of}
 use Rattle.page_model.specs.Pages.{Slot, Filling, Zeros, OfImage, SpacePages, TextPages, numbered, changed, data_in, stack_in, text_in, with_data, with_stack, with_text, no_slot, is_dirty_by}
 use Rattle.flat_state.specs.PageNames.{number_of, same_page}
 use Rattle.page_model.specs.Frames.{at_frame, count_up}

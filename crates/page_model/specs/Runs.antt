@@ -4,7 +4,7 @@ use Rattle.vm_facts.specs.declared.page.Page.{Page}
 use Rattle.vm_facts.specs.declared.page.Page.TheVariants.{Data, Stack, Text}
 use Rattle.vm_facts.specs.declared.page.PageState.{PageState}
 use Rattle.vm_facts.specs.declared.page.PageState.TheVariants.{Unfilled, Valid, Invalid, OnSwap}
-use Rattle.swap_dmap.specs.Chunks.{spot, text_spot}
+use Rattle.swap_book.specs.Chunks.{spot, text_spot}
 use Rattle.flat_state.specs.PageNames.{number_of, beside, pages_from, is_among}
 use Rattle.page_model.specs.Pages.{is_on_swap, is_unfilled}
 use Rattle.vm_facts.specs.Lists.{times}

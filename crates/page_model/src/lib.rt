@@ -19,3 +19,5 @@
 //!
 //! The laws on all these are the clauses of `page_laws`.
 #![tactic(auto)]
+
+pub use swap_book;

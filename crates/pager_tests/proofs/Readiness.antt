@@ -38,11 +38,11 @@ use Rattle.machine_state.proofs.FirstBegins.{shown_facts}
 use Rattle.paging_units.specs.Made.{Ground, ground, MakesUnit, Makes, SameBeside}
 use Rattle.paging_units.specs.LastMoves.{last_moves, moves_counted}
 use Rattle.paging_units.proofs.Units.{made_same, makes_whole, made_one}
-use Rattle.clock_hands.specs.Forced.{Forced}
-use Rattle.clock_hands.specs.Moved.{Moved}
-use Rattle.fault_fill.specs.Serving.{CanServe}
-use Rattle.fault_fill.specs.Answers.{ServedAs, ServedNow}
-use Rattle.fault_fill.specs.declared.pages.Served.{Served}
+use Rattle.proc_calls.specs.Forced.{Forced}
+use Rattle.proc_calls.specs.Moved.{Moved}
+use Rattle.proc_calls.specs.Serving.{CanServe}
+use Rattle.proc_calls.specs.Answers.{ServedAs, ServedNow}
+use Rattle.proc_calls.specs.FaultFillPagesServed.{Served}
 use Rattle.pager_tests.specs.Ready.{IsReady, HasStarted}
 use Rattle.pager_tests.proofs.SmallMachine.{shown_files}
 

@@ -10,14 +10,14 @@ ghost use Rattle.machine_state.specs.New.{AreSound};
 ghost use Rattle.machine_state.specs.Sourced.{ImageNamed, AreNames};
 ghost use Rattle.machine_state.specs.Machine.{image_shown};
 ghost use Rattle.paging_units.specs.LastMoves.{last_moves, moves_counted};
-ghost use Rattle.fault_fill.specs.Serving.{CanServe};
+ghost use Rattle.proc_calls.specs.Serving.{CanServe};
 ghost use Rattle.pager_tests.specs.Ready.{IsReady, HasStarted};
 
 use aout_image::{Image, Kind};
-use clock_hands::{make_room, move_hands};
-use fault_fill::{Came, serve_page, serve_page_now};
 use io_edge::{Files, MemFiles, MemSink, MemSwap, Moved, SwapDev};
 use machine_state::{Machine, Named};
+use proc_calls::clock_hands::{make_room, move_hands};
+use proc_calls::fault_fill::{Came, serve_page, serve_page_now};
 use run_text::write_text;
 use std::alloc::{AllocError, Global};
 use std::process::Abort;

@@ -1,3 +1,9 @@
+pub use Rattle.run_laws.proofs.Flows
+pub use Rattle.run_laws.proofs.Lawful
+pub use Rattle.run_laws.proofs.Machines
+pub use Rattle.run_laws.proofs.Plain
+pub use Rattle.run_laws.proofs.SwapImages
+pub use Rattle.run_laws.proofs.Wholes
 pub mod Called
 pub mod SmallReads
 pub mod Lost

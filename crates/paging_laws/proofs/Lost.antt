@@ -17,7 +17,7 @@ use Rattle.page_laws.proofs.Moves.Stays.{Steady}
 use Rattle.page_laws.proofs.Leaving.Changes.{change_frame, touch_all_steady}
 use Rattle.page_laws.proofs.Leaving.Entries.{entry_frame}
 use Rattle.page_laws.proofs.Leaving.Held.{entry_held}
-use Rattle.kernel_laws.proofs.Sound.Allowed.{new_number}
+use Rattle.run_laws.proofs.KernelLawsSoundAllowed.{new_number}
 use Rattle.flat_model.specs.Run.{process_of_entry, step_at}
 use Rattle.run_model.specs.State.{State}
 use Rattle.run_model.specs.After.{pages_written, place_at, after}

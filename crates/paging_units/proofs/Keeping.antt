@@ -7,7 +7,7 @@ use Rattle.flat_state.specs.Flat.{FlatState, NamedImage}
 use Rattle.page_model.specs.Placement.{Placement}
 use Rattle.kernel_model.specs.Kernel.{Kernel}
 use Rattle.kernel_model.specs.Sound.{TextFits}
-use Rattle.kernel_laws.proofs.Machine.Shapes.{Shaped, shaped_self, shaped_both, sizes_kept, filled_shaped, get_run_shaped, reclaim_shaped, put_step_shaped, moves_shaped, done_shaped}
+use Rattle.machine_state.proofs.Shapes.{Shaped, shaped_self, shaped_both, sizes_kept, filled_shaped, get_run_shaped, reclaim_shaped, put_step_shaped, moves_shaped, done_shaped}
 use Rattle.vm_facts.specs.declared.entry.Entry.TheVariants as entries
 use Rattle.flat_state.specs.PageNames.{number_of, pages_from}
 use Rattle.page_model.specs.Serve.{read_errand}

@@ -8,7 +8,7 @@ use Rattle.page_model.specs.Placement.{Placement, Transfer}
 use Rattle.page_model.specs.Hands.{hand_moves}
 use Rattle.page_model.specs.Place.{due_after, place_entry}
 use Rattle.page_model.specs.Serve.{force, force_by, force_entry, Forces, serve_unit, serve_step}
-use Rattle.page_laws.proofs.Moves.Units.{unit_is, entry_steps}
+use Rattle.machine_state.proofs.Units.{unit_is, entry_steps}
 use Rattle.kernel_model.specs.Kernel.{Kernel}
 use Rattle.io_edge.specs.FileHolding.{NamedFile}
 use Rattle.machine_state.specs.Sourced.{ImageNamed}

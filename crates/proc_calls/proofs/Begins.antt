@@ -24,7 +24,7 @@ use Rattle.kernel_model.specs.Asks.{HasSpace}
 use Rattle.kernel_model.specs.Sound.{lives}
 use Rattle.kernel_model.specs.ChangeStep.{life_of_proc, space_of_life, gave_back, pass_step}
 use Rattle.kernel_model.specs.Unit.{has_lender, lender_among}
-use Rattle.kernel_laws.proofs.Sound.Steps.{pass_lives}
+use Rattle.machine_state.proofs.KernelLawsSoundSteps.{pass_lives}
 use Rattle.machine_state.specs.Calls.{life_in}
 use Rattle.machine_state.specs.Machine.{Standing}
 use Rattle.machine_state.specs.Sourced.{ImageNamed}

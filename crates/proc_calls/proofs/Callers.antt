@@ -10,7 +10,7 @@ use Rattle.flat_state.specs.declared.change.Change.TheVariants.{Keep, Reap, Slee
 use Rattle.kernel_model.specs.Kernel.{Life, HoldsSpace, Kernel, Proc}
 use Rattle.kernel_model.specs.Sound.{has_life, lives_in, lives}
 use Rattle.kernel_model.specs.ChangeStep.{life_of_proc, with_proc, change_if, change_step}
-use Rattle.kernel_laws.proofs.Machine.Processes.{with_at}
+use Rattle.machine_state.proofs.KernelLawsMachineProcesses.{with_at}
 use Rattle.page_model.specs.Pages.{numbered}
 use Rattle.machine_state.proofs.ProcessLists.{found_number}
 use Rattle.machine_state.proofs.Lives.{pid_of}

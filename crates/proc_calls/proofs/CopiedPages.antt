@@ -18,12 +18,12 @@ use Rattle.machine_state.specs.Files.{AreFiles}
 use Rattle.machine_state.specs.Calls.{first_due}
 use Rattle.machine_state.specs.Conditions.{KeepsFlat}
 use Rattle.machine_state.specs.Done.{KeepsThrough}
-use Rattle.paging_units.specs.LastMoves.{last_moves}
-use Rattle.paging_units.specs.Made.{ground, SameBeside}
-use Rattle.paging_units.specs.Stops.{StopsAt}
-use Rattle.paging_units.proofs.Units.{made_same, makes_whole}
-use Rattle.paging_units.proofs.Keeping.{made_shaped, keeps_flat, keeps_both}
-use Rattle.clock_hands.specs.Forced.{Forced, StopsForcing}
+use Rattle.fault_fill.specs.LastMoves.{last_moves}
+use Rattle.fault_fill.specs.Made.{ground, SameBeside}
+use Rattle.fault_fill.specs.Stops.{StopsAt}
+use Rattle.fault_fill.proofs.PagingUnitsUnits.{made_same, makes_whole}
+use Rattle.fault_fill.proofs.Keeping.{made_shaped, keeps_flat, keeps_both}
+use Rattle.fault_fill.specs.Forced.{Forced, StopsForcing}
 use Rattle.fault_fill.specs.Answers.{ServesNow}
 use Rattle.proc_calls.specs.Copying.{in_space, AreCopiesFrom, IsCopyFirst, CopiesPage, StopsPage, GoesOn, CopiesAll, HasCopied, StopsCopying}
 use Rattle.proc_calls.proofs.Copies.{Stay, stay_both, serves_stay, forces_stay, can_serve, filled_frames, last_copy, first_gone}

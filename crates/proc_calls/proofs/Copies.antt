@@ -28,8 +28,8 @@ use Rattle.machine_state.specs.Calls.{CanCopy}
 use Rattle.machine_state.specs.PlaceOf.{is_blank}
 use Rattle.fault_fill.specs.Serving.{CanServe}
 use Rattle.fault_fill.proofs.Serving.{serve_dues, still_served}
-use Rattle.paging_units.proofs.LastMoves.{last_of}
-use Rattle.paging_units.specs.LastMoves.{last_moves}
+use Rattle.fault_fill.proofs.LastMoves.{last_of}
+use Rattle.fault_fill.specs.LastMoves.{last_moves}
 use Rattle.proc_calls.specs.Copying.{IsCopyFirst}
 
 -- What is due first.

@@ -18,11 +18,11 @@ use Rattle.machine_state.specs.Machine.{Standing}
 use Rattle.machine_state.specs.Due.{IsFirstStart}
 use Rattle.machine_state.specs.Conditions.{CanZero, KeepsFlat}
 use Rattle.machine_state.specs.Done.{KeepsThrough}
-use Rattle.paging_units.specs.Made.{SameBeside, ground}
-use Rattle.paging_units.specs.Stops.{StopsAt}
-use Rattle.paging_units.proofs.Units.{made_same, makes_whole}
-use Rattle.paging_units.proofs.Keeping.{made_shaped, keeps_flat, keeps_both}
-use Rattle.clock_hands.specs.Forced.{Forced}
+use Rattle.fault_fill.specs.Made.{SameBeside, ground}
+use Rattle.fault_fill.specs.Stops.{StopsAt}
+use Rattle.fault_fill.proofs.PagingUnitsUnits.{made_same, makes_whole}
+use Rattle.fault_fill.proofs.Keeping.{made_shaped, keeps_flat, keeps_both}
+use Rattle.fault_fill.specs.Forced.{Forced}
 use Rattle.proc_calls.specs.Filling.{IsStartFirst, FillsStart, StopsStart}
 
 -- what is due stays as a frame is forced

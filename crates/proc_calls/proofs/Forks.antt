@@ -30,15 +30,15 @@ use Rattle.kernel_model.specs.Sound.{Sound}
 use Rattle.kernel_model.specs.Numbers.{Numbered}
 use Rattle.kernel_model.specs.Asks.{asked, HasSpace}
 use Rattle.kernel_model.specs.ChangeStep.{space_of_life, life_of_proc, change_if, change_step}
-use Rattle.kernel_laws.proofs.Flat.Numbered.{absent_none, below_absent}
+use Rattle.machine_state.proofs.Numbered.{absent_none, below_absent}
 use Rattle.machine_state.specs.declared.pieces.Want.{Want}
 use Rattle.machine_state.specs.Wants.{wanted_of}
 use Rattle.machine_state.specs.Machine.{Standing}
 use Rattle.machine_state.specs.Applying.{CanApply, MayAct, facts_named}
 use Rattle.machine_state.specs.Conditions.{KeepsFlat}
 use Rattle.machine_state.specs.UserMemory.{CanLend}
-use Rattle.paging_units.specs.LastMoves.{last_moves}
-use Rattle.paging_units.proofs.LastMoves.{last_of}
+use Rattle.fault_fill.specs.LastMoves.{last_moves}
+use Rattle.fault_fill.proofs.LastMoves.{last_of}
 use Rattle.proc_calls.specs.declared.replying.Called.{Called}
 use Rattle.proc_calls.specs.Answered.{Answered, Replied}
 use Rattle.proc_calls.specs.Callers.{proc_in, space_held, IsCaller}

@@ -18,9 +18,9 @@ use Rattle.kernel_model.specs.Asks.{HasSpace}
 use Rattle.kernel_model.specs.Sound.{has_life, lives_in, lives}
 use Rattle.kernel_model.specs.ChangeStep.{life_of_proc, space_of_life, gave_back, pass_step}
 use Rattle.kernel_model.specs.Unit.{has_lender, lender_among}
-use Rattle.kernel_laws.proofs.Flat.Numbered.{none_absent, absent_none}
-use Rattle.kernel_laws.proofs.Sound.NumbersApart.{SameSpaces, entry_numbers}
-use Rattle.kernel_laws.proofs.Sound.Steps.{pass_lives}
+use Rattle.machine_state.proofs.Numbered.{none_absent, absent_none}
+use Rattle.machine_state.proofs.NumbersApart.{SameSpaces, entry_numbers}
+use Rattle.machine_state.proofs.KernelLawsSoundSteps.{pass_lives}
 use Rattle.machine_state.specs.Calls.{life_in}
 use Rattle.machine_state.specs.Machine.{Standing}
 use Rattle.machine_state.specs.Applying.{CanApply, MayAct}

@@ -1,3 +1,5 @@
+pub use Rattle.fault_fill.proofs.Touching
+pub use Rattle.vfork_pass.proofs.Lives
 pub mod Callers
 pub mod Leaving
 pub mod Exits

@@ -28,8 +28,8 @@ use Rattle.kernel_model.specs.Sound.{Sound, lives_in, lives}
 use Rattle.kernel_model.specs.Numbers.{Numbered}
 use Rattle.kernel_model.specs.ChangeStep.{with_proc, child_proc, life_of_proc, change_if, change_step, pass_step}
 use Rattle.kernel_model.specs.Asks.{asked}
-use Rattle.kernel_laws.proofs.Flat.Numbered.{has_number, absent_none, below_absent, pushed_new, pushed_found}
-use Rattle.kernel_laws.proofs.Machine.Processes.{with_at, with_not}
+use Rattle.machine_state.proofs.Numbered.{has_number, absent_none, below_absent, pushed_new, pushed_found}
+use Rattle.machine_state.proofs.KernelLawsMachineProcesses.{with_at, with_not}
 use Rattle.machine_state.specs.declared.pieces.Want.{Want}
 use Rattle.machine_state.specs.Wants.{wanted_of, found_for, fits_for}
 use Rattle.machine_state.specs.Calls.{life_in}

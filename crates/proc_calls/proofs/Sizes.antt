@@ -30,8 +30,8 @@ use Rattle.kernel_model.specs.ChangeStep.{space_of_life, life_of_proc}
 use Rattle.page_model.specs.Pages.{numbered}
 use Rattle.page_laws.proofs.Swapper.PuttingOut.{same_out}
 use Rattle.kernel_model.specs.Sound.{Sound}
-use Rattle.kernel_laws.proofs.Pieces.GivenBack.{pieces_mono, drop_past}
-use Rattle.table_view.specs.Views.{ShowsPage, ShowsSpace}
+use Rattle.machine_state.proofs.GivenBack.{pieces_mono, drop_past}
+use Rattle.machine_state.specs.Views.{ShowsPage, ShowsSpace}
 use Rattle.machine_state.proofs.Entries.{data_hit, stack_hit, text_hit}
 use Rattle.machine_state.proofs.Shows.{length_map}
 use Rattle.machine_state.proofs.UserFrames.{get_within, get_past}

@@ -29,8 +29,8 @@ use Rattle.kernel_model.specs.Kernel.{Kernel}
 use Rattle.kernel_model.specs.Sound.{Sound}
 use Rattle.kernel_model.specs.Numbers.{Numbered}
 use Rattle.kernel_model.specs.Asks.{text_asked, image_pieces, image_asked}
-use Rattle.kernel_laws.proofs.Flat.Numbered.{absent_none}
-use Rattle.kernel_laws.proofs.Sound.Allowed.{new_number}
+use Rattle.machine_state.proofs.Numbered.{absent_none}
+use Rattle.machine_state.proofs.KernelLawsSoundAllowed.{new_number}
 use Rattle.machine_state.specs.declared.pieces.Want.{Want}
 use Rattle.machine_state.specs.Named.{Named}
 use Rattle.machine_state.specs.Machine.{Standing, image_shown}

@@ -18,12 +18,12 @@ use Rattle.page_laws.proofs.Ends.Hands.{room_still}
 use Rattle.kernel_model.specs.Kernel.{Proc, Kernel}
 use Rattle.kernel_model.specs.Sound.{lives_in}
 use Rattle.kernel_model.specs.ChangeStep.{gave_back, space_of_life, change_by, change_if}
-use Rattle.kernel_laws.proofs.Sound.Changes.{Unhanded, change_unhanded}
+use Rattle.machine_state.proofs.KernelLawsSoundChanges.{Unhanded, change_unhanded}
 use Rattle.machine_state.specs.Machine.{Standing}
 use Rattle.machine_state.specs.Sourced.{ImageNamed}
 use Rattle.machine_state.specs.Applying.{CanApply, facts_named}
-use Rattle.paging_units.specs.LastMoves.{last_moves}
-use Rattle.paging_units.proofs.LastMoves.{last_of}
+use Rattle.fault_fill.specs.LastMoves.{last_moves}
+use Rattle.fault_fill.proofs.LastMoves.{last_of}
 use Rattle.proc_calls.specs.Callers.{proc_in}
 use Rattle.proc_calls.specs.Answered.{Answered}
 use Rattle.proc_calls.specs.Filling.{IsStartFirst}

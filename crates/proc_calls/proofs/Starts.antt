@@ -10,7 +10,7 @@ use Rattle.page_model.specs.Placement.{Placement, slots_of, sharers, sharers_in}
 use Rattle.page_model.specs.Moves.{done}
 use Rattle.page_laws.proofs.Lists.Pages.{put_sharers}
 use Rattle.page_laws.proofs.Moves.Puts.{KeptByPuts, rest_by_puts, done_kept}
-use Rattle.kernel_laws.proofs.Machine.Shapes.{done_shaped, sizes_kept}
+use Rattle.machine_state.proofs.Shapes.{done_shaped, sizes_kept}
 use Rattle.kernel_model.specs.Kernel.{Kernel, done_step}
 use Rattle.kernel_model.specs.Unit.{has_lender}
 use Rattle.machine_state.specs.declared.pieces.Want.{Want}

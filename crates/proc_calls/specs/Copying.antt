@@ -10,9 +10,9 @@ use Rattle.page_model.specs.Place.{due_after}
 use Rattle.kernel_model.specs.Kernel.{copy_step}
 use Rattle.machine_state.specs.Machine.{Standing}
 use Rattle.machine_state.specs.Done.{KeepsThrough}
-use Rattle.paging_units.specs.LastMoves.{last_moves}
-use Rattle.paging_units.specs.Stops.{StopsAt}
-use Rattle.clock_hands.specs.Forced.{Forced, StopsForcing}
+use Rattle.fault_fill.specs.LastMoves.{last_moves}
+use Rattle.fault_fill.specs.Stops.{StopsAt}
+use Rattle.fault_fill.specs.Forced.{Forced, StopsForcing}
 use Rattle.fault_fill.specs.Serving.{StopsServing}
 use Rattle.fault_fill.specs.Answers.{ServesNow}
 

@@ -8,8 +8,8 @@ use Rattle.page_model.specs.Placement.{Placement, Due, Start}
 use Rattle.kernel_model.specs.Kernel.{zero_step}
 use Rattle.machine_state.specs.Machine.{Standing}
 use Rattle.machine_state.specs.Done.{KeepsThrough}
-use Rattle.paging_units.specs.Stops.{StopsAt}
-use Rattle.clock_hands.specs.Forced.{Forced, StopsForcing}
+use Rattle.fault_fill.specs.Stops.{StopsAt}
+use Rattle.fault_fill.specs.Forced.{Forced, StopsForcing}
 
 -- a new stack page is due first
 pub record IsStartFirst (p : Placement) (page : Page) : Type 0 where

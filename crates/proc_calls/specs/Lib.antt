@@ -1,3 +1,16 @@
+pub use Rattle.fault_fill.specs.Forced
+pub use Rattle.fault_fill.specs.Moved
+pub use Rattle.fault_fill.specs.Access as FaultFillAccessSpecs
+pub use Rattle.fault_fill.specs.Answers
+pub use Rattle.fault_fill.specs.Growth
+pub use Rattle.fault_fill.specs.Serving
+pub use Rattle.fault_fill.specs.Touches
+pub use Rattle.fault_fill.specs.Units
+pub use Rattle.fault_fill.specs.declared.access.Access as FaultFillAccessAccess
+pub use Rattle.fault_fill.specs.declared.pages.Served as FaultFillPagesServed
+pub use Rattle.fault_fill.specs.declared.touch.Served as FaultFillTouchServed
+pub use Rattle.fault_fill.specs.Spans
+pub use Rattle.vfork_pass.specs.Passed
 pub mod Answered
 pub mod Callers
 pub mod Leaving

@@ -3,10 +3,10 @@ ghost use Rattle.std.specs.Prelude.{◌≡◌, ◌≤◌, ◌∷◌, [], false, 
 ghost use Rattle.page_model.specs.Rank.{HasRoom};
 ghost use Rattle.machine_state.specs.Done.{CountsPages, CountsReads, CountsWrites};
 ghost use Rattle.machine_state.specs.Files.{AreFiles};
-ghost use Rattle.paging_units.specs.LastMoves.{last_moves};
+ghost use Rattle.fault_fill.specs.LastMoves.{last_moves};
 ghost use Rattle.proc_calls.specs.Copying.{in_space, AreCopiesFrom, IsCopyFirst, CopiesPage, StopsPage, GoesOn, CopiesAll, HasCopied, StopsCopying};
 
-use clock_hands::make_room;
+use fault_fill::clock_hands::make_room;
 use fault_fill::serve_page_now;
 use io_edge::{Files, SwapDev};
 use machine_state::Machine;

@@ -22,6 +22,8 @@ pub use children::{getpid, wait};
 pub use copying::copy_due;
 pub use ending::{exit, kill, leave_space};
 pub use executing::execve;
+pub use fault_fill;
+pub use fault_fill::clock_hands;
 pub use filling::fill_start;
 pub use laws::break_is_flat;
 pub use making::{fork, vfork};

@@ -8,7 +8,7 @@ ghost use Rattle.flat_model.specs.declared.calls.Reply.TheVariants.{Does};
 ghost use Rattle.flat_model.specs.declared.calls.SystemCall.TheVariants.{Break};
 ghost use Rattle.flat_model.specs.Step.{call_entry};
 ghost use Rattle.page_model.specs.Placement.{image_of};
-ghost use Rattle.table_view.specs.Views.{ShowsSpace};
+ghost use Rattle.machine_state.specs.Views.{ShowsSpace};
 ghost use Rattle.machine_state.specs.Showing.{ShowsCore};
 ghost use Rattle.machine_state.specs.Applying.{CanApply};
 ghost use Rattle.machine_state.specs.Done.{CountsPages, CountsReads, CountsWrites};

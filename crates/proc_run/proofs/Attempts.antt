@@ -14,9 +14,9 @@ use Rattle.flat_state.specs.Space.{Space}
 use Rattle.flat_state.specs.Flat.{Process, Inputs}
 use Rattle.machine_state.specs.Machine.{Standing}
 use Rattle.machine_state.specs.UserMemory.{CanLend, Wrote, writes_in}
-use Rattle.proc_calls.specs.Callers.{regs_of}
+use Rattle.steady_laws.specs.Callers.{regs_of}
 use Rattle.run_model.specs.State.{State}
-use Rattle.run_units.proofs.Calling.{calls_write_none}
+use Rattle.touched_pages.proofs.RunUnitsCalling.{calls_write_none}
 use Rattle.steady_laws.specs.Ready.{IsReady, Continues}
 use Rattle.steady_laws.proofs.Running.{continues_both}
 use Rattle.steady_laws.proofs.Entries.{room_continues}

@@ -13,14 +13,14 @@ use Rattle.flat_model.specs.declared.calls.Reply.TheVariants.{Fails, Does, Write
 use Rattle.flat_model.specs.declared.calls.SystemCall.{SystemCall}
 use Rattle.flat_model.specs.declared.calls.SystemCall.TheVariants as system_calls
 use Rattle.machine_state.specs.Machine.{Standing}
-use Rattle.proc_calls.specs.declared.replying.Called.{Called}
-use Rattle.proc_calls.specs.declared.replying.Called.TheVariants as calls
-use Rattle.proc_calls.specs.Callers.{IsCaller, parent_of}
-use Rattle.proc_calls.specs.Reading.{AreNamed}
-use Rattle.proc_calls.specs.Starting.{execve_read}
-use Rattle.proc_calls.specs.Waiting.{wait_reply, wait_by, is_child, is_ended_child}
-use Rattle.proc_calls.specs.Writing.{IsWrite, MayWrite}
-use Rattle.proc_calls.proofs.Writes.{may_write}
+use Rattle.steady_laws.specs.Called.{Called}
+use Rattle.steady_laws.specs.Called.TheVariants as calls
+use Rattle.steady_laws.specs.Callers.{IsCaller, parent_of}
+use Rattle.steady_laws.specs.Reading.{AreNamed}
+use Rattle.steady_laws.specs.Starting.{execve_read}
+use Rattle.steady_laws.specs.Waiting.{wait_reply, wait_by, is_child, is_ended_child}
+use Rattle.steady_laws.specs.Writing.{IsWrite, MayWrite}
+use Rattle.steady_laws.proofs.Writes.{may_write}
 use Rattle.kernel_model.specs.Kernel.{Proc}
 use Rattle.steady_laws.specs.Holders.{KeepsHolders}
 use Rattle.steady_laws.proofs.Calls.{caller_holds, replied_keeps, comes_keeps, waited_none, write_none, break_keeps}

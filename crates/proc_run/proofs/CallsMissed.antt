@@ -13,14 +13,14 @@ use Rattle.flat_model.specs.declared.calls.Reply.TheVariants.{Fails, Does, Write
 use Rattle.flat_model.specs.declared.calls.SystemCall.{SystemCall}
 use Rattle.flat_model.specs.declared.calls.SystemCall.TheVariants as system_calls
 use Rattle.machine_state.specs.Machine.{Standing}
-use Rattle.proc_calls.specs.declared.replying.Called.TheVariants as calls
-use Rattle.proc_calls.specs.Answered.{Replied, Comes}
-use Rattle.proc_calls.specs.Callers.{parent_of}
-use Rattle.proc_calls.specs.Leaving.{ExitComes}
-use Rattle.proc_calls.specs.Reading.{AreNamed}
-use Rattle.proc_calls.specs.Sizing.{BreakComes, MovesEnd, break_at, pages_to, with_pieces, with_refusal}
-use Rattle.proc_calls.specs.Starting.{ExecComes}
-use Rattle.proc_calls.specs.Waiting.{wait_reply}
+use Rattle.steady_laws.specs.Called.TheVariants as calls
+use Rattle.steady_laws.specs.Answered.{Replied, Comes}
+use Rattle.steady_laws.specs.Callers.{parent_of}
+use Rattle.steady_laws.specs.Leaving.{ExitComes}
+use Rattle.steady_laws.specs.Reading.{AreNamed}
+use Rattle.steady_laws.specs.Sizing.{BreakComes, MovesEnd, break_at, pages_to, with_pieces, with_refusal}
+use Rattle.steady_laws.specs.Starting.{ExecComes}
+use Rattle.steady_laws.specs.Waiting.{wait_reply}
 use Rattle.proc_run.specs.Calls.{own_answers, CallComes}
 
 -- Only a call whose read misses answers so.

@@ -11,9 +11,9 @@ use Rattle.flat_model.specs.declared.calls.SystemCall.{SystemCall}
 use Rattle.kernel_model.specs.Numbers.{Numbered}
 use Rattle.machine_state.specs.Machine.{Standing}
 use Rattle.machine_state.specs.UserMemory.{CanLend}
-use Rattle.proc_calls.specs.declared.replying.Called.{Called}
-use Rattle.proc_calls.specs.declared.replying.Called.TheVariants as calls
-use Rattle.proc_calls.specs.Callers.{IsCaller, regs_of}
+use Rattle.steady_laws.specs.Called.{Called}
+use Rattle.steady_laws.specs.Called.TheVariants as calls
+use Rattle.steady_laws.specs.Callers.{IsCaller, regs_of}
 use Rattle.run_model.specs.State.{State}
 use Rattle.step_units.specs.Stepped.{StepLeads, MarkEnds, CallLeads}
 use Rattle.steady_laws.specs.Holders.{HoldersStand}

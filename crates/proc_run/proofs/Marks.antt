@@ -16,8 +16,8 @@ use Rattle.run_model.specs.declared.mark.Mark.TheVariants as marks
 use Rattle.run_model.specs.Kinds.{Runs as Goes, GoesOn}
 use Rattle.run_model.specs.Next.{goes_on, turn_instructions, turn_unit, under, work, when}
 use Rattle.run_model.specs.State.{State}
-use Rattle.run_units.specs.Serving.{At}
-use Rattle.run_units.specs.Touching.{IsRunning}
+use Rattle.touched_pages.specs.Serving.{At}
+use Rattle.touched_pages.specs.RunUnitsTouching.{IsRunning}
 use Rattle.proc_run.specs.Choosing.{holds_space, steps_by, may_run}
 use Rattle.proc_run.specs.Running.{AsksRun}
 use Rattle.proc_run.proofs.Ready.{ready_one}

@@ -12,18 +12,18 @@ use Rattle.flat_state.specs.Flat.{Process, Inputs}
 use Rattle.machine_state.specs.Machine.{Standing}
 use Rattle.machine_state.specs.Files.{AreImages}
 use Rattle.machine_state.specs.UserMemory.{CanLend}
-use Rattle.fault_fill.specs.Growth.{access_by}
-use Rattle.fault_fill.specs.declared.access.Access.{Access}
-use Rattle.fault_fill.specs.declared.access.Access.TheVariants as accesses
-use Rattle.fault_fill.specs.Touches.{TouchedAs, TouchedNow, AccessComes, AccessStops}
-use Rattle.fault_fill.specs.declared.touch.Served.{Served}
-use Rattle.fault_fill.specs.declared.touch.Served.TheVariants as served
-use Rattle.proc_calls.specs.Callers.{IsCaller}
-use Rattle.proc_calls.specs.Leaving.{HasEnded, StopsAlive}
+use Rattle.steady_laws.specs.Growth.{access_by}
+use Rattle.steady_laws.specs.FaultFillAccessAccess.{Access}
+use Rattle.steady_laws.specs.FaultFillAccessAccess.TheVariants as accesses
+use Rattle.steady_laws.specs.Touches.{TouchedAs, TouchedNow, AccessComes, AccessStops}
+use Rattle.steady_laws.specs.FaultFillTouchServed.{Served}
+use Rattle.steady_laws.specs.FaultFillTouchServed.TheVariants as served
+use Rattle.steady_laws.specs.Callers.{IsCaller}
+use Rattle.steady_laws.specs.Leaving.{HasEnded, StopsAlive}
 use Rattle.run_model.specs.State.{State}
 use Rattle.run_model.specs.Wanted.{touched_next, before_absent, locked_by, locked}
 use Rattle.run_model.proofs.Wanting.{split_before, all_before}
-use Rattle.run_units.proofs.Units.{leads_at}
+use Rattle.touched_pages.proofs.Units.{leads_at}
 use Rattle.step_units.specs.Machines.{MachineAt, RunsOn}
 use Rattle.step_units.specs.Stepped.{StepLeads, MarkEnds, StopLeads}
 use Rattle.step_units.specs.Running.{Waits, EndsRefused, ServeLeads}

@@ -27,18 +27,18 @@ use Rattle.kernel_laws.proofs.Machine.Swaps.{found_at}
 use Rattle.machine_state.specs.Machine.{Standing}
 use Rattle.machine_state.specs.Conditions.{HasStopped}
 use Rattle.machine_state.specs.UserMemory.{kernel_answers, writes_in}
-use Rattle.paging_units.specs.Stops.{StaysWhereFull}
-use Rattle.proc_calls.specs.Callers.{regs_of, space_held}
-use Rattle.proc_calls.specs.Leaving.{HasEnded, StopsAlive}
+use Rattle.steady_laws.specs.Stops.{StaysWhereFull}
+use Rattle.steady_laws.specs.Callers.{regs_of, space_held}
+use Rattle.steady_laws.specs.Leaving.{HasEnded, StopsAlive}
 use Rattle.run_model.specs.Act.{act}
 use Rattle.run_model.specs.State.{State}
 use Rattle.run_model.specs.Wanted.{wanted, touched_next}
 use Rattle.run_model.proofs.Wanting.{wanted_none}
-use Rattle.run_laws.proofs.Flows.{runs_next}
-use Rattle.run_units.specs.Touching.{MakesNone, IsWhole, IsReadyFor}
-use Rattle.run_units.proofs.Instructing.{hit_ready, miss_wanted}
-use Rattle.run_units.proofs.Stepping.{step_known, none_asked}
-use Rattle.run_units.proofs.Units.{none_leads}
+use Rattle.touched_pages.proofs.Flows.{runs_next}
+use Rattle.touched_pages.specs.RunUnitsTouching.{MakesNone, IsWhole, IsReadyFor}
+use Rattle.touched_pages.proofs.Instructing.{hit_ready, miss_wanted}
+use Rattle.touched_pages.proofs.Stepping.{step_known, none_asked}
+use Rattle.touched_pages.proofs.Units.{none_leads}
 use Rattle.step_units.specs.Machines.{MakesCall}
 use Rattle.step_units.specs.Running.{Waits}
 use Rattle.step_units.specs.Stepped.{StepLeads, StopLeads, StopsBy}

@@ -22,9 +22,9 @@ use Rattle.kernel_model.specs.Kernel.{Kernel}
 use Rattle.machine_state.specs.Conditions.{HasStopped}
 use Rattle.machine_state.specs.Machine.{Standing}
 use Rattle.machine_state.specs.UserMemory.{CanLend, Wrote, writes_in}
-use Rattle.paging_units.proofs.Stopping.{held_here}
-use Rattle.proc_calls.specs.Callers.{space_held, regs_of}
-use Rattle.proc_calls.specs.Leaving.{HasEnded, StopsAlive}
+use Rattle.steady_laws.proofs.Stopping.{held_here}
+use Rattle.steady_laws.specs.Callers.{space_held, regs_of}
+use Rattle.steady_laws.specs.Leaving.{HasEnded, StopsAlive}
 use Rattle.run_model.specs.State.{State}
 use Rattle.step_units.specs.Running.{Waits}
 use Rattle.step_units.specs.Stepped.{StopLeads}

@@ -15,19 +15,19 @@ use Rattle.flat_model.specs.declared.calls.SystemCall.{SystemCall}
 use Rattle.flat_model.specs.declared.calls.SystemCall.TheVariants as system_calls
 use Rattle.machine_state.specs.Machine.{Standing}
 use Rattle.machine_state.specs.UserMemory.{kernel_answers}
-use Rattle.proc_calls.specs.declared.replying.Called.{Called}
-use Rattle.proc_calls.specs.declared.replying.Called.TheVariants as calls
-use Rattle.proc_calls.specs.Answered.{Replied, Comes, StopsBefore}
-use Rattle.proc_calls.specs.Callers.{parent_of, space_held}
-use Rattle.proc_calls.specs.Copying.{HasCopied}
-use Rattle.proc_calls.specs.Forking.{Forked, StopsForking}
-use Rattle.proc_calls.specs.Leaving.{ExitComes, StopsExit}
-use Rattle.proc_calls.specs.Making.{Vforked, StopsMaking}
-use Rattle.proc_calls.specs.Reading.{AreNamed}
-use Rattle.proc_calls.specs.Sizing.{BreakComes, StopsBreak}
-use Rattle.proc_calls.specs.Starting.{ExecComes, StopsExec}
-use Rattle.proc_calls.specs.Waiting.{wait_reply}
-use Rattle.proc_calls.specs.Writing.{StopsOut}
+use Rattle.steady_laws.specs.Called.{Called}
+use Rattle.steady_laws.specs.Called.TheVariants as calls
+use Rattle.steady_laws.specs.Answered.{Replied, Comes, StopsBefore}
+use Rattle.steady_laws.specs.Callers.{parent_of, space_held}
+use Rattle.steady_laws.specs.Copying.{HasCopied}
+use Rattle.steady_laws.specs.Forking.{Forked, StopsForking}
+use Rattle.steady_laws.specs.Leaving.{ExitComes, StopsExit}
+use Rattle.steady_laws.specs.Making.{Vforked, StopsMaking}
+use Rattle.steady_laws.specs.Reading.{AreNamed}
+use Rattle.steady_laws.specs.Sizing.{BreakComes, StopsBreak}
+use Rattle.steady_laws.specs.Starting.{ExecComes, StopsExec}
+use Rattle.steady_laws.specs.Waiting.{wait_reply}
+use Rattle.steady_laws.specs.Writing.{StopsOut}
 
 -- what a process reads of its space, over the frames
 abbrev pub own_answers : Standing → ℕ → Answers

@@ -8,11 +8,11 @@ use Rattle.flat_state.specs.Journal.{instructions_of}
 use Rattle.kernel_model.specs.Kernel.{Kernel}
 use Rattle.page_model.specs.Swapper.{is_out}
 use Rattle.machine_state.specs.Machine.{Standing}
-use Rattle.proc_calls.specs.Reading.{AreNamed}
+use Rattle.steady_laws.specs.Reading.{AreNamed}
 use Rattle.run_model.specs.declared.mark.Mark.TheVariants as marks
 use Rattle.run_model.specs.State.{State}
 use Rattle.run_model.specs.Next.{turn_instructions, under}
-use Rattle.run_units.specs.Leads.{Leads}
+use Rattle.touched_pages.specs.Leads.{Leads}
 use Rattle.step_units.specs.Machines.{MachineAt}
 use Rattle.step_units.specs.Stepped.{StopLeads}
 use Rattle.step_units.specs.Lines.{IsClear}

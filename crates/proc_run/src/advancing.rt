@@ -8,7 +8,7 @@ ghost use Rattle.machine_state.specs.Conditions.{HasStopped};
 ghost use Rattle.machine_state.specs.Done.{CountsPages, CountsReads, CountsWrites};
 ghost use Rattle.machine_state.specs.Files.{AreFiles};
 ghost use Rattle.machine_state.specs.UserMemory.{CanLend};
-ghost use Rattle.proc_calls.specs.Callers.{regs_of};
+ghost use Rattle.steady_laws.specs.Callers.{regs_of};
 ghost use Rattle.steady_laws.specs.Holders.{HoldersStand};
 ghost use Rattle.steady_laws.specs.Ready.{Continues};
 ghost use Rattle.proc_run.specs.Calls.{own_answers};
@@ -19,8 +19,8 @@ use crate::calling::call;
 use crate::serving::serve_access;
 use io_edge::{Files, SwapDev};
 use machine_state::{Machine, or_stop};
-use proc_calls::kill;
 use std::alloc::Global;
+use steady_laws::proc_calls::kill;
 use user_vax::Stepped;
 use vm_facts::{Regs, Stop};
 

@@ -7,7 +7,7 @@ ghost use Rattle.user_vax.specs.Instruction.{instruction, answer_of, registers_a
 ghost use Rattle.flat_state.specs.Journal.{append};
 ghost use Rattle.machine_state.specs.Joined.{instructions_in, last_says};
 ghost use Rattle.machine_state.specs.UserMemory.{CanLend, Wrote, kernel_answers};
-ghost use Rattle.proc_calls.specs.Callers.{space_held};
+ghost use Rattle.steady_laws.specs.Callers.{space_held};
 
 use machine_state::Machine;
 use std::alloc::Global;

@@ -6,7 +6,7 @@ ghost use Rattle.user_vax.specs.Instruction.{instruction};
 ghost use Rattle.machine_state.specs.Done.{CountsPages, CountsReads, CountsWrites};
 ghost use Rattle.machine_state.specs.Files.{AreFiles};
 ghost use Rattle.machine_state.specs.UserMemory.{CanLend};
-ghost use Rattle.proc_calls.specs.Callers.{regs_of};
+ghost use Rattle.steady_laws.specs.Callers.{regs_of};
 ghost use Rattle.steady_laws.specs.Holders.{HoldersStand};
 ghost use Rattle.steady_laws.specs.Ready.{Continues};
 ghost use Rattle.proc_run.specs.Calls.{own_answers, CallComes, CallStops, MadeCall};
@@ -17,8 +17,8 @@ use crate::serving::serve_access;
 use flat_model::SystemCall;
 use io_edge::{Files, SwapDev};
 use machine_state::Machine;
-use proc_calls::{Called, brk, execve, exit, fork, getpid, kill, vfork, wait, write};
 use std::alloc::Global;
+use steady_laws::proc_calls::{Called, brk, execve, exit, fork, getpid, kill, vfork, wait, write};
 use vm_facts::{Regs, Stop};
 
 /// The signal of a call that isn't one of the eight, by the number of 4.3BSD.

@@ -1,7 +1,7 @@
 //! The process that has the next turn.
 ghost use Rattle.std.specs.Prelude.{◌≡◌, true, false, Some, None, IfSome};
 ghost use Rattle.machine_state.specs.Machine.{proc_shown};
-ghost use Rattle.proc_calls.specs.Callers.{regs_of};
+ghost use Rattle.steady_laws.specs.Callers.{regs_of};
 ghost use Rattle.proc_run.specs.Choosing.{can_step, may_run, next_turned, next_ready, FoundReady};
 
 use machine_state::Machine;

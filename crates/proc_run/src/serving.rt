@@ -3,7 +3,7 @@ ghost use Rattle.std.specs.Prelude.{◌≡◌, ◌≤◌, true, false, length, I
 ghost use Rattle.machine_state.specs.Done.{CountsPages, CountsReads, CountsWrites};
 ghost use Rattle.machine_state.specs.Files.{AreFiles};
 ghost use Rattle.machine_state.specs.UserMemory.{CanLend};
-ghost use Rattle.proc_calls.specs.Callers.{regs_of};
+ghost use Rattle.steady_laws.specs.Callers.{regs_of};
 ghost use Rattle.touched_pages.specs.Missed.{WritesNothing};
 ghost use Rattle.steady_laws.specs.Holders.{HoldersStand};
 ghost use Rattle.steady_laws.specs.Ready.{Continues};
@@ -11,11 +11,11 @@ ghost use Rattle.proc_run.specs.Serving.{ServedBy, StopsServed};
 ghost use Rattle.proc_run.specs.Runs.{IsSteady, is_now, AdvancesWaiting, StopsWaiting, counts};
 
 use crate::advancing::{Advance, Patience};
-use fault_fill::{Served, serve, serve_now};
 use io_edge::{Files, SwapDev};
 use machine_state::{Machine, or_stop};
-use proc_calls::kill;
 use std::alloc::Global;
+use steady_laws::fault_fill::{Served, serve, serve_now};
+use steady_laws::proc_calls::kill;
 use touched_pages::touched_before;
 use user_vax::SIGSEGV;
 use vm_facts::{Regs, Stop};

@@ -5,9 +5,9 @@ use Rattle.kernel_model.specs.Coupled.{outline_of, outline_kept}
 use Rattle.machine_state.specs.Machine.{Standing}
 use Rattle.vm_facts.specs.declared.stop.Stop.TheVariants as stops
 use Rattle.run_model.specs.State.{State}
-use Rattle.vm_core.specs.declared.schedule.Unfinished.{Unfinished}
-use Rattle.vm_core.specs.declared.schedule.Unfinished.TheVariants.{NoSpace, Stopped}
-use Rattle.vm_core.specs.Full.{StandsThere, RunFull, RunOver}
+use Rattle.run_command.specs.Unfinished.{Unfinished}
+use Rattle.run_command.specs.Unfinished.TheVariants.{NoSpace, Stopped}
+use Rattle.run_command.specs.Full.{StandsThere, RunFull, RunOver}
 use Rattle.owner_lines.specs.Owners.{owners_text, owners_of}
 use Rattle.reference_commands.specs.Answering.{SaysOwners}
 use Rattle.reference_commands.specs.InMemory.{HasRun, RunsOn}

@@ -12,11 +12,11 @@ use Rattle.flat_state.specs.Flat.{NamedImage, Inputs}
 use Rattle.flat_state.specs.Journal.{instructions_of}
 use Rattle.machine_state.specs.Files.{AreFiles}
 use Rattle.run_model.specs.State.{start}
-use Rattle.run_laws.specs.Files.{AreInputs}
-use Rattle.run_laws.proofs.Filing.{images_fit}
-use Rattle.run_laws.proofs.Finishing.{units_below}
-use Rattle.vm_core.specs.Lawful.{RunFinished}
-use Rattle.vm_core.specs.RunEnds.{IsAskedOf}
+use Rattle.run_command.specs.Files.{AreInputs}
+use Rattle.run_command.proofs.Filing.{images_fit}
+use Rattle.run_command.proofs.Finishing.{units_below}
+use Rattle.run_command.specs.Lawful.{RunFinished}
+use Rattle.run_command.specs.RunEnds.{IsAskedOf}
 use Rattle.run_files.specs.ImageWords.{IsShortName}
 use Rattle.replay_check.specs.Images.{FlatFile, IsImageFile, images_of}
 use Rattle.replay_check.specs.Verdicts.{references_of, first_bad}

@@ -7,7 +7,7 @@ use Rattle.flat_state.specs.Journal.{append}
 use Rattle.kernel_model.specs.Coupled.{outline_of}
 use Rattle.run_model.specs.State.{State}
 use Rattle.run_model.specs.Next.{next_unit}
-use Rattle.vm_core.specs.Lawful.{IsJournalOf, RunFinished}
+use Rattle.run_command.specs.Lawful.{IsJournalOf, RunFinished}
 use Rattle.replay_check.specs.Verdicts.{references_of}
 use Rattle.reference_answers.specs.Texts.{curve_text}
 use Rattle.reference_answers.specs.Answers.{IsOptimumText}

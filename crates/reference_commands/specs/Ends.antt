@@ -5,7 +5,7 @@ use Rattle.vm_facts.specs.declared.stop.Stop.TheVariants as stops
 use Rattle.io_edge.specs.FileHolding.{NamedFile}
 use Rattle.flat_state.specs.Flat.{Inputs}
 use Rattle.flat_model.specs.Asked.{start_held}
-use Rattle.vm_core.specs.Lawful.{RunHalted}
+use Rattle.run_command.specs.Lawful.{RunHalted}
 use Rattle.run_files.specs.declared.answers.Unread.TheVariants as unreads
 use Rattle.command_ending.specs.declared.fault.Fault.TheVariants.{Absent, NotImage, BadSchedule, FileFault, NoMemory, JournalFull, NoSpace}
 use Rattle.command_ending.specs.Ending.{Ending}

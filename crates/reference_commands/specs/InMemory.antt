@@ -9,11 +9,11 @@ use Rattle.io_edge.specs.FileHolding.{NamedFile, HasRange}
 use Rattle.flat_state.specs.Flat.{Inputs}
 use Rattle.flat_model.specs.Asked.{start_held}
 use Rattle.machine_state.specs.Machine.{Standing}
-use Rattle.vm_core.specs.declared.schedule.Unfinished.{Unfinished}
-use Rattle.vm_core.specs.declared.schedule.Unfinished.TheVariants.{Stopped}
-use Rattle.vm_core.specs.Lawful.{RunFinished, RunHalted}
-use Rattle.vm_core.specs.Full.{RunFull, RunOver}
-use Rattle.vm_core.specs.RunEnds.{RunEnds}
+use Rattle.run_command.specs.Unfinished.{Unfinished}
+use Rattle.run_command.specs.Unfinished.TheVariants.{Stopped}
+use Rattle.run_command.specs.Lawful.{RunFinished, RunHalted}
+use Rattle.run_command.specs.Full.{RunFull, RunOver}
+use Rattle.run_command.specs.RunEnds.{RunEnds}
 use Rattle.run_files.specs.ImageWords.{IsShortName}
 use Rattle.run_text.specs.Schedule.{IsInRanges}
 use Rattle.replay_check.specs.Images.{FlatFile, AreNumbers, images_of}

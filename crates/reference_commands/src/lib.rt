@@ -11,3 +11,4 @@ mod running;
 
 pub use command::ask_command;
 pub use question::Question;
+pub use run_command;

@@ -3,8 +3,8 @@ ghost use Rattle.std.specs.Prelude.{◌≡◌, ◌≤◌, ℕ, false, List, Opti
 ghost use Rattle.flat_state.specs.Flat.{Inputs};
 ghost use Rattle.run_files.specs.ImageWords.{IsShortName};
 ghost use Rattle.replay_check.specs.Images.{AreImageFiles, AreNumbers, images_of};
-ghost use Rattle.vm_core.specs.Full.{RunFull, RunOver};
-ghost use Rattle.vm_core.specs.RunEnds.{RunEnds};
+ghost use Rattle.run_command.specs.Full.{RunFull, RunOver};
+ghost use Rattle.run_command.specs.RunEnds.{RunEnds};
 ghost use Rattle.replay_command.specs.Reading.{items_of};
 ghost use Rattle.command_ending.specs.Ending.{ending_of};
 ghost use Rattle.io_edge.specs.Octets.{AreOctetFiles};
@@ -21,10 +21,10 @@ use io_edge::{Files, Moved, SureFiles, SureSwap};
 use machine_state::Machine;
 use owner_lines::write_owners;
 use replay_check::{Flat, references};
+use run_command::vm_core::{Core, Unfinished, run_schedule};
 use run_command::{JOURNAL_ENTRIES, core_up_to};
 use run_opening::{OpenedImage, open_images};
 use std::alloc::Global;
-use vm_core::{Core, Unfinished, run_schedule};
 use vm_facts::{Entry, Event, NoMemory, Page, Stop};
 
 // The references of a run that ended so. Nothing in memory fails, so a run that stops has a full journal, or found no memory.

@@ -25,7 +25,7 @@ use Rattle.flat_model.specs.Step.{data_pages_of, pages_down_to, out_entries, cal
 use Rattle.flat_model.specs.Run.{Point, is_refused, step_at, due, behind_first, due_at, first_if, act, behind, point_after, same_entry}
 use Rattle.flat_model.specs.Run.{same_as, process_of_entry, may_follow, where_so, flat_entry_of, flat_entry_if, flat_entry_by, flat_entry, flat_units, flat_run, start_point}
 use Rattle.flat_laws.proofs.Numbers.{step_numbered}
-use Rattle.kernel_laws.proofs.Stands.Starts.{start_numbered}
+use Rattle.flat_laws.proofs.Starts.{start_numbered}
 use Rattle.run_model.proofs.After.{count_of_units}
 use Rattle.register_laws.specs.Longwords.{AllFit, AllImages}
 use Rattle.register_laws.proofs.Registers.{start_regs_are}

@@ -9,8 +9,8 @@ use Rattle.flat_state.specs.Flat.{Inputs}
 use Rattle.run_files.specs.ImageWords.{IsShortName, image_names, first_images}
 use Rattle.run_text.specs.Schedule.{IsInRanges as IsEventInRanges}
 use Rattle.machine_state.specs.Files.{AreImages}
-use Rattle.run_laws.specs.Files.{AreInputs}
-use Rattle.run_laws.proofs.Filing.{images_fit}
+use Rattle.vm_core.specs.Files.{AreInputs}
+use Rattle.vm_core.proofs.Filing.{images_fit}
 use Rattle.vm_core.specs.Steady.{HasFewMoves}
 use Rattle.command_words.specs.Command.{AreAllowed}
 use Rattle.run_opening.specs.declared.images.OpenedImage.{OpenedImage}

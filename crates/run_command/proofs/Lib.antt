@@ -1,3 +1,5 @@
+pub use Rattle.vm_core.proofs.Filing
+pub use Rattle.vm_core.proofs.Finishing
 pub mod Openings
 pub mod Inputs
 pub mod Endings

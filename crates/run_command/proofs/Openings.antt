@@ -12,10 +12,10 @@ use Rattle.machine_state.specs.New.{AreSound}
 use Rattle.machine_state.specs.Applying.{facts_named}
 use Rattle.machine_state.specs.Sourced.{AreNames}
 use Rattle.machine_state.specs.Files.{AreFiles, HaveFiles, AreLoaded}
-use Rattle.proc_calls.specs.Reading.{AreNamed}
-use Rattle.register_laws.specs.Longwords.{AllImages}
-use Rattle.register_laws.proofs.Images.{file_fits}
-use Rattle.run_laws.specs.Files.{IsFiled, AreNumbers}
+use Rattle.vm_core.specs.Reading.{AreNamed}
+use Rattle.vm_core.specs.Longwords.{AllImages}
+use Rattle.vm_core.proofs.Images.{file_fits}
+use Rattle.vm_core.specs.Files.{IsFiled, AreNumbers}
 use Rattle.vax_code.specs.Grammar.{AreOctets}
 use Rattle.run_opening.specs.declared.images.OpenedImage.{OpenedImage}
 use Rattle.run_files.specs.ImageWords.{IsShortName}

@@ -13,13 +13,13 @@ use Rattle.aout_image.specs.Image.{Loaded, image_of, word_bytes, in_pages, pages
 use Rattle.vax_code.specs.Grammar.{AreOctets}
 use Rattle.flat_state.specs.Flat.{NamedImage, image_numbered}
 use Rattle.machine_state.specs.Files.{AreFiles, AreImages}
-use Rattle.proc_calls.specs.Reading.{AreNamed}
-use Rattle.register_laws.specs.Longwords.{AllImages}
-use Rattle.register_laws.proofs.Octets.{both_octets, zero_octets}
+use Rattle.vm_core.specs.Reading.{AreNamed}
+use Rattle.vm_core.specs.Longwords.{AllImages}
+use Rattle.vm_core.proofs.Octets.{both_octets, zero_octets}
 use Rattle.run_files.specs.ImageWords.{IsShortName}
-use Rattle.run_laws.specs.Files.{AreInputs}
-use Rattle.run_laws.proofs.Filing.{images_fit}
-use Rattle.run_start.specs.Starting.{StartsFrom}
+use Rattle.vm_core.specs.Files.{AreInputs}
+use Rattle.vm_core.proofs.Filing.{images_fit}
+use Rattle.vm_core.specs.RunStartStarting.{StartsFrom}
 use Rattle.vm_core.specs.RunEnds.{IsAskedOf}
 use Rattle.command_ending.specs.Named.{Why, before}
 use Rattle.run_opening.specs.declared.images.OpenedImage.{OpenedImage}

@@ -1,3 +1,8 @@
+pub use Rattle.vm_core.specs.Files
+pub use Rattle.vm_core.specs.Full
+pub use Rattle.vm_core.specs.Lawful
+pub use Rattle.vm_core.specs.RunEnds
+pub use Rattle.vm_core.specs.declared.schedule.Unfinished
 pub mod Asking
 pub mod Seen
 pub mod Naming

@@ -11,3 +11,4 @@ mod writing;
 pub use command::{core_up_to, run_command};
 pub use loading::load_command;
 pub use paired::{JOURNAL_ENTRIES, run_paired};
+pub use vm_core;

@@ -22,7 +22,7 @@ use Rattle.run_model.specs.State.{State}
 use Rattle.run_model.specs.After.{pages_written, place_behind, after}
 use Rattle.run_model.specs.Act.{loses_pages, settled_in, settled_if, settled, loses_in, loses_if, step_loses, must_refuse, must_settle}
 use Rattle.flat_model.proofs.StepEnds.{Shape, Empty, One, Two, step_shape}
-use Rattle.flat_laws.specs.Others.{is_writing}
+use Rattle.register_laws.specs.Others.{is_writing}
 use Rattle.run_model.specs.Kinds.{Runs}
 use Rattle.run_laws.specs.Standing.{Placed}
 use Rattle.kernel_model.specs.Invariant.{EntersImage}

@@ -34,9 +34,9 @@ use Rattle.kernel_laws.proofs.Sound.Steps.{ran_sound}
 use Rattle.kernel_laws.proofs.Sound.NumbersApart.{ran_numbered}
 use Rattle.kernel_laws.proofs.Flat.Numbers.{writes_numbered}
 use Rattle.kernel_laws.proofs.Flat.Lenders.{writes_lent}
-use Rattle.flat_laws.specs.Shown.{IsOneOf, AreOf}
-use Rattle.flat_laws.proofs.Shown.{writes_shown}
-use Rattle.flat_laws.proofs.Asking.{own_space, change_same}
+use Rattle.register_laws.specs.Shown.{IsOneOf, AreOf}
+use Rattle.register_laws.proofs.Shown.{writes_shown}
+use Rattle.register_laws.proofs.FlatLawsAsking.{own_space, change_same}
 use Rattle.flat_model.specs.Touched.{touched, page_tested}
 use Rattle.flat_model.specs.Step.{Step}
 use Rattle.flat_model.specs.Run.{is_refused, step_at, process_of_entry}

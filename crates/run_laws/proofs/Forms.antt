@@ -12,8 +12,8 @@ use Rattle.flat_state.specs.Change.{apply_change, apply_writes, NamesChild}
 use Rattle.flat_state.specs.declared.change.Change.{Change}
 use Rattle.flat_state.specs.declared.change.Change.TheVariants.{Keep, Resize, Fork, Lend, Exec, Reap, Sleep, End}
 use Rattle.flat_state.specs.Numbers.{AllDistinct, IsNumbered}
-use Rattle.flat_laws.proofs.Replies.{ReplyFits, reply_fits}
-use Rattle.flat_laws.proofs.Others.{pids_written}
+use Rattle.register_laws.proofs.Replies.{ReplyFits, reply_fits}
+use Rattle.register_laws.proofs.Others.{pids_written}
 use Rattle.flat_model.specs.Instruction.{instruction_in}
 use Rattle.flat_model.specs.declared.calls.Reply.{Reply}
 use Rattle.flat_model.specs.declared.calls.Reply.TheVariants.{Fails, Does, Writes, Waits, Exits}

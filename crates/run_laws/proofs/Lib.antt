@@ -1,3 +1,20 @@
+pub use Rattle.register_laws.proofs.FlatLawsAsking
+pub use Rattle.register_laws.proofs.Finding
+pub use Rattle.register_laws.proofs.Others
+pub use Rattle.register_laws.proofs.Shown
+pub use Rattle.kernel_laws.proofs.Flat.Lists
+pub use Rattle.kernel_laws.proofs.Kept.Borrowed
+pub use Rattle.kernel_laws.proofs.Machine.Shapes
+pub use Rattle.kernel_laws.proofs.Machine.Swaps
+pub use Rattle.kernel_laws.proofs.Pieces.Sizes
+pub use Rattle.kernel_laws.proofs.Sound.Allowed as KernelLawsSoundAllowed
+pub use Rattle.kernel_laws.proofs.Stands.Steps
+pub use Rattle.register_laws.proofs.Images
+pub use Rattle.register_laws.proofs.Octets
+pub use Rattle.register_laws.proofs.Registers
+pub use Rattle.register_laws.proofs.Replying
+pub use Rattle.register_laws.proofs.Runs
+pub use Rattle.register_laws.proofs.Distinct
 pub mod Allowed
 pub mod Paging
 pub mod Refusals

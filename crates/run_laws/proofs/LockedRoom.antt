@@ -7,8 +7,8 @@ use Rattle.page_model.specs.Placement.{Placement, Due, Start, CopyOf, state_of}
 use Rattle.page_model.specs.Rank.{HasRoom}
 use Rattle.run_model.specs.State.{State}
 use Rattle.run_model.specs.Wanted.{running, touched_by, touched_next, present_by, before_absent, locked_by, locked}
-use Rattle.touch_laws.specs.Whole.{EachWhole}
-use Rattle.touch_laws.proofs.Few.{touched_few, room}
+use Rattle.register_laws.specs.Whole.{EachWhole}
+use Rattle.register_laws.proofs.TouchLawsFew.{touched_few, room}
 
 -- no more pages stand before the first absent one than there are
 pub before_few : (p : Placement) (qs : List Page) → length (before_absent p qs) ≤ length qs

@@ -18,10 +18,10 @@ use Rattle.kernel_laws.proofs.Machine.Swaps.{found_at}
 use Rattle.kernel_laws.proofs.Flat.Numbers.{writes_numbered}
 use Rattle.kernel_laws.proofs.Flat.Lenders.{changes_lent, writes_lent}
 use Rattle.page_laws.proofs.Moves.Units.{unit_is}
-use Rattle.touch_laws.specs.Whole.{AllSized}
-use Rattle.touch_laws.proofs.Sized.{step_sized}
-use Rattle.flat_laws.proofs.Few.{images_whole}
-use Rattle.flat_laws.proofs.Numbers.{step_numbered}
+use Rattle.register_laws.specs.Whole.{AllSized}
+use Rattle.register_laws.proofs.Sized.{step_sized}
+use Rattle.register_laws.proofs.FlatLawsFew.{images_whole}
+use Rattle.register_laws.proofs.Numbers.{step_numbered}
 use Rattle.flat_model.specs.Step.{Step}
 use Rattle.flat_model.specs.Run.{Point, is_refused, step_at, process_of_entry}
 use Rattle.run_model.specs.State.{State}

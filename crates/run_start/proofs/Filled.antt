@@ -8,7 +8,7 @@ use Rattle.io_edge.specs.FileHolding.{NamedFile}
 use Rattle.page_model.specs.Placement.{Due, Start, CopyOf}
 use Rattle.machine_state.specs.Calls.{first_due}
 use Rattle.machine_state.specs.Machine.{Standing}
-use Rattle.proc_calls.specs.Filling.{FillsStart}
+use Rattle.steady_laws.specs.Filling.{FillsStart}
 use Rattle.steady_laws.specs.Holders.{HoldersStand}
 use Rattle.steady_laws.proofs.Making.{filled_keeps}
 use Rattle.steady_laws.specs.Ready.{IsRunning, RunsDue}

@@ -5,7 +5,7 @@ use Rattle.vm_facts.specs.declared.entry.Entry.{Entry}
 use Rattle.io_edge.specs.FileHolding.{NamedFile}
 use Rattle.flat_state.specs.Journal.{instructions_of}
 use Rattle.machine_state.specs.Machine.{Standing}
-use Rattle.paging_units.specs.LastMoves.{last_moves}
+use Rattle.steady_laws.specs.LastMoves.{last_moves}
 use Rattle.steady_laws.specs.Ready.{RunsOn}
 use Rattle.run_start.specs.Starting.{IsNew, HasStarted}
 use Rattle.run_start.specs.Filling.{FillsAll}

@@ -15,10 +15,10 @@ use Rattle.machine_state.specs.Applying.{facts_named}
 use Rattle.machine_state.specs.Beginning.{StartedFirst}
 use Rattle.machine_state.specs.Machine.{Standing}
 use Rattle.machine_state.specs.Sourced.{ImageNamed}
-use Rattle.proc_calls.specs.Reading.{AreNamed}
+use Rattle.steady_laws.specs.Reading.{AreNamed}
 use Rattle.run_model.specs.State.{starting_as, starting}
-use Rattle.run_laws.specs.Running.{FirstThere}
-use Rattle.run_laws.proofs.Beginning.{are_starting}
+use Rattle.step_units.specs.RunLawsRunning.{FirstThere}
+use Rattle.step_units.proofs.RunLawsBeginning.{are_starting}
 use Rattle.run_start.specs.Starting.{IsNew, StartsFrom}
 use Rattle.run_start.specs.Beginning.{BeginsAll}
 use Rattle.run_start.specs.Leading.{machine_at_start}

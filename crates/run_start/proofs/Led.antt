@@ -15,15 +15,15 @@ use Rattle.kernel_model.specs.Kernel.{Kernel}
 use Rattle.machine_state.specs.Files.{AreImages}
 use Rattle.machine_state.specs.Machine.{Standing}
 use Rattle.machine_state.specs.Sourced.{ImageNamed}
-use Rattle.proc_calls.specs.Filling.{FillsStart, StopsStart}
+use Rattle.steady_laws.specs.Filling.{FillsStart, StopsStart}
 use Rattle.steady_laws.specs.Ready.{RunsOn}
 use Rattle.run_model.specs.State.{State, start}
-use Rattle.run_laws.specs.Running.{CanRun}
-use Rattle.run_laws.proofs.Beginning.{run_start}
-use Rattle.run_laws.proofs.Machines.{start_keeps}
-use Rattle.run_units.specs.Filling.{FillsFirst}
-use Rattle.run_units.specs.Leads.{Leads}
-use Rattle.run_units.specs.Serving.{At}
+use Rattle.step_units.specs.RunLawsRunning.{CanRun}
+use Rattle.step_units.proofs.RunLawsBeginning.{run_start}
+use Rattle.step_units.proofs.Machines.{start_keeps}
+use Rattle.step_units.specs.Filling.{FillsFirst}
+use Rattle.step_units.specs.Leads.{Leads}
+use Rattle.step_units.specs.Serving.{At}
 use Rattle.step_units.specs.Stepped.{StopLeads}
 use Rattle.step_units.proofs.Entering.{stops_then}
 use Rattle.step_units.proofs.Filling.{LeadsTo, stays, goes_on, forced_fill, forcing_stops, fill_stops}

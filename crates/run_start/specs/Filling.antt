@@ -4,7 +4,7 @@ use Rattle.vm_facts.specs.declared.stop.Stop.{Stop}
 use Rattle.io_edge.specs.FileHolding.{NamedFile}
 use Rattle.page_model.specs.Placement.{Due, Start, CopyOf}
 use Rattle.machine_state.specs.Machine.{Standing}
-use Rattle.proc_calls.specs.Filling.{FillsStart, StopsStart}
+use Rattle.steady_laws.specs.Filling.{FillsStart, StopsStart}
 
 -- only new stack pages are due
 abbrev pub AreStarts : List Due → Type 0

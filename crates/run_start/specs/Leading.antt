@@ -12,9 +12,9 @@ use Rattle.kernel_model.specs.Start.{ImagesFit, start_kernel}
 use Rattle.machine_state.specs.Files.{AreImages}
 use Rattle.machine_state.specs.Machine.{Standing}
 use Rattle.run_model.specs.State.{State, starting, start}
-use Rattle.run_laws.specs.Running.{CanRun}
-use Rattle.run_units.specs.Leads.{Leads}
-use Rattle.run_units.specs.Serving.{SameBut}
+use Rattle.step_units.specs.RunLawsRunning.{CanRun}
+use Rattle.step_units.specs.Leads.{Leads}
+use Rattle.step_units.specs.Serving.{SameBut}
 use Rattle.step_units.specs.Machines.{MachineAt}
 use Rattle.step_units.specs.Stepped.{StopLeads}
 use Rattle.run_start.specs.Starting.{StartsFrom}

@@ -1,3 +1,13 @@
+pub use Rattle.steady_laws.specs.Reading
+pub use Rattle.steady_laws.specs.Holders
+pub use Rattle.steady_laws.specs.Ready
+pub use Rattle.step_units.specs.Lines
+pub use Rattle.step_units.specs.Machines
+pub use Rattle.step_units.specs.Registers
+pub use Rattle.step_units.specs.Stepped
+pub use Rattle.steady_laws.specs.Runners
+pub use Rattle.steady_laws.specs.Turns
+pub use Rattle.steady_laws.specs.Turned
 pub mod Starting
 pub mod Beginning
 pub mod Filling

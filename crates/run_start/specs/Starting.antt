@@ -7,8 +7,8 @@ use Rattle.machine_state.specs.New.{fresh_kernel}
 use Rattle.machine_state.specs.Applying.{facts_named}
 use Rattle.machine_state.specs.Machine.{Standing}
 use Rattle.machine_state.specs.Sourced.{ImageNamed}
-use Rattle.paging_units.specs.LastMoves.{last_moves}
-use Rattle.proc_calls.specs.Reading.{AreNamed}
+use Rattle.steady_laws.specs.LastMoves.{last_moves}
+use Rattle.steady_laws.specs.Reading.{AreNamed}
 use Rattle.steady_laws.specs.Holders.{HoldersStand}
 use Rattle.run_start.specs.declared.starting.Started.{Started}
 use Rattle.run_start.specs.declared.starting.Started.TheVariants as starteds

@@ -3,12 +3,12 @@ ghost use Rattle.std.specs.Prelude.{◌≡◌, ◌≤◌, [], false, MatchResult
 ghost use Rattle.page_model.specs.Rank.{HasRoom};
 ghost use Rattle.machine_state.specs.Done.{CountsPages, CountsReads, CountsWrites};
 ghost use Rattle.machine_state.specs.Files.{AreFiles};
-ghost use Rattle.paging_units.specs.LastMoves.{last_moves};
+ghost use Rattle.steady_laws.specs.LastMoves.{last_moves};
 ghost use Rattle.run_start.specs.Filling.{AreStarts, FillsAll, StopsFilling};
 
 use io_edge::{Files, SwapDev};
 use machine_state::Machine;
-use proc_calls::fill_start;
+use steady_laws::proc_calls::fill_start;
 use vm_facts::Stop;
 
 /// The new stack pages that are due are filled in turn, while nothing is locked.

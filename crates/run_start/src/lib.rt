@@ -6,3 +6,4 @@ mod filling;
 mod starting;
 
 pub use starting::{Started, start};
+pub use steady_laws::swapper;

@@ -24,7 +24,7 @@ use Rattle.user_vax.specs.Effects.{Effect, registers_only, with_move_codes, stor
 use Rattle.user_vax.specs.Frames.{push_all, with_frame, procedure_entry, procedure_call, registers_returned, procedure_return}
 use Rattle.user_vax.specs.Computation.{computation}
 use Rattle.user_vax.specs.Instruction.{fetch, evaluations, write_tests, tested_effect, execution, execution_by, instruction}
-use Rattle.run_laws.proofs.Execs.{AllGives, gives_bind, gives_any}
+use Rattle.economy_laws.proofs.Execs.{AllGives, gives_bind, gives_any}
 
 -- it makes no call, or writes nothing
 abbrev pub IsQuiet : Effect → Type 0

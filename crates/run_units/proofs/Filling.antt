@@ -7,7 +7,7 @@ use Rattle.vm_facts.specs.declared.page.PageState.{PageState}
 use Rattle.vm_facts.specs.declared.page.PageState.TheVariants.{Unfilled, Valid, Invalid, Coming, Going, OnSwap}
 use Rattle.flat_state.specs.Flat.{Inputs}
 use Rattle.flat_state.specs.PageNames.{is_among}
-use Rattle.touch_laws.proofs.Distinct.{among_first}
+use Rattle.economy_laws.proofs.Distinct.{among_first}
 use Rattle.page_model.specs.Pages.{is_valid}
 use Rattle.page_model.specs.Placement.{Placement, Due, Start, CopyOf, Transfer, state_of}
 use Rattle.page_model.specs.Conditions.{Spares}
@@ -23,16 +23,16 @@ use Rattle.run_model.specs.State.{State}
 use Rattle.run_model.specs.Wanted.{locked, locked_by}
 use Rattle.run_model.specs.After.{after, place_at}
 use Rattle.run_model.specs.Next.{next_unit, or_else, under, next_mark, due_unit, fill_unit, fill_by, copy_unit_by}
-use Rattle.run_laws.specs.Machine.{unit_image}
-use Rattle.run_laws.specs.Running.{IsRun}
-use Rattle.run_laws.proofs.Plain.{IsPaging, serve_paging}
-use Rattle.run_laws.proofs.Marks.{due_free}
-use Rattle.run_laws.proofs.Allowed.{not_due_after}
-use Rattle.run_laws.proofs.Units.{not_due}
+use Rattle.economy_laws.specs.Machine.{unit_image}
+use Rattle.economy_laws.specs.RunLawsRunning.{IsRun}
+use Rattle.economy_laws.proofs.Plain.{IsPaging, serve_paging}
+use Rattle.economy_laws.proofs.Marks.{due_free}
+use Rattle.economy_laws.proofs.Allowed.{not_due_after}
+use Rattle.economy_laws.proofs.Units.{not_due}
 use Rattle.economy_laws.proofs.Left.{serve_due_same, after_served}
 use Rattle.economy_laws.proofs.Stretching.{source_of}
-use Rattle.paging_units.specs.Made.{Ground, Made}
-use Rattle.paging_units.proofs.Units.{forced_place, served_place}
+use Rattle.fault_fill.specs.Made.{Ground, Made}
+use Rattle.fault_fill.proofs.PagingUnitsUnits.{forced_place, served_place}
 use Rattle.run_units.specs.Leads.{HasImages, KeepsLocked, MadeAs, Leads}
 use Rattle.run_units.specs.Serving.{SameBut, At}
 use Rattle.run_units.specs.Filling.{FillsFirst, LeadsDue}
@@ -88,10 +88,10 @@ fills_on p q (Start x ∷ ds) e locked s h = h
 fills_on p q (CopyOf x parent ∷ ds) e locked s h =
     (h.0, h.1, s parent (subst (λ (qs : List Page). is_among parent qs ≡ true) (sym h.1) (among_first parent [])) h.2)
 
-mark_free : (A : Inputs) (s : State) (e : Entry) (kept : List Page) → IsRun A s → FillsFirst s.place s.place.due e kept → Rattle.run_laws.proofs.Marks.IsFree s.mark
+mark_free : (A : Inputs) (s : State) (e : Entry) (kept : List Page) → IsRun A s → FillsFirst s.place s.place.due e kept → Rattle.economy_laws.proofs.Marks.IsFree s.mark
 mark_free A s e kept run h = go s.place.due refl h
   where
-    go : (ds : List Due) → s.place.due ≡ ds → FillsFirst s.place ds e kept → Rattle.run_laws.proofs.Marks.IsFree s.mark
+    go : (ds : List Due) → s.place.due ≡ ds → FillsFirst s.place ds e kept → Rattle.economy_laws.proofs.Marks.IsFree s.mark
     go [] k x = absurd x
     go (d ∷ ds) k x = due_free s d ds k s.mark run.mark
 
@@ -131,7 +131,7 @@ forced (u ∷ us) A g s k l image j e at f h x m =
     (subst (λ (y : Placement). FillsFirst y s.place.due e g.locked) (sym place) (fills_on s.place (force s.place g.locked) s.place.due e g.locked (force_spares s.place g.locked own) h)) in
     let rest : Forces us m.next.place g.locked l.place =
     subst (λ (y : Placement). Forces us y g.locked l.place)
-    (sym (forced_place g k m.next (Some image) (subst (λ (y : Entry). Rattle.paging_units.specs.Made.MadeBy g y k (Some image) m.next) x.1 m.made))) x.2 in
+    (sym (forced_place g k m.next (Some image) (subst (λ (y : Entry). Rattle.fault_fill.specs.Made.MadeBy g y k (Some image) m.next) x.1 m.made))) x.2 in
     let more : Forced A g (after A s u) m.next image1 e us l j =
     forced us A g (after A s u) m.next l image1 j e (leads_at A s (after A s u) k m.next image image1 (u ∷ []) at first) f fills rest
     (subst (λ (o : Option (List ℕ)). Made g us m.next o l j) one.told m.rest) in

@@ -33,17 +33,17 @@ use Rattle.machine_state.proofs.FlatMemory.{memory_covers}
 use Rattle.flat_model.specs.declared.calls.Reply.{Reply}
 use Rattle.flat_model.specs.declared.calls.SystemCall.{SystemCall}
 use Rattle.flat_model.specs.Step.{reply_asked}
-use Rattle.flat_laws.specs.Shown.{IsCallOf}
+use Rattle.economy_laws.specs.Shown.{IsCallOf}
 use Rattle.flat_model.specs.Instruction.{instruction_in}
 use Rattle.flat_model.specs.Touched.{page_of_access, step_accesses, accesses_after, distinct, touched, touched_by, touched_in, touched_if}
 use Rattle.run_model.specs.State.{State}
 use Rattle.run_model.specs.Wanted.{touched_next, wanted, AllValid}
 use Rattle.run_model.specs.Kinds.{Runs}
 use Rattle.run_model.proofs.Wanting.{all_unwanted}
-use Rattle.flat_laws.proofs.Asking.{own_space}
-use Rattle.run_laws.specs.Standing.{IsText, HasText}
-use Rattle.run_laws.proofs.Flows.{on_running, on_steps}
-use Rattle.run_laws.proofs.Touching.{found_process}
+use Rattle.economy_laws.proofs.FlatLawsAsking.{own_space}
+use Rattle.economy_laws.specs.Standing.{IsText, HasText}
+use Rattle.economy_laws.proofs.Flows.{on_running, on_steps}
+use Rattle.economy_laws.proofs.RunLawsTouching.{found_process}
 use Rattle.economy_laws.proofs.Left.{next_on}
 use Rattle.run_units.specs.Serving.{At}
 use Rattle.run_units.specs.Touching.{IsRunning, WantsPage, MakesNone, IsWhole, IsReadyFor, IsAnswered, IsCalledFor}
@@ -69,7 +69,7 @@ lent A s k image pid p x at here holds = record {
     flat : FlatState
     flat = s.point.flat
 
-    keeps : Rattle.run_laws.specs.Machine.Keeps A flat k image
+    keeps : Rattle.economy_laws.specs.Machine.Keeps A flat k image
     keeps = at.stands.keeps
 
     own : numbered (λ (y : Space). y.sid) x.sid (spaces_of flat) ≡ Some x

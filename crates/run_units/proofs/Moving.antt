@@ -12,18 +12,18 @@ use Rattle.page_model.specs.Place.{place_entry}
 use Rattle.page_model.specs.Serve.{is_full}
 use Rattle.page_laws.proofs.Moves.Stays.{move_stays, done_steady}
 use Rattle.kernel_model.specs.Kernel.{Kernel}
-use Rattle.span_laws.specs.Spans.{moves, moves_of}
+use Rattle.economy_laws.specs.Spans.{moves, moves_of}
 use Rattle.run_model.specs.declared.mark.Mark.{Mark}
 use Rattle.run_model.specs.declared.mark.Mark.TheVariants as marks
 use Rattle.run_model.specs.State.{State}
 use Rattle.run_model.specs.Wanted.{running, touched_by, before_absent, locked_by, locked}
 use Rattle.run_model.specs.After.{after, completed, moved_on}
 use Rattle.run_model.specs.Next.{when, begins_write, move_by, move_unit, under, next_unit}
-use Rattle.run_laws.specs.Machine.{unit_image}
-use Rattle.paging_units.specs.Made.{Ground, Made}
-use Rattle.paging_units.proofs.Units.{unit_place}
-use Rattle.clock_hands.specs.Moved.{Moves}
-use Rattle.clock_hands.proofs.Asked.{moves_next}
+use Rattle.economy_laws.specs.Machine.{unit_image}
+use Rattle.fault_fill.specs.Made.{Ground, Made}
+use Rattle.fault_fill.proofs.PagingUnitsUnits.{unit_place}
+use Rattle.fault_fill.specs.Moved.{Moves}
+use Rattle.fault_fill.proofs.Asked.{moves_next}
 use Rattle.run_units.specs.Leads.{HasImages, KeepsLocked, MadeAs, Leads}
 use Rattle.run_units.specs.Serving.{At}
 use Rattle.run_units.specs.Moving.{AsksMoves, LeadsMoving}

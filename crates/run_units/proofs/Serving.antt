@@ -26,15 +26,15 @@ use Rattle.run_model.specs.After.{after, place_at, completed, moved_on, audited}
 use Rattle.run_model.specs.Next.{next_unit, under, work, work_by, when, or_else, due_unit, next_mark, goes_on, turn_unit, turn_instructions}
 use Rattle.run_model.specs.Kinds.{Runs, GoesOn}
 use Rattle.run_model.proofs.Wanting.{splits_wanted, splits_locked}
-use Rattle.run_laws.specs.Machine.{unit_image}
-use Rattle.run_laws.proofs.Plain.{IsPaging, paging_stays, serve_paging}
-use Rattle.run_laws.proofs.Paging.{entry_out}
-use Rattle.run_laws.proofs.Marks.{IsFree, on_free}
-use Rattle.run_laws.proofs.Flows.{runs_work, on_running, spared}
-use Rattle.run_laws.proofs.Touching.{Present, touched_present}
+use Rattle.economy_laws.specs.Machine.{unit_image}
+use Rattle.economy_laws.proofs.Plain.{IsPaging, paging_stays, serve_paging}
+use Rattle.economy_laws.proofs.Paging.{entry_out}
+use Rattle.economy_laws.proofs.Marks.{IsFree, on_free}
+use Rattle.economy_laws.proofs.Flows.{runs_work, on_running, spared}
+use Rattle.economy_laws.proofs.RunLawsTouching.{Present, touched_present}
 use Rattle.economy_laws.proofs.Left.{serve_due_same, next_on}
-use Rattle.paging_units.specs.Made.{Ground, Made}
-use Rattle.paging_units.proofs.Units.{served_place}
+use Rattle.fault_fill.specs.Made.{Ground, Made}
+use Rattle.fault_fill.proofs.PagingUnitsUnits.{served_place}
 use Rattle.run_units.specs.Leads.{KeepsLocked, MadeAs, Leads}
 use Rattle.run_units.specs.Serving.{SameBut, IsWaiting, At, Served}
 use Rattle.run_units.proofs.Units.{one_made, none_leads, first_leads, leads_at}

@@ -20,11 +20,11 @@ use Rattle.run_model.specs.Act.{act, act_if, act_by, settled, must_refuse, must_
 use Rattle.run_model.specs.Next.{next_unit}
 use Rattle.run_model.specs.Kinds.{Runs}
 use Rattle.run_model.proofs.Wanting.{wanted_none, all_unwanted}
-use Rattle.run_laws.specs.Machine.{unit_image}
-use Rattle.run_laws.proofs.Marks.{on_free}
-use Rattle.run_laws.proofs.Flows.{on_steps, runs_next, spared}
+use Rattle.economy_laws.specs.Machine.{unit_image}
+use Rattle.economy_laws.proofs.Marks.{on_free}
+use Rattle.economy_laws.proofs.Flows.{on_steps, runs_next, spared}
 use Rattle.machine_state.specs.Settled.{EndsWhile}
-use Rattle.paging_units.specs.Made.{Ground}
+use Rattle.fault_fill.specs.Made.{Ground}
 use Rattle.run_units.specs.Leads.{HasImages, MadeAs, Leads}
 use Rattle.run_units.specs.Serving.{SameBut, At}
 use Rattle.run_units.specs.Settling.{IsLeaving, LeadsLeaving}

@@ -27,9 +27,9 @@ use Rattle.kernel_model.specs.Coupled.{Fits, KeepsRegs}
 use Rattle.kernel_model.specs.ChangeStep.{ran_by, change_step, pass_step}
 use Rattle.kernel_model.specs.Asks.{asked}
 use Rattle.kernel_model.specs.Unit.{has_lender, passing_change, proc_of}
-use Rattle.kernel_laws.proofs.Kept.Borrowed.{borrows_is}
-use Rattle.kernel_laws.proofs.Machine.Swaps.{found_at}
-use Rattle.kernel_laws.proofs.Machine.Shapes.{Shaped, touch_shaped, sizes_kept, image_kept}
+use Rattle.economy_laws.proofs.Borrowed.{borrows_is}
+use Rattle.economy_laws.proofs.Swaps.{found_at}
+use Rattle.economy_laws.proofs.Shapes.{Shaped, touch_shaped, sizes_kept, image_kept}
 use Rattle.machine_state.specs.UserMemory.{bytes_of, text_len, data_len, stack_len, spot_in, write_by_state, write_page, write_spot, write_in, writes_in}
 use Rattle.user_vax.specs.Program.{run}
 use Rattle.user_vax.specs.Effects.{Effect}
@@ -41,19 +41,19 @@ use Rattle.flat_model.specs.declared.calls.SystemCall.{SystemCall}
 use Rattle.flat_model.specs.Calls.{or_fault, refused_reply, stack_pages_of}
 use Rattle.flat_model.specs.Step.{Step, data_pages_of, pages_down_to, grown_step, reply_asked, replied_step, called_step, step_behind, step_of, step_holding, step_if, flat_step}
 use Rattle.flat_model.specs.Run.{step_at, is_refused}
-use Rattle.flat_laws.specs.Shown.{IsCallOf}
+use Rattle.economy_laws.specs.Shown.{IsCallOf}
 use Rattle.flat_model.specs.Asked.{or_before, with_pieces, wanted_if, wanted_in, change_wanted}
 use Rattle.flat_model.specs.Touched.{page_tested}
-use Rattle.flat_laws.proofs.Asking.{own_space, data_counted, stack_counted, change_same}
+use Rattle.economy_laws.proofs.FlatLawsAsking.{own_space, data_counted, stack_counted, change_same}
 use Rattle.run_model.specs.State.{State}
-use Rattle.run_laws.specs.Machine.{place_in, write_into, write_page as write_tested, write_byte, write_bytes, write_held, write_by, takes_step, written_step, taken_step, process_step, ran_step, unit_step, Completes}
+use Rattle.economy_laws.specs.Machine.{place_in, write_into, write_page as write_tested, write_byte, write_bytes, write_held, write_by, takes_step, written_step, taken_step, process_step, ran_step, unit_step, Completes}
 use Rattle.io_edge.specs.FileHolding.{NamedFile}
 use Rattle.aout_image.specs.declared.Image.{Image}
 use Rattle.aout_image.specs.Image.{Loaded, loaded}
 use Rattle.machine_state.specs.Sourced.{ImageNamed}
 use Rattle.machine_state.specs.Files.{AreLoaded, AreImages}
 use Rattle.machine_state.specs.Applying.{facts_named}
-use Rattle.paging_units.specs.Made.{Ground}
+use Rattle.fault_fill.specs.Made.{Ground}
 use Rattle.run_units.specs.Leads.{HasImages, MadeAs}
 use Rattle.run_units.specs.Serving.{At}
 use Rattle.run_units.specs.Touching.{IsRunning, IsReadyFor, IsCalledFor}

@@ -25,9 +25,9 @@ use Rattle.run_model.specs.State.{State}
 use Rattle.run_model.specs.Wanted.{locked}
 use Rattle.run_model.specs.After.{after, completed, place_at}
 use Rattle.run_model.specs.Next.{when, or_else, due_unit, line_or_turn, turn_of, under, next_mark, next_unit, owners_entry, next_turned, last_turned}
-use Rattle.run_laws.specs.Machine.{unit_image, IsNote}
-use Rattle.paging_units.specs.Made.{Ground, MadeBy, Made}
-use Rattle.paging_units.proofs.Units.{unit_place}
+use Rattle.economy_laws.specs.Machine.{unit_image, IsNote}
+use Rattle.fault_fill.specs.Made.{Ground, MadeBy, Made}
+use Rattle.fault_fill.proofs.PagingUnitsUnits.{unit_place}
 use Rattle.run_units.specs.Leads.{HasImages, KeepsLocked, MadeAs, Leads}
 use Rattle.run_units.specs.Serving.{SameBut, At}
 use Rattle.run_units.specs.Swapping.{PutsProcess, LeadsPutting}

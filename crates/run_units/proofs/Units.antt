@@ -10,11 +10,11 @@ use Rattle.run_model.specs.State.{State}
 use Rattle.run_model.specs.Wanted.{locked}
 use Rattle.run_model.specs.After.{after}
 use Rattle.run_model.specs.Next.{next_unit}
-use Rattle.run_laws.specs.Machine.{unit_step, unit_image, Makes}
-use Rattle.run_laws.proofs.Machines.{units_keep, makes_follows}
-use Rattle.run_laws.proofs.Execs.{execs_fit}
-use Rattle.run_laws.proofs.Running.{run_all}
-use Rattle.paging_units.specs.Made.{Ground, MadeBy, ImageBy}
+use Rattle.economy_laws.specs.Machine.{unit_step, unit_image, Makes}
+use Rattle.economy_laws.proofs.Machines.{units_keep, makes_follows}
+use Rattle.economy_laws.proofs.Execs.{execs_fit}
+use Rattle.economy_laws.proofs.Running.{run_all}
+use Rattle.fault_fill.specs.Made.{Ground, MadeBy, ImageBy}
 use Rattle.run_units.specs.Leads.{HasImages, KeepsLocked, MadeAs, Leads}
 use Rattle.run_units.specs.Serving.{At}
 
@@ -68,5 +68,5 @@ leads_at A s t k l image behind us at a =
     record {
       fit = at.fit;
       run = run_all A us s t at.fit (execs_fit A) at.run (makes_follows A us s t k l image a.behind a.makes);
-      stands = subst (λ (x : List ℕ). Rattle.run_laws.specs.Machine.StandsAt A t l x) same (units_keep A us s t k l image a.behind at.fit at.run at.stands a.makes);
+      stands = subst (λ (x : List ℕ). Rattle.economy_laws.specs.Machine.StandsAt A t l x) same (units_keep A us s t k l image a.behind at.fit at.run at.stands a.makes);
     }

@@ -10,7 +10,7 @@ use Rattle.page_model.specs.Serve.{force_entry, serve_unit, Forces, Serves}
 use Rattle.kernel_model.specs.Kernel.{Kernel}
 use Rattle.run_model.specs.State.{State}
 use Rattle.run_model.specs.Next.{next_unit}
-use Rattle.paging_units.specs.Made.{Ground, Made}
+use Rattle.fault_fill.specs.Made.{Ground, Made}
 use Rattle.run_units.specs.Leads.{HasImages, Leads}
 use Rattle.run_units.specs.Serving.{SameBut, At}
 

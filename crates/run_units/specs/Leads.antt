@@ -7,8 +7,8 @@ use Rattle.kernel_model.specs.Kernel.{Kernel}
 use Rattle.machine_state.specs.Files.{AreImages}
 use Rattle.run_model.specs.State.{State}
 use Rattle.run_model.specs.Wanted.{locked}
-use Rattle.run_laws.specs.Machine.{unit_step, unit_image, IsGiven, Makes}
-use Rattle.paging_units.specs.Made.{Ground}
+use Rattle.economy_laws.specs.Machine.{unit_step, unit_image, IsGiven, Makes}
+use Rattle.fault_fill.specs.Made.{Ground}
 
 -- the files, where they are told, hold the images of the run
 abbrev pub HasImages : Ground → Inputs → Type 0

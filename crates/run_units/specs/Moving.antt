@@ -4,12 +4,12 @@ use Rattle.vm_facts.specs.declared.entry.Entry.{Entry}
 use Rattle.flat_state.specs.Flat.{Inputs}
 use Rattle.page_model.specs.Hands.{wants_moves}
 use Rattle.kernel_model.specs.Kernel.{Kernel}
-use Rattle.span_laws.specs.Spans.{moves_of}
+use Rattle.economy_laws.specs.Spans.{moves_of}
 use Rattle.run_model.specs.declared.mark.Mark.TheVariants as marks
 use Rattle.run_model.specs.State.{State}
 use Rattle.run_model.specs.Next.{under, move_unit, next_unit}
-use Rattle.paging_units.specs.Made.{Ground, Made}
-use Rattle.clock_hands.specs.Moved.{Moves}
+use Rattle.fault_fill.specs.Made.{Ground, Made}
+use Rattle.fault_fill.specs.Moved.{Moves}
 use Rattle.run_units.specs.Leads.{HasImages, Leads}
 use Rattle.run_units.specs.Serving.{At}
 

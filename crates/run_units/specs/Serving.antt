@@ -10,9 +10,9 @@ use Rattle.run_model.specs.State.{State}
 use Rattle.run_model.specs.Wanted.{touched_next, AllValid}
 use Rattle.run_model.specs.Kinds.{Runs}
 use Rattle.run_model.specs.Next.{next_unit}
-use Rattle.run_laws.specs.Machine.{StandsAt}
-use Rattle.run_laws.specs.Running.{IsRun}
-use Rattle.paging_units.specs.Made.{Ground, Made}
+use Rattle.economy_laws.specs.Machine.{StandsAt}
+use Rattle.economy_laws.specs.RunLawsRunning.{IsRun}
+use Rattle.fault_fill.specs.Made.{Ground, Made}
 use Rattle.run_units.specs.Leads.{HasImages, Leads}
 
 -- all of a state but its pages and its journal is as before

@@ -12,7 +12,7 @@ use Rattle.run_model.specs.Wanted.{wanted}
 use Rattle.run_model.specs.Kinds.{Runs}
 use Rattle.run_model.specs.Act.{settled, must_refuse, step_loses}
 use Rattle.run_model.specs.Next.{next_unit}
-use Rattle.paging_units.specs.Made.{Ground}
+use Rattle.fault_fill.specs.Made.{Ground}
 use Rattle.run_units.specs.Leads.{HasImages, Leads}
 use Rattle.run_units.specs.Serving.{SameBut, At}
 

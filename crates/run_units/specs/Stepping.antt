@@ -16,7 +16,7 @@ use Rattle.kernel_model.specs.Asks.{asked}
 use Rattle.kernel_model.specs.Unit.{has_lender, lender_among, passing_change, proc_of}
 use Rattle.machine_state.specs.Applying.{facts_named}
 use Rattle.machine_state.specs.UserMemory.{writes_in}
-use Rattle.paging_units.specs.Made.{Ground}
+use Rattle.fault_fill.specs.Made.{Ground}
 use Rattle.user_vax.specs.Effects.{Effect}
 use Rattle.user_vax.specs.declared.refused.Refused.{Refused}
 use Rattle.flat_model.specs.declared.calls.Reply.{Reply}
@@ -25,13 +25,13 @@ use Rattle.flat_model.specs.Calls.{or_fault, refused_reply, stack_pages_of}
 use Rattle.user_vax.specs.declared.refused.Refused.TheVariants.{Below}
 use Rattle.flat_model.specs.Step.{Step, step_of, replied_step, data_pages_of, pages_down_to}
 use Rattle.flat_model.specs.Run.{step_at, is_refused}
-use Rattle.flat_laws.specs.Shown.{IsCallOf}
+use Rattle.economy_laws.specs.Shown.{IsCallOf}
 use Rattle.run_model.specs.State.{State}
 use Rattle.run_model.specs.Wanted.{wanted}
 use Rattle.run_model.specs.Act.{act}
 use Rattle.run_model.specs.Next.{next_unit}
 use Rattle.run_model.specs.Kinds.{Runs}
-use Rattle.run_laws.specs.Machine.{Completes}
+use Rattle.economy_laws.specs.Machine.{Completes}
 use Rattle.run_units.specs.Leads.{HasImages, MadeAs}
 use Rattle.run_units.specs.Serving.{At}
 use Rattle.run_units.specs.Touching.{IsRunning, IsReadyFor, IsCalledFor}

@@ -13,8 +13,8 @@ use Rattle.machine_state.specs.Swapping.{WritesU, IsIn}
 use Rattle.run_model.specs.declared.mark.Mark.TheVariants as marks
 use Rattle.run_model.specs.State.{State}
 use Rattle.run_model.specs.Next.{under, next_mark, next_unit, owners_entry, next_turned, last_turned}
-use Rattle.run_laws.specs.Machine.{IsNote}
-use Rattle.paging_units.specs.Made.{Ground, Made}
+use Rattle.economy_laws.specs.Machine.{IsNote}
+use Rattle.fault_fill.specs.Made.{Ground, Made}
 use Rattle.run_units.specs.Leads.{HasImages, MadeAs, Leads}
 use Rattle.run_units.specs.Serving.{SameBut, At}
 

@@ -19,7 +19,7 @@ use Rattle.flat_model.specs.declared.calls.SystemCall.{SystemCall}
 use Rattle.flat_model.specs.Calls.{call_of}
 use Rattle.flat_model.specs.Step.{reply_asked}
 use Rattle.flat_model.specs.Instruction.{instruction_in}
-use Rattle.flat_laws.specs.Shown.{IsCallOf}
+use Rattle.economy_laws.specs.Shown.{IsCallOf}
 use Rattle.run_model.specs.State.{State}
 use Rattle.run_model.specs.Wanted.{wanted, touched_next, AllValid}
 use Rattle.run_model.specs.Kinds.{Runs}

@@ -3,7 +3,7 @@ ghost use Rattle.vm_facts.specs.declared.entry.Entry.{Entry};
 ghost use Rattle.flat_state.specs.Flat.{Inputs};
 ghost use Rattle.kernel_model.specs.Kernel.{Kernel};
 ghost use Rattle.run_model.specs.State.{State};
-ghost use Rattle.paging_units.specs.Made.{Ground, MadeBy, ImageBy};
+ghost use Rattle.fault_fill.specs.Made.{Ground, MadeBy, ImageBy};
 ghost use Rattle.run_units.specs.Leads.{HasImages, KeepsLocked, MadeAs, Leads};
 ghost use Rattle.run_units.specs.Acting.{StepBegins, StepIsRefused, RefusedStepComes, ReplyComes};
 ghost use Rattle.run_units.specs.Filling.{ForcingIsNext, ForcedNext, FillIsNext, BringingIsNext, BroughtNext};

@@ -5,6 +5,7 @@
 
 mod laws;
 
+pub use fault_fill::clock_hands;
 pub use laws::{
     accesses_tell_pages, filling_is_next, marks_come, moving_is_next, serving_is_next,
     settling_is_next, steps_are_made, swapping_is_next, units_are_next,

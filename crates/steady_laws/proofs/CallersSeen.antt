@@ -17,7 +17,7 @@ use Rattle.machine_state.specs.Machine.{Standing, life_shown, processes_of, proc
 use Rattle.machine_state.specs.Alike.{AreRecords}
 use Rattle.machine_state.proofs.Records.{keeps_none, keeps_some}
 use Rattle.machine_state.proofs.MovedRecords.{found_residence}
-use Rattle.fault_fill.proofs.Touching.{record_shown}
+use Rattle.proc_calls.proofs.Touching.{record_shown}
 use Rattle.proc_calls.specs.Callers.{IsCaller}
 use Rattle.kernel_model.specs.Kernel.{HoldsSpace}
 use Rattle.machine_state.specs.Calls.{life_in}

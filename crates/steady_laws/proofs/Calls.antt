@@ -27,7 +27,7 @@ use Rattle.machine_state.specs.Calls.{life_in}
 use Rattle.machine_state.specs.Machine.{Standing}
 use Rattle.machine_state.specs.Applying.{facts_named}
 use Rattle.machine_state.specs.Done.{sources}
-use Rattle.vfork_pass.specs.Passed.{IsHolder}
+use Rattle.proc_calls.specs.Passed.{IsHolder}
 use Rattle.proc_calls.specs.declared.replying.Called.{Called}
 use Rattle.proc_calls.specs.Answered.{Entered, GoneOut, Written, Replied, Comes}
 use Rattle.proc_calls.specs.Callers.{IsCaller, space_held, regs_of}

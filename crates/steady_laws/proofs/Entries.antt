@@ -21,7 +21,7 @@ use Rattle.kernel_model.specs.ChangeStep.{space_of_life, gave_back, change_if, c
 use Rattle.machine_state.specs.Machine.{Standing}
 use Rattle.machine_state.specs.Applying.{facts_named}
 use Rattle.machine_state.specs.UserMemory.{spot_in, write_by_state, write_page, write_spot, write_in, writes_in}
-use Rattle.paging_units.specs.LastMoves.{last_moves}
+use Rattle.swapper.specs.LastMoves.{last_moves}
 use Rattle.proc_calls.specs.Answered.{Entered}
 use Rattle.proc_calls.specs.Callers.{proc_in, IsCaller}
 use Rattle.proc_calls.specs.Making.{with_pieces}

@@ -4,8 +4,8 @@ use Rattle.vm_facts.specs.declared.entry.Entry.{Entry}
 use Rattle.vm_facts.specs.declared.entry.Entry.TheVariants as entries
 use Rattle.flat_state.specs.Journal.{join_by, join, append_after, append_joined, append, counted, instructions_of, IsPlain}
 use Rattle.flat_state.proofs.Joins.{append_plain, count-append, append_counted}
-use Rattle.paging_units.specs.LastMoves.{moves_counted, last_moves}
-use Rattle.paging_units.proofs.LastMoves.{last_of}
+use Rattle.swapper.specs.LastMoves.{moves_counted, last_moves}
+use Rattle.swapper.proofs.LastMoves.{last_of}
 
 plain_still : (e : Entry) → IsPlain e → moves_counted e ≡ 0
 plain_still (entries.Ran pid n) h = absurd h

@@ -20,9 +20,9 @@ use Rattle.machine_state.specs.Done.{Sources, IsDone}
 use Rattle.machine_state.specs.Settled.{EndsWhile}
 use Rattle.machine_state.specs.Swapping.{IsIn}
 use Rattle.machine_state.specs.UserMemory.{spot_in, write_by_state, write_spot, write_in, writes_in}
-use Rattle.paging_units.specs.Made.{Ground, MadeBy, Made}
-use Rattle.paging_units.proofs.Units.{unit_same, made_same}
-use Rattle.paging_units.proofs.Keeping.{unit_shaped, made_shaped}
+use Rattle.swapper.specs.Made.{Ground, MadeBy, Made}
+use Rattle.swapper.proofs.PagingUnitsUnits.{unit_same, made_same}
+use Rattle.swapper.proofs.Keeping.{unit_shaped, made_shaped}
 use Rattle.steady_laws.specs.Holders.{HoldersStand}
 use Rattle.steady_laws.proofs.Standing.{life_at, Stand, stand_kept}
 use Rattle.steady_laws.proofs.Tables.{regs_lives}

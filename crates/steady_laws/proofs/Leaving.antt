@@ -23,8 +23,8 @@ use Rattle.machine_state.specs.Machine.{Standing}
 use Rattle.machine_state.specs.Sourced.{ImageNamed}
 use Rattle.machine_state.specs.Applying.{facts_named}
 use Rattle.machine_state.specs.UserMemory.{kernel_answers}
-use Rattle.vfork_pass.specs.Passed.{IsHolder}
-use Rattle.vfork_pass.proofs.Lives.{holds_some}
+use Rattle.proc_calls.specs.Passed.{IsHolder}
+use Rattle.proc_calls.proofs.Lives.{holds_some}
 use Rattle.proc_calls.specs.declared.replying.Called.{Called}
 use Rattle.proc_calls.specs.Callers.{space_held, regs_of}
 use Rattle.proc_calls.specs.Leaving.{HasLeft, HasLeftBy, HasEnded, ExitComes}

@@ -8,7 +8,7 @@ use Rattle.kernel_model.specs.ChangeStep.{life_of_proc, space_of_life, pass_from
 use Rattle.kernel_model.specs.Unit.{lends_life, lender_among, has_lender}
 use Rattle.kernel_laws.proofs.Flat.Numbered.{absent_none}
 use Rattle.machine_state.specs.Calls.{life_in}
-use Rattle.vfork_pass.proofs.Lives.{gives}
+use Rattle.proc_calls.proofs.Lives.{gives}
 use Rattle.steady_laws.specs.Holders.{HoldsOrNone}
 use Rattle.steady_laws.proofs.Standing.{life_at}
 use Rattle.steady_laws.proofs.Passing.{holder_is}

@@ -1,3 +1,8 @@
+pub use Rattle.swapper.proofs.Stopping
+pub use Rattle.proc_calls.proofs.CopiedPages
+pub use Rattle.proc_calls.proofs.Waits
+pub use Rattle.proc_calls.proofs.Writes
+pub use Rattle.swapper.proofs.Numbers
 pub mod Standing
 pub mod Tables
 pub mod Spaces

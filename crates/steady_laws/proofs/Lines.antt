@@ -8,18 +8,18 @@ use Rattle.io_edge.specs.FileHolding.{NamedFile}
 use Rattle.flat_state.specs.Journal.{append}
 use Rattle.page_model.specs.Placement.{Due, Start}
 use Rattle.page_model.specs.Place.{due_after}
-use Rattle.span_laws.specs.Spans.{moves, moves_of}
+use Rattle.proc_calls.specs.Spans.{moves, moves_of}
 use Rattle.kernel_model.specs.Kernel.{Kernel, zero_step}
 use Rattle.machine_state.specs.Beginning.{StartedFirst}
 use Rattle.machine_state.specs.Machine.{Standing}
 use Rattle.machine_state.specs.Settled.{IsSameBeside}
 use Rattle.machine_state.specs.Swapping.{IsIn}
-use Rattle.paging_units.specs.LastMoves.{last_moves}
-use Rattle.paging_units.specs.Made.{Ground, ground, MadeBy, Made, Makes}
-use Rattle.paging_units.proofs.LastMoves.{last_more}
-use Rattle.paging_units.proofs.Units.{unit_journal, made_same}
-use Rattle.clock_hands.specs.Forced.{Forced}
-use Rattle.clock_hands.specs.Moved.{Moved}
+use Rattle.swapper.specs.LastMoves.{last_moves}
+use Rattle.swapper.specs.Made.{Ground, ground, MadeBy, Made, Makes}
+use Rattle.swapper.proofs.LastMoves.{last_more}
+use Rattle.swapper.proofs.PagingUnitsUnits.{unit_journal, made_same}
+use Rattle.proc_calls.specs.Forced.{Forced}
+use Rattle.proc_calls.specs.Moved.{Moved}
 use Rattle.proc_calls.specs.Filling.{FillsStart}
 use Rattle.swapper.specs.declared.Turned.{Turned}
 use Rattle.swapper.specs.declared.Turned.TheVariants as turns

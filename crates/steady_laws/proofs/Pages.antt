@@ -8,18 +8,18 @@ use Rattle.io_edge.specs.FileHolding.{NamedFile}
 use Rattle.kernel_model.specs.Kernel.{Kernel}
 use Rattle.machine_state.specs.Machine.{Standing}
 use Rattle.machine_state.specs.Applying.{facts_named}
-use Rattle.paging_units.specs.Made.{Ground, Makes, ground}
-use Rattle.clock_hands.specs.Forced.{Forced}
-use Rattle.clock_hands.specs.Moved.{Moved}
-use Rattle.fault_fill.specs.declared.access.Access.{Access}
-use Rattle.fault_fill.specs.declared.access.Access.TheVariants as accesses
-use Rattle.fault_fill.specs.declared.pages.Served.{Served as Came}
-use Rattle.fault_fill.specs.declared.pages.Served.TheVariants as came
-use Rattle.fault_fill.specs.declared.touch.Served.{Served}
-use Rattle.fault_fill.specs.declared.touch.Served.TheVariants as served
-use Rattle.fault_fill.specs.Serving.{ServesTo}
-use Rattle.fault_fill.specs.Growth.{Grown, GrowthRefused, growth}
-use Rattle.fault_fill.specs.Touches.{PageComes, TouchedAs, TouchedNow, GrownFirst, AccessComes}
+use Rattle.swapper.specs.Made.{Ground, Makes, ground}
+use Rattle.proc_calls.specs.Forced.{Forced}
+use Rattle.proc_calls.specs.Moved.{Moved}
+use Rattle.proc_calls.specs.FaultFillAccessAccess.{Access}
+use Rattle.proc_calls.specs.FaultFillAccessAccess.TheVariants as accesses
+use Rattle.proc_calls.specs.FaultFillPagesServed.{Served as Came}
+use Rattle.proc_calls.specs.FaultFillPagesServed.TheVariants as came
+use Rattle.proc_calls.specs.FaultFillTouchServed.{Served}
+use Rattle.proc_calls.specs.FaultFillTouchServed.TheVariants as served
+use Rattle.proc_calls.specs.Serving.{ServesTo}
+use Rattle.proc_calls.specs.Growth.{Grown, GrowthRefused, growth}
+use Rattle.proc_calls.specs.Touches.{PageComes, TouchedAs, TouchedNow, GrownFirst, AccessComes}
 use Rattle.swapper.specs.declared.Turned.{Turned}
 use Rattle.swapper.specs.declared.Turned.TheVariants as turns
 use Rattle.swapper.specs.Putting.{PutOut}

@@ -5,15 +5,15 @@ use Rattle.vm_facts.specs.declared.page.Page.TheVariants.{Stack}
 use Rattle.vm_facts.specs.declared.entry.Entry.TheVariants as entries
 use Rattle.io_edge.specs.FileHolding.{NamedFile}
 use Rattle.machine_state.specs.Machine.{Standing}
-use Rattle.paging_units.specs.Made.{ground}
-use Rattle.fault_fill.specs.declared.access.Access.{Access}
-use Rattle.fault_fill.specs.declared.access.Access.TheVariants as accesses
-use Rattle.fault_fill.specs.declared.pages.Served.{Served as Came}
-use Rattle.fault_fill.specs.declared.pages.Served.TheVariants as came
-use Rattle.fault_fill.specs.declared.touch.Served.{Served}
-use Rattle.fault_fill.specs.declared.touch.Served.TheVariants as served
-use Rattle.fault_fill.specs.Growth.{growth, Grown}
-use Rattle.fault_fill.specs.Touches.{PageComes, PageComesNow, TouchedAs, TouchedNow, GrownFirst, AccessComes}
+use Rattle.swapper.specs.Made.{ground}
+use Rattle.proc_calls.specs.FaultFillAccessAccess.{Access}
+use Rattle.proc_calls.specs.FaultFillAccessAccess.TheVariants as accesses
+use Rattle.proc_calls.specs.FaultFillPagesServed.{Served as Came}
+use Rattle.proc_calls.specs.FaultFillPagesServed.TheVariants as came
+use Rattle.proc_calls.specs.FaultFillTouchServed.{Served}
+use Rattle.proc_calls.specs.FaultFillTouchServed.TheVariants as served
+use Rattle.proc_calls.specs.Growth.{growth, Grown}
+use Rattle.proc_calls.specs.Touches.{PageComes, PageComesNow, TouchedAs, TouchedNow, GrownFirst, AccessComes}
 use Rattle.proc_calls.specs.Callers.{IsCaller}
 use Rattle.steady_laws.specs.Ready.{IsReady, Continues}
 use Rattle.steady_laws.proofs.Running.{continues_self, continues_both, caller_ready, stays_ready, units_continue}

@@ -12,7 +12,7 @@ use Rattle.kernel_model.specs.Numbers.{Numbered}
 use Rattle.page_laws.proofs.Lists.Pages.{mapped}
 use Rattle.kernel_laws.proofs.Flat.Numbered.{numbered_map}
 use Rattle.machine_state.specs.Calls.{life_in}
-use Rattle.vfork_pass.proofs.Lives.{found, passed, gives, takes, stays}
+use Rattle.proc_calls.proofs.Lives.{found, passed, gives, takes, stays}
 use Rattle.steady_laws.specs.Holders.{HoldersStand, MayKeep}
 use Rattle.steady_laws.proofs.Standing.{stand_passed, same_space, new_holds_none, lender_holds_none}
 use Rattle.steady_laws.proofs.Changing.{change_stands}

@@ -10,9 +10,9 @@ use Rattle.page_laws.proofs.Ends.Hands.{room_still}
 use Rattle.kernel_model.specs.Kernel.{Kernel}
 use Rattle.machine_state.specs.Machine.{Standing}
 use Rattle.machine_state.specs.UserMemory.{CanLend}
-use Rattle.paging_units.specs.LastMoves.{last_moves}
-use Rattle.paging_units.specs.Made.{Ground, MadeBy, Made, Makes}
-use Rattle.paging_units.proofs.Units.{unit_place, unit_journal, made_same, makes_whole}
+use Rattle.swapper.specs.LastMoves.{last_moves}
+use Rattle.swapper.specs.Made.{Ground, MadeBy, Made, Makes}
+use Rattle.swapper.proofs.PagingUnitsUnits.{unit_place, unit_journal, made_same, makes_whole}
 use Rattle.proc_calls.specs.Callers.{IsCaller}
 use Rattle.steady_laws.specs.Ready.{IsRunning, IsReady, RunsOn, Continues, RunsDue, RunsMoved}
 use Rattle.steady_laws.proofs.Placements.{entry_frames, entry_clear}

@@ -33,7 +33,7 @@ use Rattle.kernel_model.specs.Kernel.{Proc, Kernel}
 use Rattle.kernel_model.specs.ChangeStep.{space_of_life, gave_back, change_if}
 use Rattle.machine_state.specs.Machine.{Standing}
 use Rattle.machine_state.specs.Applying.{facts_named}
-use Rattle.paging_units.specs.Made.{ground}
+use Rattle.swapper.specs.Made.{ground}
 use Rattle.proc_calls.specs.Answered.{Answered}
 use Rattle.proc_calls.specs.Callers.{proc_in, IsCaller}
 use Rattle.proc_calls.specs.Copying.{CopiesPage, CopiesAll, HasCopied}

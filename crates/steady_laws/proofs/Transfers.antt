@@ -6,8 +6,8 @@ use Rattle.kernel_model.specs.Kernel.{Kernel, done_step}
 use Rattle.machine_state.specs.Machine.{Standing}
 use Rattle.machine_state.specs.Done.{Sources, IsDone}
 use Rattle.machine_state.specs.Settled.{EndsWhile, SettledBy, IsSameBeside}
-use Rattle.paging_units.specs.LastMoves.{last_moves}
-use Rattle.paging_units.proofs.LastMoves.{last_done}
+use Rattle.swapper.specs.LastMoves.{last_moves}
+use Rattle.swapper.proofs.LastMoves.{last_done}
 use Rattle.steady_laws.specs.Ready.{IsReady, Continues}
 use Rattle.steady_laws.proofs.Placements.{Keeps, keeps_self, keeps_both, done_keeps}
 use Rattle.steady_laws.proofs.Journals.{counts_one}

@@ -11,9 +11,9 @@ use Rattle.flat_model.specs.declared.calls.SystemCall.TheVariants as numbers
 use Rattle.flat_model.specs.Calls.{replied_both, write_reply}
 use Rattle.machine_state.specs.Machine.{Standing}
 use Rattle.machine_state.specs.UserMemory.{kernel_answers}
-use Rattle.fault_fill.specs.declared.access.Access.{Access}
-use Rattle.fault_fill.specs.declared.touch.Served.{Served}
-use Rattle.fault_fill.specs.Touches.{TouchedAs, TouchedNow, AccessComes}
+use Rattle.proc_calls.specs.FaultFillAccessAccess.{Access}
+use Rattle.proc_calls.specs.FaultFillTouchServed.{Served}
+use Rattle.proc_calls.specs.Touches.{TouchedAs, TouchedNow, AccessComes}
 use Rattle.proc_calls.specs.declared.replying.Called.{Called}
 use Rattle.proc_calls.specs.Answered.{Replied, Comes}
 use Rattle.proc_calls.specs.Callers.{space_held, parent_of}

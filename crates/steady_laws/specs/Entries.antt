@@ -12,7 +12,7 @@ use Rattle.kernel_model.specs.Kernel.{note_step}
 use Rattle.kernel_model.specs.ChangeStep.{ran_by, pass_step}
 use Rattle.machine_state.specs.Machine.{Standing}
 use Rattle.machine_state.specs.UserMemory.{writes_in}
-use Rattle.paging_units.specs.LastMoves.{last_moves}
+use Rattle.swapper.specs.LastMoves.{last_moves}
 use Rattle.proc_calls.specs.Answered.{Entered}
 use Rattle.proc_calls.specs.Callers.{IsCaller}
 use Rattle.proc_calls.specs.Making.{with_pieces}

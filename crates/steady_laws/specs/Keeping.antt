@@ -11,8 +11,8 @@ use Rattle.proc_table.specs.declared.process.Life.TheVariants.{Holds}
 use Rattle.proc_table.specs.Records.{find}
 use Rattle.machine_state.specs.Machine.{Standing, processes_of, residents_of}
 use Rattle.machine_state.specs.Alike.{AreRecords}
-use Rattle.fault_fill.specs.declared.access.Access.{Access}
-use Rattle.fault_fill.specs.declared.touch.Served.{Served}
+use Rattle.proc_calls.specs.FaultFillAccessAccess.{Access}
+use Rattle.proc_calls.specs.FaultFillTouchServed.{Served}
 use Rattle.proc_calls.specs.declared.replying.Called.{Called}
 use Rattle.proc_calls.specs.Callers.{IsCaller}
 use Rattle.proc_calls.specs.Leaving.{ExitComes}

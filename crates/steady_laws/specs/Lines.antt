@@ -8,8 +8,8 @@ use Rattle.kernel_model.specs.Kernel.{zero_step}
 use Rattle.machine_state.specs.Beginning.{StartedFirst}
 use Rattle.machine_state.specs.Done.{Sources, IsDone}
 use Rattle.machine_state.specs.Machine.{Standing}
-use Rattle.clock_hands.specs.Forced.{Forced}
-use Rattle.clock_hands.specs.Moved.{Moved}
+use Rattle.proc_calls.specs.Forced.{Forced}
+use Rattle.proc_calls.specs.Moved.{Moved}
 use Rattle.proc_calls.specs.Filling.{FillsStart}
 use Rattle.swapper.specs.declared.Turned.{Turned}
 use Rattle.swapper.specs.Turns.{Turns}

@@ -3,9 +3,9 @@ use Rattle.std.specs.Prelude.{ℕ, List, Option}
 use Rattle.vm_facts.specs.declared.page.Page.{Page}
 use Rattle.io_edge.specs.FileHolding.{NamedFile}
 use Rattle.machine_state.specs.Machine.{Standing}
-use Rattle.fault_fill.specs.declared.access.Access.{Access}
-use Rattle.fault_fill.specs.declared.touch.Served.{Served}
-use Rattle.fault_fill.specs.Touches.{TouchedAs, TouchedNow, AccessComes}
+use Rattle.proc_calls.specs.FaultFillAccessAccess.{Access}
+use Rattle.proc_calls.specs.FaultFillTouchServed.{Served}
+use Rattle.proc_calls.specs.Touches.{TouchedAs, TouchedNow, AccessComes}
 use Rattle.proc_calls.specs.Callers.{IsCaller}
 use Rattle.steady_laws.specs.Ready.{Continues}
 

@@ -8,7 +8,7 @@ use Rattle.page_model.specs.Placement.{Due}
 use Rattle.page_model.specs.Rank.{HasRoom}
 use Rattle.machine_state.specs.Machine.{Standing}
 use Rattle.machine_state.specs.UserMemory.{CanLend}
-use Rattle.paging_units.specs.LastMoves.{last_moves}
+use Rattle.swapper.specs.LastMoves.{last_moves}
 use Rattle.proc_calls.specs.Callers.{IsCaller}
 
 -- The machine runs, and no pieces wait for an entry.

@@ -2,8 +2,8 @@
 use Rattle.std.specs.Prelude.{ℕ, ◌≤◌, List, Option}
 use Rattle.vm_facts.specs.declared.entry.Entry.{Entry}
 use Rattle.machine_state.specs.Machine.{Standing}
-use Rattle.paging_units.specs.LastMoves.{last_moves}
-use Rattle.paging_units.specs.Made.{Ground, Makes}
+use Rattle.swapper.specs.LastMoves.{last_moves}
+use Rattle.swapper.specs.Made.{Ground, Makes}
 use Rattle.steady_laws.specs.Ready.{IsRunning, IsReady, RunsOn, Continues}
 
 -- whatever is due, and however many moves of the hands they are

@@ -14,3 +14,6 @@ pub use lasting::{
     calls_continue, entries_continue, lines_continue, pages_continue, readiness_lasts,
     units_continue,
 };
+pub use proc_calls;
+pub use proc_calls::fault_fill;
+pub use swapper;

@@ -9,12 +9,12 @@ use Rattle.flat_state.specs.Space.{Space}
 use Rattle.flat_model.specs.Step.{pages_down_to}
 use Rattle.kernel_model.specs.Kernel.{Kernel}
 use Rattle.machine_state.specs.Machine.{Standing}
-use Rattle.fault_fill.specs.Growth.{access_to, access_by}
-use Rattle.fault_fill.specs.Touches.{TouchedAs, TouchedNow, GrownFirst, AccessComes, AccessStops, StopsAtPage}
-use Rattle.fault_fill.specs.declared.access.Access.{Access}
-use Rattle.fault_fill.specs.declared.access.Access.TheVariants as accesses
-use Rattle.fault_fill.specs.declared.touch.Served.{Served}
-use Rattle.fault_fill.specs.declared.touch.Served.TheVariants as served
+use Rattle.proc_calls.specs.Growth.{access_to, access_by}
+use Rattle.proc_calls.specs.Touches.{TouchedAs, TouchedNow, GrownFirst, AccessComes, AccessStops, StopsAtPage}
+use Rattle.proc_calls.specs.FaultFillAccessAccess.{Access}
+use Rattle.proc_calls.specs.FaultFillAccessAccess.TheVariants as accesses
+use Rattle.proc_calls.specs.FaultFillTouchServed.{Served}
+use Rattle.proc_calls.specs.FaultFillTouchServed.TheVariants as served
 use Rattle.run_model.specs.After.{after}
 use Rattle.run_model.specs.State.{State}
 use Rattle.run_model.specs.Wanted.{touched_next, AllValid, before_absent, locked_by, locked}

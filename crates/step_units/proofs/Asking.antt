@@ -11,11 +11,11 @@ use Rattle.page_laws.proofs.Moves.Stays.{done_steady}
 use Rattle.kernel_model.specs.Kernel.{Kernel, note_step}
 use Rattle.machine_state.specs.Machine.{Standing}
 use Rattle.machine_state.specs.Done.{sources, IsDone, ImageAfter, StopsEnding}
-use Rattle.paging_units.proofs.Stopping.{held_here}
-use Rattle.paging_units.specs.Made.{ground}
-use Rattle.paging_units.specs.Stops.{StopsAt}
-use Rattle.clock_hands.specs.Moved.{Moved, StopsMoving}
-use Rattle.span_laws.specs.Spans.{moves_of}
+use Rattle.swapper.proofs.Stopping.{held_here}
+use Rattle.swapper.specs.Made.{ground}
+use Rattle.swapper.specs.Stops.{StopsAt}
+use Rattle.proc_calls.specs.Moved.{Moved, StopsMoving}
+use Rattle.proc_calls.specs.Spans.{moves_of}
 use Rattle.run_model.specs.declared.mark.Mark.{Mark}
 use Rattle.run_model.specs.declared.mark.Mark.TheVariants as marks
 use Rattle.run_model.specs.State.{State}

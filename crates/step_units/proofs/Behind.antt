@@ -26,7 +26,7 @@ use Rattle.run_model.specs.After.{after}
 use Rattle.run_model.specs.Next.{goes_on, turn_instructions}
 use Rattle.run_model.specs.Kinds.{GoesOn, Runs}
 use Rattle.run_model.proofs.After.{after_count}
-use Rattle.run_laws.specs.Machine.{EndsStep}
+use Rattle.run_units.specs.Machine.{EndsStep}
 use Rattle.run_units.specs.Touching.{IsRunning}
 
 -- The end of a step.

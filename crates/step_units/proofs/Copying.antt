@@ -13,11 +13,11 @@ use Rattle.kernel_model.specs.Kernel.{copy_step}
 use Rattle.machine_state.specs.Machine.{Standing}
 use Rattle.machine_state.specs.Sourced.{ImageNamed}
 use Rattle.machine_state.specs.Files.{AreImages}
-use Rattle.paging_units.specs.Made.{ground}
-use Rattle.paging_units.specs.Stops.{StopsAt}
-use Rattle.clock_hands.specs.Forced.{Forced, StopsForcing}
-use Rattle.fault_fill.specs.Serving.{StopsServing}
-use Rattle.fault_fill.specs.Answers.{ServesNow}
+use Rattle.swapper.specs.Made.{ground}
+use Rattle.swapper.specs.Stops.{StopsAt}
+use Rattle.proc_calls.specs.Forced.{Forced, StopsForcing}
+use Rattle.proc_calls.specs.Serving.{StopsServing}
+use Rattle.proc_calls.specs.Answers.{ServesNow}
 use Rattle.proc_calls.specs.Copying.{CopiesPage, StopsBehind, StopsPage, CopiesAll, StopsCopying}
 use Rattle.run_model.specs.State.{State}
 use Rattle.run_model.specs.Next.{next_unit}

@@ -44,7 +44,7 @@ use Rattle.flat_model.specs.declared.calls.SystemCall.TheVariants as system_call
 use Rattle.flat_model.specs.Calls.{argument, reply_of, exit_reply}
 use Rattle.machine_state.specs.UserMemory.{kernel_answers}
 use Rattle.proc_calls.specs.declared.replying.Called.{Called}
-use Rattle.run_laws.proofs.Execs.{AllGives, gives_any}
+use Rattle.run_units.proofs.Execs.{AllGives, gives_any}
 use Rattle.step_units.specs.Machines.{MachineAt, RunsOn, MakesCall}
 use Rattle.step_units.specs.Stepped.{StepLeads, StopLeads, CallLeads}
 use Rattle.step_units.specs.Leaving.{EndsWith}

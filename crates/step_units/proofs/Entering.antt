@@ -22,9 +22,9 @@ use Rattle.kernel_model.specs.ChangeStep.{change_step}
 use Rattle.machine_state.specs.Machine.{Standing}
 use Rattle.machine_state.specs.Applying.{facts_named}
 use Rattle.machine_state.specs.Conditions.{HasStopped}
-use Rattle.paging_units.proofs.Stopping.{held_here}
-use Rattle.paging_units.specs.Made.{ground}
-use Rattle.paging_units.specs.Stops.{StaysWhereFull}
+use Rattle.swapper.proofs.Stopping.{held_here}
+use Rattle.swapper.specs.Made.{ground}
+use Rattle.swapper.specs.Stops.{StaysWhereFull}
 use Rattle.proc_calls.specs.Answered.{StopsBefore}
 use Rattle.flat_model.specs.Step.{Step}
 use Rattle.flat_model.specs.Run.{step_at, due_at}
@@ -34,8 +34,8 @@ use Rattle.run_model.specs.After.{after}
 use Rattle.run_model.specs.Act.{act, must_settle}
 use Rattle.run_model.specs.Next.{next_unit}
 use Rattle.run_model.specs.Kinds.{Runs}
-use Rattle.run_laws.specs.Machine.{unit_image, Completes, EndsStep}
-use Rattle.run_laws.proofs.Flows.{runs_next}
+use Rattle.run_units.specs.Machine.{unit_image, Completes, EndsStep}
+use Rattle.run_units.proofs.Flows.{runs_next}
 use Rattle.run_units.specs.Acting.{IsBetween}
 use Rattle.run_units.specs.Leads.{MadeAs, Leads}
 use Rattle.run_units.specs.Serving.{At}

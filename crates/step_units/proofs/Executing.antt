@@ -35,7 +35,7 @@ use Rattle.proc_calls.specs.declared.replying.Called.{Called}
 use Rattle.proc_calls.specs.Leaving.{StopsOnceLeft, StopsAlive}
 use Rattle.proc_calls.specs.Starting.{image_found, StartsBy, ExecComes, StopsFinding, StopsWithout, StopsBehindStart, StopsExec}
 use Rattle.proc_calls.proofs.Starts.{is_ready}
-use Rattle.run_laws.proofs.Execs.{AllGives, gives_any}
+use Rattle.run_units.proofs.Execs.{AllGives, gives_any}
 use Rattle.run_units.specs.Acting.{IsBetween}
 use Rattle.run_units.specs.Touching.{IsCalledFor}
 use Rattle.step_units.specs.Stepped.{StopLeads, StepLeads, CallLeads}

@@ -24,7 +24,7 @@ use Rattle.flat_model.specs.Asked.{asks}
 use Rattle.flat_model.specs.Calls.{stack_pages_of}
 use Rattle.flat_model.specs.Run.{step_at, is_refused, due}
 use Rattle.flat_model.specs.Step.{Step, flat_step, step_of, grown_step, data_pages_of, pages_down_to}
-use Rattle.flat_laws.proofs.Asking.{step_same}
+use Rattle.run_units.proofs.FlatLawsAsking.{step_same}
 use Rattle.page_model.specs.Placement.{image_of}
 use Rattle.page_model.specs.Place.{facts_of, data_count}
 use Rattle.kernel_model.specs.Asks.{asked}
@@ -33,15 +33,15 @@ use Rattle.kernel_laws.proofs.Machine.Swaps.{found_at}
 use Rattle.machine_state.specs.Applying.{facts_named}
 use Rattle.machine_state.specs.Machine.{Standing}
 use Rattle.machine_state.specs.UserMemory.{kernel_answers}
-use Rattle.paging_units.specs.Made.{ground}
-use Rattle.fault_fill.specs.Access.{access_at}
-use Rattle.fault_fill.specs.Growth.{space_held, access_to, growth, growth_found}
-use Rattle.fault_fill.specs.declared.access.Access.TheVariants as accesses
+use Rattle.swapper.specs.Made.{ground}
+use Rattle.proc_calls.specs.FaultFillAccessSpecs.{access_at}
+use Rattle.proc_calls.specs.Growth.{space_held, access_to, growth, growth_found}
+use Rattle.proc_calls.specs.FaultFillAccessAccess.TheVariants as accesses
 use Rattle.run_model.specs.Act.{loses_pages, loses_in, loses_if, settled, must_settle}
 use Rattle.run_model.specs.Next.{next_unit}
 use Rattle.run_model.specs.State.{State}
-use Rattle.run_laws.proofs.Flows.{on_steps, runs_next}
-use Rattle.economy_laws.proofs.Growing.{below_spot, spot_below}
+use Rattle.run_units.proofs.Flows.{on_steps, runs_next}
+use Rattle.run_units.proofs.Growing.{below_spot, spot_below}
 use Rattle.run_units.specs.Acting.{IsBetween}
 use Rattle.run_units.specs.Serving.{At}
 use Rattle.run_units.specs.Touching.{IsRunning, IsReadyFor, IsWhole}

@@ -12,16 +12,16 @@ use Rattle.page_model.specs.Serve.{force_entry, Forces}
 use Rattle.kernel_model.specs.Kernel.{Kernel, zero_step, copy_step}
 use Rattle.machine_state.specs.Machine.{Standing}
 use Rattle.machine_state.specs.Files.{AreImages}
-use Rattle.paging_units.specs.Made.{ground, Made}
-use Rattle.paging_units.specs.Stops.{StopsAt}
-use Rattle.clock_hands.specs.Forced.{Forced, StopsForcing}
+use Rattle.swapper.specs.Made.{ground, Made}
+use Rattle.swapper.specs.Stops.{StopsAt}
+use Rattle.proc_calls.specs.Forced.{Forced, StopsForcing}
 use Rattle.run_model.specs.State.{State}
 use Rattle.run_model.specs.Wanted.{locked as locked_now}
 use Rattle.run_model.specs.After.{after, place_at}
 use Rattle.run_model.specs.Next.{next_unit}
-use Rattle.run_laws.specs.Machine.{unit_image}
-use Rattle.run_laws.proofs.Marks.{IsFree, due_free}
-use Rattle.run_laws.proofs.Allowed.{first_after}
+use Rattle.run_units.specs.Machine.{unit_image}
+use Rattle.run_units.proofs.Marks.{IsFree, due_free}
+use Rattle.run_units.proofs.Allowed.{first_after}
 use Rattle.run_units.specs.Leads.{MadeAs, Leads}
 use Rattle.run_units.specs.Serving.{SameBut, At}
 use Rattle.run_units.specs.Filling.{FillsFirst, LeadsDue}

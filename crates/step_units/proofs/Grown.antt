@@ -26,16 +26,16 @@ use Rattle.flat_state.specs.Flat.{Holding, Holds, Process, FlatState, NamedImage
 use Rattle.flat_state.specs.PageNames.{same_page}
 use Rattle.flat_state.specs.Space.{Space, stack_top, stack_reach, stack_index, spot_by, spot_at, address_in, byte_at, may_write_at, answers_of}
 use Rattle.flat_state.proofs.SpaceLaws.{length-resized_bytes}
-use Rattle.flat_laws.proofs.Others.{number_of_found}
-use Rattle.flat_laws.proofs.Shown.{is_touched}
+use Rattle.run_units.proofs.Others.{number_of_found}
+use Rattle.run_units.proofs.Shown.{is_touched}
 use Rattle.flat_model.specs.Instruction.{instruction_in}
 use Rattle.flat_model.specs.Step.{data_pages_of, pages_down_to}
 use Rattle.flat_model.specs.Touched.{page_read, page_tested, page_of_access, accesses_after, step_accesses, distinct, touched}
 use Rattle.kernel_model.specs.Coupled.{Fits}
 use Rattle.page_model.specs.Pages.{SpacePages}
-use Rattle.economy_laws.proofs.Extending.{Bigger, Reached, reached, grown_page}
-use Rattle.economy_laws.proofs.Growing.{below_spot}
-use Rattle.economy_laws.proofs.Idle.{found_after}
+use Rattle.run_units.proofs.Extending.{Bigger, Reached, reached, grown_page}
+use Rattle.run_units.proofs.Growing.{below_spot}
+use Rattle.run_units.proofs.Idle.{found_after}
 
 -- Lists in which each page stands once.
 

@@ -13,14 +13,14 @@ use Rattle.flat_state.specs.Flat.{Process, Inputs, can_step}
 use Rattle.page_model.specs.Placement.{Placement, Transfer, image_of, parts_of, sharers}
 use Rattle.page_model.specs.Swapper.{names_page, is_settled}
 use Rattle.machine_state.specs.Machine.{Standing}
-use Rattle.paging_units.proofs.Stopping.{held_here}
+use Rattle.swapper.proofs.Stopping.{held_here}
 use Rattle.proc_calls.specs.Answered.{StopsBefore}
 use Rattle.flat_model.specs.Run.{due_at, first_if, act as next_of_step}
 use Rattle.run_model.specs.State.{State}
 use Rattle.run_model.specs.Wanted.{wanted}
 use Rattle.run_model.specs.Act.{act, act_if, act_by, settled, settled_in, settled_if, step_loses, must_refuse, must_settle}
 use Rattle.run_model.specs.Next.{next_unit}
-use Rattle.run_laws.proofs.Flows.{on_steps, runs_next}
+use Rattle.run_units.proofs.Flows.{on_steps, runs_next}
 use Rattle.run_units.specs.Serving.{At}
 use Rattle.run_units.specs.Touching.{IsRunning}
 use Rattle.run_units.proofs.Units.{none_leads}

@@ -7,7 +7,7 @@ use Rattle.vm_facts.specs.declared.stop.Stop.TheVariants as stops
 use Rattle.flat_state.specs.Flat.{Inputs}
 use Rattle.kernel_model.specs.Kernel.{Kernel}
 use Rattle.machine_state.specs.Machine.{Standing}
-use Rattle.paging_units.specs.Stops.{StopsAt, SpoilsBy}
+use Rattle.swapper.specs.Stops.{StopsAt, SpoilsBy}
 use Rattle.run_model.specs.State.{State}
 use Rattle.run_model.specs.Next.{next_unit}
 use Rattle.run_units.specs.Leads.{Leads}

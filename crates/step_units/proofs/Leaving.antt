@@ -19,8 +19,8 @@ use Rattle.kernel_model.specs.Unit.{has_lender}
 use Rattle.machine_state.specs.Machine.{Standing}
 use Rattle.machine_state.specs.Done.{sources}
 use Rattle.machine_state.specs.Settled.{StopsSettling}
-use Rattle.paging_units.proofs.Stopping.{held_here}
-use Rattle.paging_units.specs.Stops.{StaysPut}
+use Rattle.swapper.proofs.Stopping.{held_here}
+use Rattle.swapper.specs.Stops.{StaysPut}
 use Rattle.proc_calls.specs.Callers.{space_held}
 use Rattle.proc_calls.specs.Leaving.{HasSettled, HasLeftBy, HasLeft, StopsOwn, StopsLent, StopsLeaving}
 use Rattle.proc_calls.proofs.Leaving.{GoesOn, settled_goes}
@@ -40,8 +40,8 @@ use Rattle.page_model.specs.Place.{facts_of}
 use Rattle.kernel_model.specs.Asks.{asked}
 use Rattle.kernel_model.specs.ChangeStep.{change_step}
 use Rattle.proc_calls.specs.Answered.{StopsBefore}
-use Rattle.run_laws.specs.Machine.{Completes}
-use Rattle.run_laws.proofs.Flows.{on_steps}
+use Rattle.run_units.specs.Machine.{Completes}
+use Rattle.run_units.proofs.Flows.{on_steps}
 use Rattle.run_units.specs.Acting.{IsBetween}
 use Rattle.run_units.proofs.Stepping.{returning_made}
 use Rattle.step_units.specs.Machines.{MachineAt}

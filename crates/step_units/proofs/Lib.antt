@@ -1,3 +1,6 @@
+pub use Rattle.run_units.proofs.FlatLawsAsking
+pub use Rattle.run_units.proofs.RunLawsBeginning
+pub use Rattle.run_units.proofs.Machines
 pub mod Begun
 pub mod Behind
 pub mod Entering

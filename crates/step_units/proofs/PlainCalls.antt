@@ -26,7 +26,7 @@ use Rattle.proc_calls.specs.Callers.{parent_of}
 use Rattle.proc_calls.specs.Waiting.{wait_by, wait_reply}
 use Rattle.proc_calls.specs.Writing.{MayWrite, StopsWriting, StopsOut, bytes_of}
 use Rattle.proc_calls.proofs.Writes.{may_write}
-use Rattle.flat_laws.specs.Shown.{IsCallOf}
+use Rattle.run_units.specs.Shown.{IsCallOf}
 use Rattle.run_model.specs.State.{State}
 use Rattle.run_model.specs.After.{after}
 use Rattle.run_units.specs.Touching.{IsCalledFor}

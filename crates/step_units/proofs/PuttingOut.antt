@@ -25,15 +25,15 @@ use Rattle.kernel_laws.proofs.Machine.Tables.{kept_pid, outlines_at, outline_at}
 use Rattle.kernel_laws.proofs.Machine.Swaps.{found_at}
 use Rattle.flat_model.specs.Run.{Point}
 use Rattle.run_units.specs.Acting.{IsBetween}
-use Rattle.paging_units.specs.Made.{Ground, ground, MadeBy, Made}
-use Rattle.paging_units.specs.Stops.{StopsAt}
-use Rattle.paging_units.proofs.Units.{unit_place}
+use Rattle.swapper.specs.Made.{Ground, ground, MadeBy, Made}
+use Rattle.swapper.specs.Stops.{StopsAt}
+use Rattle.swapper.proofs.PagingUnitsUnits.{unit_place}
 use Rattle.swapper.specs.declared.Turned.{Turned}
 use Rattle.swapper.specs.declared.Turned.TheVariants as turns
 use Rattle.swapper.specs.Runners.{runners_of, choice_of}
 use Rattle.swapper.specs.Putting.{HoldsThere, PutOut}
 use Rattle.swapper.specs.Turns.{Turns, StopsTurning}
-use Rattle.register_laws.specs.Longwords.{AllFit}
+use Rattle.run_units.specs.Longwords.{AllFit}
 use Rattle.run_model.specs.declared.mark.Mark.{Mark}
 use Rattle.run_model.specs.declared.mark.Mark.TheVariants as marks
 use Rattle.run_model.specs.State.{State, runners}

@@ -19,14 +19,14 @@ use Rattle.run_model.specs.State.{State}
 use Rattle.run_model.specs.Wanted.{locked}
 use Rattle.run_model.specs.After.{after, place_at, pages_written, place_behind}
 use Rattle.run_model.specs.Next.{fill_unit, next_unit}
-use Rattle.run_laws.specs.Machine.{Makes, unit_step, unit_image}
-use Rattle.run_laws.proofs.Flows.{Acted, Settles, Refuses, Steps, acted, steps_own}
-use Rattle.run_laws.proofs.Outs.{change_out}
-use Rattle.run_laws.proofs.Paging.{Leaver, entry_out}
-use Rattle.run_laws.proofs.Plain.{paging_stays, serve_paging, zero_paging, copy_paging}
-use Rattle.run_laws.proofs.Stepping.{touched_out}
-use Rattle.economy_laws.specs.Stretch.{begins_stretch, IsClosing}
-use Rattle.economy_laws.proofs.Closing.{Closes, Fill, Bring, CopyIt, Serve, Act, In, closes, stays_closing, no_event}
+use Rattle.run_units.specs.Machine.{Makes, unit_step, unit_image}
+use Rattle.run_units.proofs.Flows.{Acted, Settles, Refuses, Steps, acted, steps_own}
+use Rattle.run_units.proofs.Outs.{change_out}
+use Rattle.run_units.proofs.Paging.{Leaver, entry_out}
+use Rattle.run_units.proofs.Plain.{paging_stays, serve_paging, zero_paging, copy_paging}
+use Rattle.run_units.proofs.RunLawsStepping.{touched_out}
+use Rattle.run_units.specs.Stretch.{begins_stretch, IsClosing}
+use Rattle.run_units.proofs.Closing.{Closes, Fill, Bring, CopyIt, Serve, Act, In, closes, stays_closing, no_event}
 use Rattle.run_units.specs.Leads.{Leads}
 
 -- Who leaves.

@@ -17,21 +17,21 @@ use Rattle.kernel_model.specs.Kernel.{Kernel}
 use Rattle.kernel_model.specs.ChangeStep.{space_of_life, life_of_proc}
 use Rattle.kernel_laws.proofs.Machine.Processes.{Stepping, stepping}
 use Rattle.machine_state.specs.Machine.{Standing}
-use Rattle.paging_units.specs.Made.{Ground, ground}
-use Rattle.paging_units.specs.Stops.{StopsAt, SpoilsBy}
-use Rattle.fault_fill.specs.Growth.{space_held}
-use Rattle.fault_fill.specs.Serving.{ServesTo, StopsServing}
-use Rattle.fault_fill.specs.Touches.{TouchedAs, TouchedNow, StopsAtPage}
-use Rattle.fault_fill.specs.Units.{is_flying, NeedsFrame}
-use Rattle.fault_fill.specs.declared.touch.Served.{Served as Touch}
-use Rattle.fault_fill.specs.declared.touch.Served.TheVariants as served
+use Rattle.swapper.specs.Made.{Ground, ground}
+use Rattle.swapper.specs.Stops.{StopsAt, SpoilsBy}
+use Rattle.proc_calls.specs.Growth.{space_held}
+use Rattle.proc_calls.specs.Serving.{ServesTo, StopsServing}
+use Rattle.proc_calls.specs.Touches.{TouchedAs, TouchedNow, StopsAtPage}
+use Rattle.proc_calls.specs.Units.{is_flying, NeedsFrame}
+use Rattle.proc_calls.specs.FaultFillTouchServed.{Served as Touch}
+use Rattle.proc_calls.specs.FaultFillTouchServed.TheVariants as served
 use Rattle.run_model.specs.State.{State}
 use Rattle.run_model.specs.Wanted.{touched_next, AllValid, before_absent, locked_by, locked, Splits}
-use Rattle.economy_laws.proofs.Left.{split_longer}
+use Rattle.run_units.proofs.Left.{split_longer}
 use Rattle.run_model.specs.Kinds.{Runs}
 use Rattle.run_model.specs.Next.{next_unit, under, work_by}
 use Rattle.run_model.proofs.Wanting.{splits_wanted}
-use Rattle.run_laws.proofs.Flows.{runs_work}
+use Rattle.run_units.proofs.Flows.{runs_work}
 use Rattle.run_units.specs.Acting.{IsBetween}
 use Rattle.run_units.specs.Leads.{Leads}
 use Rattle.run_units.specs.Serving.{At, IsWaiting, Served}

@@ -22,8 +22,8 @@ use Rattle.machine_state.specs.Files.{AreImages}
 use Rattle.machine_state.specs.Machine.{Standing}
 use Rattle.machine_state.specs.Settled.{StopsSettling}
 use Rattle.machine_state.specs.Sourced.{ImageNamed}
-use Rattle.paging_units.proofs.Stopping.{held_here}
-use Rattle.paging_units.specs.Made.{ground}
+use Rattle.swapper.proofs.Stopping.{held_here}
+use Rattle.swapper.specs.Made.{ground}
 use Rattle.proc_calls.specs.Leaving.{HasSettled}
 use Rattle.flat_model.specs.Step.{Step}
 use Rattle.flat_model.specs.Run.{Point, step_at, is_refused}

@@ -14,7 +14,7 @@ use Rattle.flat_state.specs.declared.change.Change.TheVariants as changes
 use Rattle.kernel_model.specs.Kernel.{Kernel}
 use Rattle.kernel_model.specs.ChangeStep.{change_step}
 use Rattle.kernel_laws.proofs.Machine.Swaps.{applied, found_at}
-use Rattle.economy_laws.proofs.Idle.{found_after}
+use Rattle.run_units.proofs.Idle.{found_after}
 use Rattle.machine_state.specs.Machine.{Standing}
 use Rattle.machine_state.specs.Applying.{facts_named}
 use Rattle.proc_calls.specs.Callers.{regs_of}
@@ -27,12 +27,12 @@ use Rattle.flat_model.specs.Run.{step_at}
 use Rattle.page_model.specs.Swapper.{is_out}
 use Rattle.run_model.specs.declared.mark.Mark.{Mark}
 use Rattle.run_model.specs.declared.mark.Mark.TheVariants as marks
-use Rattle.flat_laws.specs.Shown.{IsCallOf}
+use Rattle.run_units.specs.Shown.{IsCallOf}
 use Rattle.run_model.specs.State.{State}
 use Rattle.run_model.specs.After.{after}
 use Rattle.run_model.specs.Next.{when, turn_instructions, turn_unit, work, under}
 use Rattle.run_model.specs.Kinds.{GoesOn}
-use Rattle.run_laws.proofs.Written.{no_writes}
+use Rattle.run_units.proofs.Written.{no_writes}
 use Rattle.run_units.specs.Touching.{IsCalledFor}
 use Rattle.run_units.proofs.Stepping.{none_asked}
 use Rattle.step_units.specs.Machines.{RunsOn}

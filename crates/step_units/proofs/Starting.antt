@@ -46,8 +46,8 @@ use Rattle.machine_state.specs.Files.{AreImages}
 use Rattle.machine_state.specs.UserMemory.{kernel_answers}
 use Rattle.run_model.specs.State.{State}
 use Rattle.run_model.specs.After.{after, place_at, pages_written, place_behind}
-use Rattle.run_laws.proofs.Acts.{arrives}
-use Rattle.run_laws.proofs.Execs.{execs_fit}
+use Rattle.run_units.proofs.Acts.{arrives}
+use Rattle.run_units.proofs.Execs.{execs_fit}
 use Rattle.run_units.specs.Acting.{IsBetween}
 use Rattle.run_units.specs.Leads.{MadeAs, Leads}
 use Rattle.run_units.specs.Stepping.{GivesBack, returned, with_holdings}

@@ -9,11 +9,11 @@ use Rattle.flat_state.specs.Journal.{append}
 use Rattle.page_model.specs.Placement.{Transfer}
 use Rattle.kernel_model.specs.Kernel.{Kernel}
 use Rattle.machine_state.specs.Machine.{Standing}
-use Rattle.paging_units.proofs.Stopping.{held_here}
-use Rattle.paging_units.specs.Stops.{CauseBy, SpoilsBy, StopsAt}
+use Rattle.swapper.proofs.Stopping.{held_here}
+use Rattle.swapper.specs.Stops.{CauseBy, SpoilsBy, StopsAt}
 use Rattle.run_model.specs.State.{State}
 use Rattle.run_model.specs.Next.{next_unit}
-use Rattle.run_laws.specs.Machine.{IsNote}
+use Rattle.run_units.specs.Machine.{IsNote}
 use Rattle.run_units.specs.Leads.{Leads}
 use Rattle.run_units.proofs.Units.{none_leads}
 use Rattle.step_units.specs.Stepped.{StopsNext, StopsBy, StopLeads}

@@ -14,8 +14,8 @@ use Rattle.page_model.specs.Placement.{Residence}
 use Rattle.kernel_model.specs.Kernel.{Kernel, note_step}
 use Rattle.machine_state.specs.Machine.{Standing}
 use Rattle.machine_state.specs.Swapping.{IsIn}
-use Rattle.paging_units.specs.Stops.{StopsAt}
-use Rattle.flat_laws.proofs.Finding.{found_by_number, found_passes}
+use Rattle.swapper.specs.Stops.{StopsAt}
+use Rattle.run_units.proofs.Finding.{found_by_number, found_passes}
 use Rattle.run_model.specs.declared.mark.Mark.TheVariants as marks
 use Rattle.run_model.specs.State.{State}
 use Rattle.run_model.specs.After.{after, brought_in, place_at}

@@ -1,3 +1,7 @@
+pub use Rattle.run_units.specs.RunLawsRunning
+pub use Rattle.run_units.specs.Filling
+pub use Rattle.run_units.specs.Leads
+pub use Rattle.run_units.specs.Serving
 pub mod Machines
 pub mod Stepped
 pub mod Plain

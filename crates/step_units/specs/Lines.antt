@@ -13,12 +13,12 @@ use Rattle.machine_state.specs.Machine.{Standing}
 use Rattle.machine_state.specs.Conditions.{HasStopped}
 use Rattle.machine_state.specs.Done.{sources, IsDone, ImageAfter, StopsEnding}
 use Rattle.machine_state.specs.Swapping.{IsIn}
-use Rattle.paging_units.specs.Stops.{StopsAt}
-use Rattle.clock_hands.specs.Moved.{Moved, StopsMoving}
+use Rattle.swapper.specs.Stops.{StopsAt}
+use Rattle.proc_calls.specs.Moved.{Moved, StopsMoving}
 use Rattle.swapper.specs.declared.Turned.{Turned}
 use Rattle.swapper.specs.Runners.{runners_of, choice_of}
 use Rattle.swapper.specs.Turns.{Turns, StopsTurning}
-use Rattle.register_laws.specs.Longwords.{AllFit}
+use Rattle.run_units.specs.Longwords.{AllFit}
 use Rattle.run_model.specs.declared.mark.Mark.TheVariants as marks
 use Rattle.run_model.specs.State.{State, runners}
 use Rattle.run_model.specs.After.{interrupt_mark, swap_mark, mark_of_event}

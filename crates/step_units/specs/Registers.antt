@@ -3,7 +3,7 @@ use Rattle.std.specs.Prelude.{ℕ, ◌+◌, ◌<◌, ◌≤◌, ◌^◌, List, l
 use Rattle.vm_facts.specs.declared.entry.Entry.{Entry}
 use Rattle.flat_state.specs.Flat.{Inputs}
 use Rattle.kernel_model.specs.Kernel.{Kernel}
-use Rattle.register_laws.specs.Longwords.{AllFit, AllImages}
+use Rattle.run_units.specs.Longwords.{AllFit, AllImages}
 use Rattle.run_model.specs.State.{State}
 use Rattle.run_units.specs.Leads.{Leads}
 use Rattle.run_units.specs.Serving.{At}

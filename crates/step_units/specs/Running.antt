@@ -14,10 +14,10 @@ use Rattle.kernel_model.specs.Kernel.{Kernel}
 use Rattle.kernel_model.specs.ChangeStep.{ran_by}
 use Rattle.machine_state.specs.Machine.{Standing}
 use Rattle.machine_state.specs.UserMemory.{kernel_answers, writes_in}
-use Rattle.fault_fill.specs.declared.touch.Served.{Served}
-use Rattle.fault_fill.specs.declared.touch.Served.TheVariants as served
-use Rattle.fault_fill.specs.Growth.{access_by}
-use Rattle.fault_fill.specs.Touches.{TouchedAs, TouchedNow, AccessComes, AccessStops}
+use Rattle.proc_calls.specs.FaultFillTouchServed.{Served}
+use Rattle.proc_calls.specs.FaultFillTouchServed.TheVariants as served
+use Rattle.proc_calls.specs.Growth.{access_by}
+use Rattle.proc_calls.specs.Touches.{TouchedAs, TouchedNow, AccessComes, AccessStops}
 use Rattle.run_model.specs.State.{State}
 use Rattle.run_model.specs.Wanted.{touched_next, AllValid, locked}
 use Rattle.run_units.specs.Leads.{Leads}

@@ -8,7 +8,7 @@ use Rattle.flat_state.specs.Journal.{append}
 use Rattle.flat_state.specs.Space.{Space}
 use Rattle.kernel_model.specs.Kernel.{Kernel}
 use Rattle.machine_state.specs.Machine.{Standing}
-use Rattle.paging_units.specs.Stops.{CauseBy, SpoilsBy, StaysWhereFull}
+use Rattle.swapper.specs.Stops.{CauseBy, SpoilsBy, StaysWhereFull}
 use Rattle.proc_calls.specs.declared.replying.Called.{Called}
 use Rattle.proc_calls.specs.declared.replying.Called.TheVariants as calls
 use Rattle.run_model.specs.State.{State}

@@ -1,3 +1,4 @@
+pub use Rattle.swap_dmap.specs.Chunks
 pub mod Owners
 pub mod Holdings
 pub mod Placing

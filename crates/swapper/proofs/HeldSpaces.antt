@@ -6,10 +6,10 @@ use Rattle.kernel_model.specs.Kernel.{Kernel, Proc, HoldsSpace, life_of}
 use Rattle.kernel_model.specs.ChangeStep.{life_of_proc}
 use Rattle.kernel_model.specs.Coupled.{Outline, SameTables}
 use Rattle.kernel_model.specs.Asks.{HasSpace}
-use Rattle.kernel_laws.proofs.Flat.Lists.{pid_of, found_is}
-use Rattle.kernel_laws.proofs.Machine.Tables.{kept_pid, outlines_at, outline_at}
-use Rattle.kernel_laws.proofs.Machine.Processes.{stepping}
-use Rattle.kernel_laws.proofs.Machine.Ready.{space_there}
+use Rattle.machine_state.proofs.Lists.{pid_of, found_is}
+use Rattle.machine_state.proofs.KernelLawsMachineTables.{kept_pid, outlines_at, outline_at}
+use Rattle.machine_state.proofs.KernelLawsMachineProcesses.{stepping}
+use Rattle.machine_state.proofs.Ready.{space_there}
 use Rattle.machine_state.specs.Done.{StandsTold}
 use Rattle.machine_state.specs.Calls.{life_in}
 use Rattle.swapper.specs.Turns.{HoldersHaveSpaces}

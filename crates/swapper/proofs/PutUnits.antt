@@ -35,9 +35,9 @@ use Rattle.kernel_model.specs.Kernel.{Kernel, HoldsSpace, Proc, out_step}
 use Rattle.kernel_model.specs.ChangeStep.{life_of_proc}
 use Rattle.kernel_model.specs.Numbers.{EachResides}
 use Rattle.kernel_model.specs.Sound.{lives_in, has_life}
-use Rattle.kernel_laws.proofs.Machine.Swaps.{out_record}
+use Rattle.machine_state.proofs.Swaps.{out_record}
 use Rattle.kernel_model.specs.Unit.{proc_of}
-use Rattle.kernel_laws.proofs.Machine.Shapes.{shape_in}
+use Rattle.machine_state.proofs.Shapes.{shape_in}
 use Rattle.machine_state.specs.Sourced.{ImageNamed}
 use Rattle.machine_state.specs.Machine.{Standing}
 use Rattle.machine_state.specs.Files.{AreFiles}

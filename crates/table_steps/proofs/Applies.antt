@@ -3,9 +3,9 @@ use Rattle.std.proofs.Common.{◌≡◌, ◌≢◌, ℕ, zero, suc, ◌<◌, ◌
 use Rattle.std.proofs.Common.{Some, None, slice_get, refl, sym, ap, ◌∙◌, subst, arith}
 use Rattle.std.proofs.lemmas.Option.{same_Some}
 use Rattle.aout_image.specs.declared.Image.{Image}
-use Rattle.proc_table.specs.declared.process.Life.{Life as RecordLife}
-use Rattle.proc_table.specs.declared.process.Life.TheVariants as lives
-use Rattle.proc_table.specs.declared.process.Proc.{Proc as Record}
+use Rattle.kernel_tables.specs.Life.{Life as RecordLife}
+use Rattle.kernel_tables.specs.Life.TheVariants as lives
+use Rattle.kernel_tables.specs.Proc.{Proc as Record}
 use Rattle.flat_state.specs.declared.change.Change.{Change}
 use Rattle.flat_state.specs.declared.change.Change.TheVariants.{Keep, Resize, Fork, Lend, Exec, Reap, Sleep, End}
 use Rattle.page_model.specs.Pages.{SpacePages, numbered, data_in, stack_in, no_slot}

@@ -17,7 +17,7 @@ use Rattle.page_laws.proofs.Lists.Local.{none_some}
 use Rattle.std.proofs.lemmas.Option.{same_Some}
 use Rattle.page_laws.proofs.Moves.Steps.{page_in, frame_in, frame_of_moving}
 use Rattle.kernel_tables.specs.Shown.{slot_shown, text_shown, entry_in}
-use Rattle.table_view.specs.Shown.{is_away, idle_state, state_shown}
+use Rattle.kernel_tables.specs.TableViewShown.{is_away, idle_state, state_shown}
 use Rattle.kernel_tables.specs.View.{Lists, text_place_by, placement_of}
 use Rattle.kernel_tables.specs.Known.{Known}
 use Rattle.text_table.specs.Texts.{is_saved, text_of}

@@ -32,7 +32,7 @@ use Rattle.page_laws.proofs.Ownership.Changes.{each_at}
 use Rattle.page_laws.proofs.Blocks.Changes.{text_still, drop_all_frees, drop_all_sharers}
 use Rattle.kernel_tables.specs.declared.tables.Tables.{Tables}
 use Rattle.kernel_tables.specs.Shown.{filling_shown, entry_in, placed}
-use Rattle.table_view.specs.Shown.{is_away, idle_state, state_shown}
+use Rattle.kernel_tables.specs.TableViewShown.{is_away, idle_state, state_shown}
 use Rattle.kernel_tables.specs.View.{Lists, Flown, flown_number, flown_at, page_by, bytes_by, page_held, bytes_held, placement_of, frames_of}
 use Rattle.kernel_tables.specs.Known.{Known}
 use Rattle.kernel_tables.specs.Tied.{Tied}

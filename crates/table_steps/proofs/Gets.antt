@@ -20,7 +20,7 @@ use Rattle.kernel_model.specs.Kernel.{Kernel, get_step}
 use Rattle.kernel_model.specs.Sound.{Sound}
 use Rattle.kernel_model.specs.Coupled.{beside_kernel}
 use Rattle.page_laws.proofs.Lists.Runs.{each_page_imp, pages_from_apart}
-use Rattle.kernel_laws.proofs.Machine.Moves.{get_coupled_step}
+use Rattle.kernel_tables.proofs.Moves.{get_coupled_step}
 use Rattle.page_laws.proofs.Bytes.Others.{get_run_same}
 use Rattle.kernel_tables.specs.declared.tables.Tables.{Tables}
 use Rattle.kernel_tables.specs.View.{Flown, in_part, inbound_flown, transfer_shown, flown_in, flown, starts_of, placement_of, frames_of}

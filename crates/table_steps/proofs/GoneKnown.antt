@@ -25,7 +25,7 @@ use Rattle.page_laws.proofs.Due.Changes.{leave_all_other}
 use Rattle.page_laws.proofs.Lists.Runs.{pages_from_each}
 use Rattle.page_laws.proofs.Ownership.Changes.{removed_same}
 use Rattle.kernel_tables.specs.Shown.{space_shown, entry_in, changed_named}
-use Rattle.table_view.specs.Shown.{is_away}
+use Rattle.kernel_tables.specs.TableViewShown.{is_away}
 use Rattle.kernel_tables.specs.View.{Lists, pages_in, placement_of, flown_at}
 use Rattle.kernel_tables.specs.Known.{Known}
 use Rattle.kernel_tables.specs.Tied.{Tied}

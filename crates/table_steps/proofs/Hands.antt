@@ -41,10 +41,10 @@ use Rattle.page_laws.proofs.Moves.HandRuns.{hand_begun, hand_rests}
 use Rattle.page_laws.proofs.Moves.Stays.{expire_transfers, move_stays}
 use Rattle.page_laws.proofs.Moves.Transfers.{launch_run_count}
 use Rattle.page_laws.proofs.Bytes.Others.{stays_same}
-use Rattle.kernel_laws.proofs.Machine.Moves.{hand_coupled_step}
+use Rattle.kernel_tables.proofs.Moves.{hand_coupled_step}
 use Rattle.kernel_tables.specs.declared.tables.Tables.{Tables}
 use Rattle.kernel_tables.specs.Shown.{entry_in, placed, changed_named}
-use Rattle.table_view.specs.Shown.{is_away, idle_state}
+use Rattle.kernel_tables.specs.TableViewShown.{is_away, idle_state}
 use Rattle.kernel_tables.specs.View.{Lists, page_held, placement_of, frames_of, flown_at, page_by}
 use Rattle.kernel_tables.specs.Known.{Known}
 use Rattle.kernel_tables.specs.Machine.{lists_of, image_at}

@@ -28,7 +28,7 @@ use Rattle.page_laws.proofs.Ownership.Runs.{Landing as LandingPart, land_owner, 
 use Rattle.page_laws.proofs.Blocks.Steps.{land_aside}
 use Rattle.kernel_tables.specs.declared.tables.Tables.{Tables}
 use Rattle.kernel_tables.specs.Shown.{placed}
-use Rattle.table_view.specs.Shown.{is_away, idle_state}
+use Rattle.kernel_tables.specs.TableViewShown.{is_away, idle_state}
 use Rattle.kernel_tables.specs.View.{Lists, Flown, flown_number, in_part, out_part, inbound_flown, outbound_flown, transfer_shown, flown, placement_of, frames_of}
 use Rattle.kernel_tables.specs.Tied.{Tied}
 use Rattle.kernel_tables.specs.Known.{Known}

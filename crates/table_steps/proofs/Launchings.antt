@@ -34,7 +34,7 @@ use Rattle.page_laws.proofs.Ownership.Runs.{begin_owner, launch_still}
 use Rattle.page_laws.proofs.Blocks.Aside.{IsBusy, turn_aside}
 use Rattle.kernel_tables.specs.declared.tables.Tables.{Tables}
 use Rattle.kernel_tables.specs.Shown.{entry_in, frame_named, placed}
-use Rattle.table_view.specs.Shown.{is_away, idle_state}
+use Rattle.kernel_tables.specs.TableViewShown.{is_away, idle_state}
 use Rattle.kernel_tables.specs.View.{Lists, Flown, flown_number, out_part, outbound_flown, transfer_shown, flown, flown_at, page_by, page_flown, bytes_by, bytes_flown, page_held, bytes_held, placement_of, frames_of}
 use Rattle.kernel_tables.specs.Known.{Known}
 use Rattle.kernel_tables.specs.Machine.{lists_of, image_at}

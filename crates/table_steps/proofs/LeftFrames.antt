@@ -18,7 +18,7 @@ use Rattle.core_map.specs.Frames.{Frames}
 use Rattle.page_laws.proofs.Lists.Local.{none_some}
 use Rattle.flat_state.proofs.PageNames.{same_page_is, same_page_self}
 use Rattle.flat_state.specs.PageNames.{same_page}
-use Rattle.table_view.specs.Shown.{is_away}
+use Rattle.kernel_tables.specs.TableViewShown.{is_away}
 use Rattle.kernel_tables.specs.Found.{holds_it, found_from, frame_holding}
 use Rattle.kernel_tables.specs.View.{Flown, page_by, bytes_by}
 use Rattle.kernel_tables.specs.Gone.{left_at, left_in, left_page, left_pages}

@@ -24,7 +24,7 @@ use Rattle.page_model.specs.Moves.{leave_by, leave_page, leave_all, listed}
 use Rattle.page_laws.proofs.Moves.Puts.{KeptByPuts}
 use Rattle.page_laws.proofs.Blocks.Changes.{rest_of}
 use Rattle.kernel_tables.specs.Shown.{slot_shown, text_shown, space_shown, entry_in}
-use Rattle.table_view.specs.Shown.{is_away, idle_state, state_shown}
+use Rattle.kernel_tables.specs.TableViewShown.{is_away, idle_state, state_shown}
 use Rattle.kernel_tables.specs.Found.{cached_by, cached_place, frame_holding}
 use Rattle.kernel_tables.specs.View.{Lists, pages_in, flown_at, text_place_by, page_held, bytes_held, placement_of, frames_of}
 use Rattle.kernel_tables.specs.Known.{Known}

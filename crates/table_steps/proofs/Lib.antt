@@ -1,3 +1,68 @@
+pub use Rattle.kernel_tables.proofs.Lists
+pub use Rattle.kernel_tables.proofs.Numbered
+pub use Rattle.kernel_tables.proofs.KernelLawsKeptBegins
+pub use Rattle.kernel_tables.proofs.KernelLawsKeptChanges
+pub use Rattle.kernel_tables.proofs.Done
+pub use Rattle.kernel_tables.proofs.Moves
+pub use Rattle.kernel_tables.proofs.KernelLawsMachineProcesses
+pub use Rattle.kernel_tables.proofs.Ready
+pub use Rattle.kernel_tables.proofs.Shapes
+pub use Rattle.kernel_tables.proofs.Swaps
+pub use Rattle.kernel_tables.proofs.KernelLawsMachineTables
+pub use Rattle.kernel_tables.proofs.Takes
+pub use Rattle.kernel_tables.proofs.Found
+pub use Rattle.kernel_tables.proofs.GivenBack
+pub use Rattle.kernel_tables.proofs.KernelLawsPiecesStarts
+pub use Rattle.kernel_tables.proofs.Wanted
+pub use Rattle.kernel_tables.proofs.KernelLawsSoundAllowed
+pub use Rattle.kernel_tables.proofs.KernelLawsSoundBegins
+pub use Rattle.kernel_tables.proofs.KernelLawsSoundChanges
+pub use Rattle.kernel_tables.proofs.NumbersApart
+pub use Rattle.kernel_tables.proofs.KernelLawsSoundSteps
+pub use Rattle.kernel_tables.proofs.AddedImage
+pub use Rattle.kernel_tables.proofs.AddedTied
+pub use Rattle.kernel_tables.proofs.Entries as KernelTablesEntries
+pub use Rattle.kernel_tables.proofs.Evicts
+pub use Rattle.kernel_tables.proofs.Fills
+pub use Rattle.kernel_tables.proofs.Finds
+pub use Rattle.kernel_tables.proofs.Held
+pub use Rattle.kernel_tables.proofs.Kept
+pub use Rattle.kernel_tables.proofs.Kernels
+pub use Rattle.kernel_tables.proofs.Kin
+pub use Rattle.kernel_tables.proofs.Knows
+pub use Rattle.kernel_tables.proofs.Likes
+pub use Rattle.kernel_tables.proofs.Listed
+pub use Rattle.kernel_tables.proofs.Lives
+pub use Rattle.kernel_tables.proofs.Marks
+pub use Rattle.kernel_tables.proofs.MovedRecords
+pub use Rattle.kernel_tables.proofs.Outcomes
+pub use Rattle.kernel_tables.proofs.PlaceStates
+pub use Rattle.kernel_tables.proofs.Recorded
+pub use Rattle.kernel_tables.proofs.Records
+pub use Rattle.kernel_tables.proofs.Revives
+pub use Rattle.kernel_tables.proofs.Rising
+pub use Rattle.kernel_tables.proofs.Shows
+pub use Rattle.kernel_tables.proofs.Stills
+pub use Rattle.kernel_tables.proofs.Touches
+pub use Rattle.kernel_tables.proofs.UserFrames
+pub use Rattle.kernel_tables.proofs.Writes
+pub use Rattle.kernel_tables.proofs.Zeros
+pub use Rattle.page_laws.proofs.Blocks.Aside
+pub use Rattle.page_laws.proofs.Bytes.Others
+pub use Rattle.page_laws.proofs.Bytes.Pages as PageLawsBytesPages
+pub use Rattle.page_laws.proofs.Due.Changes as PageLawsDueChanges
+pub use Rattle.page_laws.proofs.Due.Entries as PageLawsDueEntries
+pub use Rattle.page_laws.proofs.Lists.Frames
+pub use Rattle.page_laws.proofs.Lists.Local
+pub use Rattle.page_laws.proofs.Lists.Pages as PageLawsListsPages
+pub use Rattle.page_laws.proofs.Lists.Runs
+pub use Rattle.page_laws.proofs.Moves.Puts
+pub use Rattle.page_laws.proofs.Moves.Steps as PageLawsMovesSteps
+pub use Rattle.page_laws.proofs.Moves.Transfers
+pub use Rattle.page_laws.proofs.Moves.Units
+pub use Rattle.page_laws.proofs.Ownership.Changes as PageLawsOwnershipChanges
+pub use Rattle.page_laws.proofs.Ownership.Pages as PageLawsOwnershipPages
+pub use Rattle.page_laws.proofs.Starts as PageLawsStarts
 pub mod Flights
 pub mod Opens
 pub mod Gets

@@ -13,7 +13,7 @@ use Rattle.kernel_model.specs.Sound.{lives, lives_in}
 use Rattle.kernel_model.specs.Unit.{lends_life, has_lender}
 use Rattle.kernel_model.specs.ChangeStep.{with_proc, without_proc, is_ended, orphaned_procs, woken_procs, left_procs, child_proc}
 use Rattle.kernel_model.specs.ChangeStep.{procs_after}
-use Rattle.kernel_laws.proofs.Machine.Processes.{with_at, with_not}
+use Rattle.kernel_tables.proofs.KernelLawsMachineProcesses.{with_at, with_not}
 use Rattle.kernel_tables.proofs.Lives.{pid_of}
 
 -- two records of one process, with one parent and one life

@@ -12,7 +12,7 @@ use Rattle.page_laws.proofs.Moves.Transfers.{launch_run_count, retire_count}
 use Rattle.page_laws.proofs.Blocks.Aside.{has_blocks}
 use Rattle.kernel_model.specs.Kernel.{Kernel, push_step}
 use Rattle.kernel_model.specs.Coupled.{beside_kernel}
-use Rattle.kernel_laws.proofs.Machine.Moves.{push_coupled_step}
+use Rattle.kernel_tables.proofs.Moves.{push_coupled_step}
 use Rattle.page_laws.proofs.Bytes.Others.{put_same}
 use Rattle.kernel_tables.specs.Conditions.{KeepsFlat, SameEverywhere}
 use Rattle.kernel_model.specs.Sound.{Sound, lives}

@@ -25,11 +25,11 @@ use Rattle.kernel_model.specs.Sound.{Sound}
 use Rattle.page_laws.proofs.Lists.Local.{none_some}
 use Rattle.std.proofs.lemmas.Option.{same_Some}
 use Rattle.page_laws.proofs.Moves.Steps.{page_in}
-use Rattle.kernel_laws.proofs.Machine.Moves.{reclaim_coupled_step}
+use Rattle.kernel_tables.proofs.Moves.{reclaim_coupled_step}
 use Rattle.page_laws.proofs.Bytes.Others.{reclaim_same}
 use Rattle.kernel_tables.specs.declared.tables.Tables.{Tables}
 use Rattle.kernel_tables.specs.Shown.{changed_shown, slot_shown, text_shown, entry_in, changed_named}
-use Rattle.table_view.specs.Shown.{is_away, idle_state, state_shown}
+use Rattle.kernel_tables.specs.TableViewShown.{is_away, idle_state, state_shown}
 use Rattle.kernel_tables.specs.View.{Lists, Flown, text_place_by, flown_at, page_by, bytes_by, page_held, bytes_held, placement_of, frames_of}
 use Rattle.kernel_tables.specs.Known.{Known}
 use Rattle.kernel_tables.specs.Steps.{revived, reclaimed, dirty_shown}

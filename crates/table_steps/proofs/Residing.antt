@@ -22,7 +22,7 @@ use Rattle.std.proofs.lemmas.Option.{same_Some}
 use Rattle.page_laws.proofs.Moves.Steps.{page_in, frame_in}
 use Rattle.page_laws.proofs.Ownership.Pages.{seated_alone}
 use Rattle.kernel_tables.specs.Shown.{slot_shown, text_shown, entry_in}
-use Rattle.table_view.specs.Shown.{is_away, idle_state, state_shown}
+use Rattle.kernel_tables.specs.TableViewShown.{is_away, idle_state, state_shown}
 use Rattle.kernel_tables.specs.View.{Lists, text_place_by, flown_at, page_by, page_flown, page_held, placement_of}
 use Rattle.kernel_tables.specs.Known.{Known}
 use Rattle.kernel_tables.specs.Rising.{sids_of}

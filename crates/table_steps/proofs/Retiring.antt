@@ -17,7 +17,7 @@ use Rattle.page_model.specs.Ownership.{is_marked_dirty}
 use Rattle.std.proofs.lemmas.Option.{same_Some}
 use Rattle.kernel_tables.specs.declared.tables.Tables.{Tables}
 use Rattle.kernel_tables.specs.Shown.{placed}
-use Rattle.table_view.specs.Shown.{is_away}
+use Rattle.kernel_tables.specs.TableViewShown.{is_away}
 use Rattle.kernel_tables.specs.View.{Lists, flown_at, page_by, bytes_by, page_held, bytes_held, placement_of, frames_of}
 use Rattle.kernel_tables.specs.Known.{Known}
 use Rattle.kernel_tables.specs.Machine.{lists_of}

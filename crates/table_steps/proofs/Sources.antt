@@ -39,7 +39,7 @@ use Rattle.kernel_tables.specs.Known.{Known}
 use Rattle.kernel_tables.specs.Rising.{sids_of}
 use Rattle.kernel_tables.specs.Settled.{image_found}
 use Rattle.kernel_tables.specs.Shown.{or_else, entry_in, slot_shown, is_on_swap}
-use Rattle.table_view.specs.Shown.{state_shown, idle_state, is_away}
+use Rattle.kernel_tables.specs.TableViewShown.{state_shown, idle_state, is_away}
 use Rattle.kernel_tables.specs.Sourced.{ImageNamed, named_at, IsOwnBlock, IsSourced, AreSourcedIn, IsImagePage, IsFilePage, image_by}
 use Rattle.kernel_tables.specs.Steps.{source_by}
 use Rattle.kernel_tables.specs.View.{Lists, pages_in, source_of, source_shown, text_place_by, placement_of}

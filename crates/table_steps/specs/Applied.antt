@@ -1,6 +1,6 @@
 -- What a change of a process asks of the tables, and what it leaves.
 use Rattle.std.specs.Prelude.{◌≡◌, ℕ, ◌<◌, true, false, [], length, map, Option, Some, None}
-use Rattle.proc_table.specs.Records.{find}
+use Rattle.kernel_tables.specs.Records.{find}
 use Rattle.flat_state.specs.Numbers.{AllDistinct, AllBelow}
 use Rattle.flat_state.specs.declared.change.Change.{Change}
 use Rattle.flat_state.specs.declared.change.Change.TheVariants.{Fork, Lend}

@@ -9,7 +9,7 @@ ghost use Rattle.table_steps.specs.Applied.{MayLeave, LeftSpace, space_at, MayAp
 use crate::{dropping, giving_up};
 use flat_state::Change;
 use kernel_tables::Tables;
-use proc_table::Life;
+use kernel_tables::proc_table::Life;
 use std::alloc::Global;
 use swap_book::Owner;
 use vm_facts::{Bytes, NoMemory};

@@ -10,3 +10,6 @@ pub mod landing;
 pub mod launching;
 pub mod notes;
 pub mod reading;
+
+pub use kernel_tables;
+pub use space_map;

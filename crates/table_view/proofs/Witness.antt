@@ -3,8 +3,8 @@ use Rattle.std.proofs.Common.{◌≡◌, ℕ, zero, suc, ◌<◌, ◌≤◌, ◌
 use Rattle.std.proofs.lemmas.Bool.Decides.{nat_tests}
 use Rattle.vm_facts.specs.declared.page.Page.{Page}
 use Rattle.vm_facts.specs.declared.page.Page.TheVariants.{Data, Stack, Text}
-use Rattle.vax_pte.specs.declared.Place.{Place}
-use Rattle.vax_pte.specs.declared.Place.TheVariants as places
+use Rattle.space_map.specs.Place.{Place}
+use Rattle.space_map.specs.Place.TheVariants as places
 use Rattle.core_map.specs.declared.slot.Slot.{Slot as Token}
 use Rattle.core_map.specs.declared.slot.Slot.TheVariants.{Free, Resident, Away}
 use Rattle.core_map.specs.Frames.{Frames}

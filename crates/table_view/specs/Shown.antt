@@ -2,8 +2,8 @@
 use Rattle.std.specs.Prelude.{◌≡◌, ℕ, Bool, true, false, List, IsTrue}
 use Rattle.vm_facts.specs.declared.page.PageState.{PageState}
 use Rattle.vm_facts.specs.declared.page.PageState.TheVariants.{Unfilled, Valid, Invalid, Coming, Going, OnSwap}
-use Rattle.vax_pte.specs.declared.Place.{Place}
-use Rattle.vax_pte.specs.declared.Place.TheVariants as places
+use Rattle.space_map.specs.Place.{Place}
+use Rattle.space_map.specs.Place.TheVariants as places
 use Rattle.core_map.specs.declared.slot.Slot.{Slot}
 use Rattle.core_map.specs.declared.slot.Slot.TheVariants.{Free, Resident, Away}
 use Rattle.core_map.specs.Slots.{slot_at, is_resident}

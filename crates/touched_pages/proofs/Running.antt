@@ -23,16 +23,16 @@ use Rattle.proc_calls.specs.Callers.{space_held}
 use Rattle.proc_calls.specs.Reading.{AreNamed}
 use Rattle.flat_model.specs.Step.{written_process}
 use Rattle.flat_model.specs.Touched.{page_of_access, step_accesses, distinct, touched, touched_by, touched_in, touched_if}
-use Rattle.flat_laws.proofs.Asking.{own_space}
+use Rattle.run_units.proofs.FlatLawsAsking.{own_space}
 use Rattle.run_model.specs.State.{State}
 use Rattle.run_model.specs.Wanted.{touched_next, before_absent, locked_by, locked, AllValid}
 use Rattle.run_model.proofs.Wanting.{split_before, all_before}
-use Rattle.run_laws.specs.Machine.{Keeps}
-use Rattle.run_laws.specs.Standing.{IsText, HasText}
-use Rattle.run_laws.proofs.Flows.{on_running, on_steps}
-use Rattle.run_laws.proofs.Room.{run_few}
-use Rattle.run_laws.proofs.Touching.{found_process}
-use Rattle.economy_laws.proofs.Left.{next_on}
+use Rattle.run_units.specs.Machine.{Keeps}
+use Rattle.run_units.specs.Standing.{IsText, HasText}
+use Rattle.run_units.proofs.Flows.{on_running, on_steps}
+use Rattle.run_units.proofs.Room.{run_few}
+use Rattle.run_units.proofs.RunLawsTouching.{found_process}
+use Rattle.run_units.proofs.Left.{next_on}
 use Rattle.run_units.specs.Serving.{At}
 use Rattle.run_units.specs.Touching.{IsRunning}
 use Rattle.run_units.proofs.Touching.{SameSpots}

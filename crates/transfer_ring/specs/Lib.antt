@@ -1,3 +1,5 @@
+pub use Rattle.io_edge.specs.Count
+pub use Rattle.io_edge.specs.FileHolding
 pub mod Naming
 pub mod Parts
 pub mod Sound

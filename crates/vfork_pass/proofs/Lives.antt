@@ -3,11 +3,11 @@ use Rattle.std.proofs.Common.{◌≡◌, ◌≢◌, ℕ, ◌==◌, Bool, true, f
 use Rattle.std.proofs.lemmas.Bool.{ne_eqb}
 use Rattle.vm_facts.proofs.Tests.{eq_self}
 use Rattle.page_model.specs.Pages.{numbered}
-use Rattle.page_laws.proofs.Lists.Pages.{mapped}
+use Rattle.machine_state.proofs.PageLawsListsPages.{mapped}
 use Rattle.kernel_model.specs.Kernel.{Life, New, HoldsSpace, LendsSpace, Ended, Proc, Kernel}
 use Rattle.kernel_model.specs.Sound.{lives_in, lives}
 use Rattle.kernel_model.specs.ChangeStep.{space_of_life, life_of_proc, pass_from, passed_life, pass_step}
-use Rattle.kernel_laws.proofs.Flat.Numbered.{has_number, numbered_map}
+use Rattle.machine_state.proofs.Numbered.{has_number, numbered_map}
 use Rattle.machine_state.specs.Applying.{MayPass}
 use Rattle.machine_state.specs.Calls.{life_in}
 use Rattle.vfork_pass.specs.Passed.{IsHolder, HasLent}

@@ -8,9 +8,9 @@ use Rattle.kernel_model.specs.Kernel.{Kernel}
 use Rattle.machine_state.specs.Machine.{Standing}
 use Rattle.run_model.specs.State.{State}
 use Rattle.run_model.specs.Swapped.{swapped_from}
-use Rattle.run_units.specs.Leads.{Leads}
-use Rattle.run_units.specs.Serving.{At}
-use Rattle.step_units.specs.Stepped.{StopLeads}
+use Rattle.journal_laws.specs.Leads.{Leads}
+use Rattle.journal_laws.specs.Serving.{At}
+use Rattle.run_start.specs.Stepped.{StopLeads}
 use Rattle.journal_laws.specs.Accounts.{Account}
 use Rattle.journal_laws.specs.Economy.{Economy}
 use Rattle.journal_laws.proofs.Accounts.{units_accounted}

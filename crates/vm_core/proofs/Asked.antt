@@ -12,24 +12,24 @@ use Rattle.kernel_model.specs.Kernel.{note_step, image_after_of}
 use Rattle.machine_state.specs.Machine.{Standing}
 use Rattle.machine_state.specs.Conditions.{HasStopped}
 use Rattle.machine_state.specs.Done.{sources, IsDone, ImageAfter, StopsFor, SwapAfter, StopsEnding}
-use Rattle.clock_hands.specs.Moved.{Moved, StopsMoving}
-use Rattle.swapper.specs.declared.Turned.{Turned}
-use Rattle.swapper.specs.Runners.{runners_of, choice_of}
-use Rattle.swapper.specs.Turns.{Turns, StopsTurning}
-use Rattle.steady_laws.proofs.Kernels.{is_done_keeps}
-use Rattle.steady_laws.proofs.Pages.{moved_keeps, turn_keeps}
-use Rattle.steady_laws.proofs.Transfers.{done_continues}
-use Rattle.steady_laws.proofs.Lines.{moves_continue, turn_continues}
-use Rattle.paging_units.specs.LastMoves.{last_moves}
+use Rattle.journal_laws.specs.Moved.{Moved, StopsMoving}
+use Rattle.run_start.specs.Turned.{Turned}
+use Rattle.run_start.specs.Runners.{runners_of, choice_of}
+use Rattle.run_start.specs.Turns.{Turns, StopsTurning}
+use Rattle.run_start.proofs.SteadyLawsKernels.{is_done_keeps}
+use Rattle.run_start.proofs.Pages.{moved_keeps, turn_keeps}
+use Rattle.run_start.proofs.Transfers.{done_continues}
+use Rattle.run_start.proofs.Lines.{moves_continue, turn_continues}
+use Rattle.journal_laws.specs.LastMoves.{last_moves}
 use Rattle.run_model.specs.State.{State}
 use Rattle.run_model.specs.After.{interrupt_mark}
 use Rattle.run_model.specs.Next.{owners_of, last_turned}
-use Rattle.run_units.specs.Leads.{Leads}
-use Rattle.run_units.proofs.Units.{none_leads}
-use Rattle.step_units.specs.Stepped.{StopLeads}
-use Rattle.step_units.specs.Lines.{LineLeads, StopsNoting}
-use Rattle.step_units.proofs.Asking.{interrupt_made, idle_ends, interrupt_stops, hands_made, hands_stop, audit_made, audit_stops}
-use Rattle.step_units.proofs.PuttingOut.{swapper_made, swapper_stops}
+use Rattle.journal_laws.specs.Leads.{Leads}
+use Rattle.journal_laws.proofs.Units.{none_leads}
+use Rattle.run_start.specs.Stepped.{StopLeads}
+use Rattle.run_start.specs.Lines.{LineLeads, StopsNoting}
+use Rattle.run_start.proofs.Asking.{interrupt_made, idle_ends, interrupt_stops, hands_made, hands_stop, audit_made, audit_stops}
+use Rattle.run_start.proofs.PuttingOut.{swapper_made, swapper_stops}
 use Rattle.proc_run.specs.Runs.{IsSteady}
 use Rattle.vm_core.specs.Steady.{StaysSteady}
 use Rattle.vm_core.specs.Lines.{LineAt, MakesLine, StopsLine}

@@ -17,11 +17,11 @@ use Rattle.run_model.specs.Lawful.{Follows}
 use Rattle.run_model.proofs.After.{after_count}
 use Rattle.run_laws.proofs.Lawful.{next_is_unit}
 use Rattle.run_laws.proofs.Machines.{makes_follows}
-use Rattle.economy_laws.specs.Stretch.{turns_of, counts, NoneCounts}
-use Rattle.economy_laws.proofs.Idle.{count_most, few_turns}
-use Rattle.run_units.specs.Leads.{Leads}
-use Rattle.run_units.proofs.Units.{none_leads, both_lead}
-use Rattle.step_units.specs.Lines.{IsOver, TurnDue}
+use Rattle.journal_laws.specs.Stretch.{turns_of, counts, NoneCounts}
+use Rattle.journal_laws.proofs.Idle.{count_most, few_turns}
+use Rattle.journal_laws.specs.Leads.{Leads}
+use Rattle.journal_laws.proofs.Units.{none_leads, both_lead}
+use Rattle.run_start.specs.Lines.{IsOver, TurnDue}
 use Rattle.proc_run.specs.Choosing.{next_turned as chosen_next}
 use Rattle.proc_run.proofs.Ready.{turned_same}
 use Rattle.vm_core.specs.Cores.{Underway, StandsIn, CoreAt}

@@ -8,7 +8,7 @@ use Rattle.flat_state.specs.Flat.{Inputs}
 use Rattle.machine_state.specs.Machine.{Standing}
 use Rattle.run_model.specs.State.{State}
 use Rattle.run_model.specs.Next.{turn_instructions, last_turned}
-use Rattle.step_units.proofs.Residing.{closing_stays_in}
+use Rattle.run_start.proofs.Residing.{closing_stays_in}
 use Rattle.proc_run.specs.Running.{UnderMark, Runs, StopsRunning}
 use Rattle.vm_core.specs.Cores.{AskedAt, CarriesOut, StopsCarrying}
 use Rattle.vm_core.specs.Closing.{TurnAt, FinishesTurn, StopsFinishing}

@@ -16,9 +16,9 @@ use Rattle.machine_state.specs.Machine.{Standing}
 use Rattle.machine_state.specs.Sourced.{ImageNamed}
 use Rattle.run_model.specs.State.{start}
 use Rattle.run_laws.specs.Running.{CanRun}
-use Rattle.run_units.specs.Leads.{Leads}
-use Rattle.run_units.proofs.Units.{both_lead}
-use Rattle.step_units.specs.Stepped.{StopLeads}
+use Rattle.journal_laws.specs.Leads.{Leads}
+use Rattle.journal_laws.proofs.Units.{both_lead}
+use Rattle.run_start.specs.Stepped.{StopLeads}
 use Rattle.run_start.specs.declared.starting.Started.TheVariants as starteds
 use Rattle.run_start.specs.Starting.{AreAmong, StartsFrom, started_by}
 use Rattle.run_start.specs.Leading.{IsTold, machine_at_start}

@@ -12,9 +12,9 @@ use Rattle.flat_state.specs.Flat.{Inputs}
 use Rattle.page_model.specs.Placement.{Due}
 use Rattle.run_model.specs.State.{State}
 use Rattle.run_model.specs.Next.{due_unit, or_else, under, when, line_or_turn, next_mark, next_unit}
-use Rattle.run_units.specs.Leads.{Leads}
-use Rattle.run_units.proofs.Units.{none_leads, both_lead}
-use Rattle.step_units.specs.Lines.{IsOver}
+use Rattle.journal_laws.specs.Leads.{Leads}
+use Rattle.journal_laws.proofs.Units.{none_leads, both_lead}
+use Rattle.run_start.specs.Lines.{IsOver}
 use Rattle.vm_core.specs.declared.events.Went.{Went}
 use Rattle.vm_core.specs.declared.events.Went.TheVariants as wents
 use Rattle.vm_core.specs.Cores.{Underway, LineDue, LineTaken, TakesLine, StopsTaking}

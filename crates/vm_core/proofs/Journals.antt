@@ -18,7 +18,7 @@ use Rattle.kernel_model.specs.Kernel.{Kernel}
 use Rattle.kernel_model.specs.Coupled.{memory_of}
 use Rattle.machine_state.specs.Done.{SpoilsAll, SpoilsBy as SpoilsTransfers}
 use Rattle.machine_state.specs.Machine.{Standing}
-use Rattle.paging_units.specs.Stops.{CauseBy, SpoilsBy}
+use Rattle.journal_laws.specs.Stops.{CauseBy, SpoilsBy}
 use Rattle.run_model.specs.State.{State, start}
 use Rattle.run_model.specs.After.{after}
 use Rattle.run_model.specs.Next.{next_unit}
@@ -32,9 +32,9 @@ use Rattle.run_laws.proofs.Going.{unit_goes}
 use Rattle.run_laws.proofs.Machines.{start_keeps, units_keep}
 use Rattle.run_laws.proofs.SwapImages.{writes_flat}
 use Rattle.run_laws.proofs.Wholes.{start_run}
-use Rattle.run_units.specs.Leads.{Leads}
+use Rattle.journal_laws.specs.Leads.{Leads}
 use Rattle.run_start.specs.Leading.{machine_at_start}
-use Rattle.step_units.specs.Stepped.{StopLeads, StopsNext}
+use Rattle.run_start.specs.Stepped.{StopLeads, StopsNext}
 use Rattle.journal_laws.proofs.Journals.{leads_follow, journal_lawful, journal_accounted, journal_economical, journal_image}
 use Rattle.vm_core.specs.Cores.{Underway, GoesOn}
 use Rattle.vm_core.specs.Halting.{HaltsFor, SpoilsParts, SpoilsOldest, LeavesImage}

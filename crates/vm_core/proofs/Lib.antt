@@ -1,3 +1,7 @@
+pub use Rattle.run_laws.proofs.Images
+pub use Rattle.run_laws.proofs.Octets
+pub use Rattle.run_laws.proofs.Filing
+pub use Rattle.run_laws.proofs.Finishing
 pub mod Pieces
 pub mod Accounts
 pub mod Steadying

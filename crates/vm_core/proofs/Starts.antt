@@ -7,12 +7,12 @@ use Rattle.swap_book.specs.Holdings.{Holdings}
 use Rattle.flat_state.specs.Flat.{Inputs}
 use Rattle.flat_model.specs.Run.{Point}
 use Rattle.machine_state.specs.Machine.{Standing}
-use Rattle.register_laws.specs.Longwords.{AllFit}
-use Rattle.register_laws.proofs.Registers.{start_regs_are}
+use Rattle.run_laws.specs.Longwords.{AllFit}
+use Rattle.run_laws.proofs.Registers.{start_regs_are}
 use Rattle.run_model.specs.State.{start}
 use Rattle.run_model.specs.Next.{under, last_turned}
-use Rattle.run_units.specs.Acting.{IsBetween}
-use Rattle.run_units.specs.Serving.{At}
+use Rattle.journal_laws.specs.Acting.{IsBetween}
+use Rattle.journal_laws.specs.Serving.{At}
 use Rattle.run_start.specs.Starting.{HasStarted}
 use Rattle.run_start.specs.Leading.{IsTold, machine_at_start, StartLeads, StartStops}
 use Rattle.run_start.proofs.Led.{stands_at_start}

@@ -6,14 +6,14 @@ use Rattle.kernel_model.specs.Kernel.{Kernel, note_step}
 use Rattle.machine_state.specs.Machine.{Standing}
 use Rattle.machine_state.specs.Settled.{IsSameBeside}
 use Rattle.machine_state.specs.Swapping.{IsIn}
-use Rattle.paging_units.specs.LastMoves.{last_moves}
-use Rattle.steady_laws.specs.Holders.{HoldersStand}
-use Rattle.steady_laws.proofs.Kernels.{note_keeps, is_in_keeps}
-use Rattle.steady_laws.specs.Ready.{IsReady, Continues, RunsMoved}
-use Rattle.steady_laws.proofs.Journals.{last_plain}
-use Rattle.steady_laws.proofs.Entries.{note_continues}
-use Rattle.steady_laws.proofs.Lines.{turn_continues}
-use Rattle.swapper.specs.declared.Turned.TheVariants as turns
+use Rattle.journal_laws.specs.LastMoves.{last_moves}
+use Rattle.run_start.specs.Holders.{HoldersStand}
+use Rattle.run_start.proofs.SteadyLawsKernels.{note_keeps, is_in_keeps}
+use Rattle.run_start.specs.Ready.{IsReady, Continues, RunsMoved}
+use Rattle.run_start.proofs.Journals.{last_plain}
+use Rattle.run_start.proofs.Entries.{note_continues}
+use Rattle.run_start.proofs.Lines.{turn_continues}
+use Rattle.run_start.specs.Turned.TheVariants as turns
 use Rattle.proc_run.specs.Runs.{IsSteady}
 use Rattle.vm_core.specs.Steady.{StaysSteady}
 

@@ -19,11 +19,11 @@ use Rattle.run_model.specs.State.{State, runners}
 use Rattle.run_model.specs.After.{interrupt_mark, swap_mark, mark_of_event}
 use Rattle.run_laws.proofs.Finishing.{units_below}
 use Rattle.run_laws.proofs.Machines.{makes_follows}
-use Rattle.run_units.specs.Leads.{Leads}
-use Rattle.run_units.proofs.Units.{both_lead}
-use Rattle.step_units.specs.Stepped.{StopLeads}
-use Rattle.step_units.specs.Lines.{LineBegun, StopsNoting}
-use Rattle.step_units.proofs.Beginning.{line_begins, line_stops}
+use Rattle.journal_laws.specs.Leads.{Leads}
+use Rattle.journal_laws.proofs.Units.{both_lead}
+use Rattle.run_start.specs.Stepped.{StopLeads}
+use Rattle.run_start.specs.Lines.{LineBegun, StopsNoting}
+use Rattle.run_start.proofs.StepUnitsBeginning.{line_begins, line_stops}
 use Rattle.proc_run.specs.Running.{CountsTo}
 use Rattle.vm_core.specs.Accounts.{StopsAccounted}
 use Rattle.vm_core.specs.Steady.{StaysSteady}

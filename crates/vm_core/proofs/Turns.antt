@@ -12,15 +12,15 @@ use Rattle.page_model.specs.Placement.{Placement}
 use Rattle.kernel_model.specs.Kernel.{Kernel, note_step}
 use Rattle.machine_state.specs.Machine.{Standing}
 use Rattle.machine_state.specs.Swapping.{IsIn}
-use Rattle.paging_units.specs.Stops.{StopsAt}
+use Rattle.journal_laws.specs.Stops.{StopsAt}
 use Rattle.run_model.specs.State.{State}
 use Rattle.run_model.specs.Next.{goes_on, turn_instructions}
-use Rattle.run_units.specs.Leads.{Leads}
-use Rattle.run_units.proofs.Units.{none_leads, both_lead}
-use Rattle.step_units.specs.Stepped.{StopLeads}
-use Rattle.step_units.specs.Lines.{TurnDue, TurnBegun, CameIn, StopsNoting}
-use Rattle.step_units.proofs.Beginning.{turn_stops}
-use Rattle.step_units.proofs.Turning.{turn_begins, comes_in, coming_in_stops}
+use Rattle.journal_laws.specs.Leads.{Leads}
+use Rattle.journal_laws.proofs.Units.{none_leads, both_lead}
+use Rattle.run_start.specs.Stepped.{StopLeads}
+use Rattle.run_start.specs.Lines.{TurnDue, TurnBegun, CameIn, StopsNoting}
+use Rattle.run_start.proofs.StepUnitsBeginning.{turn_stops}
+use Rattle.run_start.proofs.Turning.{turn_begins, comes_in, coming_in_stops}
 use Rattle.run_model.specs.declared.mark.Mark.TheVariants as marks
 use Rattle.run_laws.proofs.Finishing.{units_below}
 use Rattle.run_laws.proofs.Machines.{makes_follows}

@@ -6,7 +6,7 @@ use Rattle.kernel_model.specs.Kernel.{Kernel}
 use Rattle.machine_state.specs.Machine.{Standing}
 use Rattle.run_model.specs.State.{State}
 use Rattle.run_model.specs.Swapped.{swapped_from}
-use Rattle.step_units.specs.Stepped.{StopLeads}
+use Rattle.run_start.specs.Stepped.{StopLeads}
 use Rattle.journal_laws.specs.Accounts.{Account}
 use Rattle.journal_laws.specs.Economy.{Economy}
 

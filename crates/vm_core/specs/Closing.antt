@@ -13,10 +13,10 @@ use Rattle.run_model.specs.Next.{goes_on, turn_instructions, last_turned, next_u
 use Rattle.run_model.specs.Lawful.{Follows}
 use Rattle.run_model.specs.Swapped.{swapped_from}
 use Rattle.run_laws.specs.Running.{IsRun}
-use Rattle.economy_laws.specs.Stretch.{turns_of, NoneCounts}
-use Rattle.run_units.specs.Leads.{Leads}
-use Rattle.step_units.specs.Stepped.{StopLeads}
-use Rattle.step_units.specs.Lines.{IsOver, IsClear, TurnDue}
+use Rattle.journal_laws.specs.Stretch.{turns_of, NoneCounts}
+use Rattle.journal_laws.specs.Leads.{Leads}
+use Rattle.run_start.specs.Stepped.{StopLeads}
+use Rattle.run_start.specs.Lines.{IsOver, IsClear, TurnDue}
 use Rattle.proc_run.specs.Choosing.{next_turned as chosen_next}
 use Rattle.journal_laws.specs.Accounts.{Account}
 use Rattle.journal_laws.specs.Economy.{Economy}

@@ -1,3 +1,7 @@
+pub use Rattle.run_start.specs.Reading
+pub use Rattle.run_laws.specs.Longwords
+pub use Rattle.run_laws.specs.Files
+pub use Rattle.run_start.specs.Starting as RunStartStarting
 pub mod Steady
 pub mod Accounts
 pub mod Lines

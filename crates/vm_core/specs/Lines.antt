@@ -5,12 +5,12 @@ use Rattle.vm_facts.specs.declared.stop.Stop.{Stop}
 use Rattle.io_edge.specs.FileHolding.{NamedFile}
 use Rattle.flat_state.specs.Flat.{Inputs}
 use Rattle.machine_state.specs.Machine.{Standing}
-use Rattle.register_laws.specs.Longwords.{AllFit}
+use Rattle.run_laws.specs.Longwords.{AllFit}
 use Rattle.run_model.specs.State.{State}
 use Rattle.run_model.specs.After.{mark_of_event}
-use Rattle.step_units.specs.Machines.{MachineAt}
-use Rattle.step_units.specs.Stepped.{StopLeads}
-use Rattle.step_units.specs.Lines.{IsClear, LineLeads}
+use Rattle.run_start.specs.Machines.{MachineAt}
+use Rattle.run_start.specs.Stepped.{StopLeads}
+use Rattle.run_start.specs.Lines.{IsClear, LineLeads}
 
 -- The machine stands at a state under the mark of a line, with a swap image that is told.
 pub record LineAt (A : Inputs) (s : State) (m : Standing) (holds : Option (List NamedFile)) (i : Option (List ℕ)) (image : List ℕ) (e : Event) : Type 0 where

@@ -9,8 +9,8 @@ use Rattle.machine_state.specs.Machine.{Standing}
 use Rattle.run_model.specs.State.{State, start}
 use Rattle.run_model.specs.Swapped.{swapped_from}
 use Rattle.run_laws.specs.Running.{CanRun}
-use Rattle.run_units.specs.Leads.{Leads}
-use Rattle.run_units.specs.Serving.{SameBut}
+use Rattle.journal_laws.specs.Leads.{Leads}
+use Rattle.journal_laws.specs.Serving.{SameBut}
 use Rattle.run_start.specs.Starting.{IsNew}
 use Rattle.run_start.specs.Leading.{IsTold, machine_at_start, StopsBeginning}
 use Rattle.journal_laws.specs.Accounts.{Account}

@@ -19,8 +19,8 @@ use io_edge::{Files, SwapDev};
 use machine_state::Machine;
 use proc_run::next_turned;
 use proc_table::Life;
+use run_start::swapper::swap_in;
 use std::alloc::Global;
-use swapper::swap_in;
 use vm_facts::{Entry, Stop};
 
 /// No more turns in a row count no instruction: there are no more processes.

@@ -2,7 +2,7 @@
 ghost use Rattle.std.specs.Prelude.{◌≡◌, ◌<◌, ◌≤◌, ◌↔◌, false, OnOk, IfOk, IfErr};
 ghost use Rattle.machine_state.specs.Files.{AreFiles};
 ghost use Rattle.machine_state.specs.Done.{CountsPages, CountsReads, CountsWrites};
-ghost use Rattle.paging_units.specs.LastMoves.{last_moves};
+ghost use Rattle.journal_laws.specs.LastMoves.{last_moves};
 ghost use Rattle.flat_state.specs.Journal.{instructions_of};
 ghost use Rattle.proc_run.specs.Runs.{IsSteady};
 ghost use Rattle.proc_run.specs.Running.{CountsTo};

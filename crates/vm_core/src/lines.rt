@@ -3,16 +3,16 @@ ghost use Rattle.std.specs.Prelude.{◌≡◌, ◌≤◌, false, OnOk, IfErr};
 ghost use Rattle.vm_facts.specs.declared.event.Event.{Event as AnyEvent};
 ghost use Rattle.machine_state.specs.Files.{AreFiles};
 ghost use Rattle.machine_state.specs.Done.{CountsPages, CountsReads, CountsWrites};
-ghost use Rattle.paging_units.specs.LastMoves.{last_moves};
+ghost use Rattle.journal_laws.specs.LastMoves.{last_moves};
 ghost use Rattle.proc_run.specs.Runs.{IsSteady};
 ghost use Rattle.vm_core.specs.Steady.{StaysSteady};
 ghost use Rattle.vm_core.specs.Lines.{MakesLine, StopsLine};
 
 use crate::owners::owners;
-use clock_hands::move_hands;
 use io_edge::{Files, SwapDev};
+use journal_laws::clock_hands::move_hands;
 use machine_state::Machine;
-use swapper::turn;
+use run_start::swapper::turn;
 use vm_facts::{Event, Stop};
 
 /// The oldest transfer ends, where one is in flight.

@@ -13,11 +13,11 @@ use Rattle.command_ending.specs.Named.{Why}
 use Rattle.command_ending.specs.Command.{Writes, All, Prefix}
 use Rattle.run_opening.specs.Schedules.{HasEvents, HasBadEvent}
 use Rattle.run_opening.specs.Opening.{FoundFiles, HasAll, FailsAtImage}
-use Rattle.run_command.specs.Asking.{Request}
-use Rattle.run_command.specs.Seen.{Seen}
-use Rattle.run_command.specs.Machines.{journal_entries}
-use Rattle.run_command.specs.Ends.{Ending, status_of, DevicesSuffice, IsCaused, IsJudged, EndsTold}
-use Rattle.run_command.specs.Loads.{load_numbers, IsLoadCaused}
+use Rattle.reference_commands.specs.RunCommandAsking.{Request}
+use Rattle.reference_commands.specs.Seen.{Seen}
+use Rattle.reference_commands.specs.Machines.{journal_entries}
+use Rattle.reference_commands.specs.RunCommandEnds.{Ending, status_of, DevicesSuffice, IsCaused, IsJudged, EndsTold}
+use Rattle.reference_commands.specs.Loads.{load_numbers, IsLoadCaused}
 use Rattle.vm_run.specs.Complete.{IsSound, NoneRose, RunsComplete, LoadsComplete}
 
 -- what was written whole has the status of its ending

@@ -5,8 +5,8 @@ use Rattle.command_words.specs.Asked.{Asked, Run, Load, Replay, Assemble, Show, 
 use Rattle.command_ending.specs.Ending.{Ending as CommandEnding}
 use Rattle.command_ending.specs.Command.{Faults, Completes}
 use Rattle.io_edge.specs.Octets.{AreOctetFiles}
-use Rattle.run_command.specs.Seen.{Seen}
-use Rattle.run_command.specs.Paired.{image_together}
+use Rattle.reference_commands.specs.Seen.{Seen}
+use Rattle.reference_commands.specs.Paired.{image_together}
 use Rattle.vm_run.specs.Obeying.{Obeys}
 use Rattle.vm_run.specs.InMemory.{blank_pair, seen_of, CompletesTold, ObeysTold}
 

@@ -5,11 +5,11 @@ use Rattle.io_edge.specs.FileHolding.{NamedFile}
 use Rattle.flat_state.specs.Flat.{Inputs}
 use Rattle.flat_model.specs.Asked.{start_held}
 use Rattle.io_edge.specs.Octets.{AreOctetFiles}
-use Rattle.run_command.specs.Asking.{Request, AsksFor}
-use Rattle.run_command.specs.Seen.{Seen, DeviceFailed}
-use Rattle.run_command.specs.Machines.{journal_entries}
-use Rattle.run_command.specs.Ends.{DevicesSuffice, AllGood, Runs}
-use Rattle.run_command.specs.Loads.{load_numbers, Loads}
+use Rattle.reference_commands.specs.RunCommandAsking.{Request, AsksFor}
+use Rattle.reference_commands.specs.Seen.{Seen, DeviceFailed}
+use Rattle.reference_commands.specs.Machines.{journal_entries}
+use Rattle.reference_commands.specs.RunCommandEnds.{DevicesSuffice, AllGood, Runs}
+use Rattle.reference_commands.specs.Loads.{load_numbers, Loads}
 
 -- Files and swap are told, the schedule, the images and the devices are good, and the first processes' pieces find their places.
 pub record IsSound (request : Request) (seen : Seen) (files : List NamedFile) (image : List ℕ) : Type 0 where

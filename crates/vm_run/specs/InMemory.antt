@@ -10,11 +10,11 @@ use Rattle.command_ending.specs.Command.{Faults, Writes, WritesEnding}
 use Rattle.source_commands.specs.Command.{source_bytes, EndsAssembly, EndsListing}
 use Rattle.replay_command.specs.Reading.{read_told as replay_told}
 use Rattle.replay_command.specs.Command.{EndsReplay}
-use Rattle.run_command.specs.Asking.{Request}
-use Rattle.run_command.specs.Seen.{Seen}
-use Rattle.run_command.specs.Paired.{image_together}
-use Rattle.run_command.specs.Ends.{Ending, status_of, Writing, IsCaused, IsJudged, EndsTold}
-use Rattle.run_command.specs.Loads.{load_written, IsLoadCaused, LoadEnded}
+use Rattle.reference_commands.specs.RunCommandAsking.{Request}
+use Rattle.reference_commands.specs.Seen.{Seen}
+use Rattle.reference_commands.specs.Paired.{image_together}
+use Rattle.reference_commands.specs.RunCommandEnds.{Ending, status_of, Writing, IsCaused, IsJudged, EndsTold}
+use Rattle.reference_commands.specs.Loads.{load_written, IsLoadCaused, LoadEnded}
 use Rattle.reference_commands.specs.declared.question.Question.{Question}
 use Rattle.reference_commands.specs.declared.question.Question.TheVariants as questions
 use Rattle.reference_commands.specs.Reading.{read_told}

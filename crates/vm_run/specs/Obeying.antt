@@ -5,9 +5,9 @@ use Rattle.command_ending.specs.declared.fault.Fault.TheVariants.{BadWords}
 use Rattle.command_ending.specs.Command.{WritesEnding}
 use Rattle.source_commands.specs.Command.{Assembles, Lists}
 use Rattle.replay_command.specs.Command.{Replays}
-use Rattle.run_command.specs.Seen.{Seen}
-use Rattle.run_command.specs.Ends.{Runs}
-use Rattle.run_command.specs.Loads.{Loads}
+use Rattle.reference_commands.specs.Seen.{Seen}
+use Rattle.reference_commands.specs.RunCommandEnds.{Runs}
+use Rattle.reference_commands.specs.Loads.{Loads}
 use Rattle.reference_commands.specs.declared.question.Question.TheVariants as questions
 use Rattle.reference_commands.specs.Ends.{Answers}
 

@@ -1,14 +1,14 @@
 ghost use Rattle.std.specs.Prelude.{◌≡◌, map};
 ghost use Rattle.command_words.specs.Asked.{asked_of};
-ghost use Rattle.run_command.specs.Paired.{image_together};
+ghost use Rattle.reference_commands.specs.Paired.{image_together};
 ghost use Rattle.vm_run.specs.Obeying.{Obeys, LeavesFiles, LeavesDevice};
 
 use command_ending::{Fault, write_ending};
 use command_words::{Command, read_words};
 use io_edge::{Files, Sink, SwapDev};
+use reference_commands::run_command::{load_command, run_command};
 use reference_commands::{Question, ask_command};
 use replay_command::replay_file;
-use run_command::{load_command, run_command};
 use source_commands::{assemble_file, list_file};
 use std::alloc::Global;
 

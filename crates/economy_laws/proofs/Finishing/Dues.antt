@@ -18,7 +18,7 @@ use Rattle.page_laws.proofs.Moves.Locks.{force_spares}
 use Rattle.page_laws.proofs.Moves.Stays.{Stays, force_stays}
 use Rattle.page_laws.proofs.Moves.Units.{now_unit}
 use Rattle.page_laws.proofs.Ownership.Serve.{state_there}
-use Rattle.touch_laws.proofs.Distinct.{among_first}
+use Rattle.run_laws.proofs.Distinct.{among_first}
 use Rattle.flat_model.specs.Run.{process_of_entry}
 use Rattle.run_model.specs.declared.mark.Mark.{Mark}
 use Rattle.run_model.specs.State.{State}

@@ -4,11 +4,11 @@ use Rattle.vm_facts.specs.declared.page.Page.{Page}
 use Rattle.vm_facts.specs.declared.page.Page.TheVariants.{Data, Stack, Text}
 use Rattle.vm_facts.specs.declared.page.PageState.{PageState}
 use Rattle.vm_facts.specs.declared.page.PageState.TheVariants.{Unfilled, Valid, Invalid, Coming, Going, OnSwap}
-use Rattle.swap_dmap.specs.Chunks.{pieces}
-use Rattle.swap_book.specs.declared.Owner.TheVariants as owners
-use Rattle.swap_book.specs.Holdings.{Holdings}
-use Rattle.swap_book.specs.Book.{ArePlacesApart}
-use Rattle.swap_book.proofs.PlaceLaws.{places_apart_of}
+use Rattle.page_model.specs.Chunks.{pieces}
+use Rattle.page_model.specs.Owner.TheVariants as owners
+use Rattle.page_model.specs.Holdings.{Holdings}
+use Rattle.page_model.specs.Book.{ArePlacesApart}
+use Rattle.page_model.proofs.PlaceLaws.{places_apart_of}
 use Rattle.page_model.specs.Pages.{Slot, frame_of, left_state, written_mark}
 use Rattle.flat_state.specs.PageNames.{number_of}
 use Rattle.vm_facts.specs.Lists.{times}

@@ -2,9 +2,9 @@
 use Rattle.std.proofs.Common.{◌≡◌, ◌≢◌, ◌⊎◌, inl, inr, ℕ, ◌+◌, ◌*◌, ◌≤◌, List, length, Option, Some, None, refl, sym, ap, ◌∙◌, arith}
 use Rattle.vm_facts.specs.declared.page.Page.{Page}
 use Rattle.vm_facts.specs.declared.page.Page.TheVariants.{Data, Stack, Text}
-use Rattle.swap_book.specs.Holdings.{Holdings}
-use Rattle.swap_book.specs.Book.{IsBook, IsPlace, ArePlacesApart}
-use Rattle.swap_book.proofs.PlaceLaws.{places_apart_of}
+use Rattle.page_model.specs.Holdings.{Holdings}
+use Rattle.page_model.specs.Book.{IsBook, IsPlace, ArePlacesApart}
+use Rattle.page_model.proofs.PlaceLaws.{places_apart_of}
 use Rattle.flat_state.specs.PageNames.{number_of}
 use Rattle.page_model.specs.Ownership.{owner_of, block_of}
 use Rattle.page_model.specs.PageBytes.{Bytes, Stores}

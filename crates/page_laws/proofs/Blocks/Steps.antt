@@ -6,7 +6,7 @@ use Rattle.vm_facts.specs.declared.page.PageState.{PageState}
 use Rattle.vm_facts.specs.declared.page.PageState.TheVariants.{Unfilled, Valid, Invalid, Coming, Going, OnSwap}
 use Rattle.vm_facts.specs.declared.entry.Entry.{Entry}
 use Rattle.vm_facts.specs.declared.entry.Entry.TheVariants as entries
-use Rattle.swap_book.specs.Holdings.{Holdings}
+use Rattle.page_model.specs.Holdings.{Holdings}
 use Rattle.page_model.specs.Pages.{frame_of, written_mark, SpacePages, TextPages, numbered, data_in, stack_in, text_in}
 use Rattle.flat_state.specs.PageNames.{is_among, same_page, number_of, beside, pages_from}
 use Rattle.vm_facts.specs.Lists.{times, without}

@@ -2,10 +2,10 @@
 use Rattle.std.proofs.Common.{◌≡◌, inl, inr, ℕ, ◌*◌, ◌≤◌, Bool, List, [], length, Option, Some, None, refl, sym, ap, ◌∙◌, arith}
 use Rattle.vm_facts.specs.declared.page.Page.{Page}
 use Rattle.vm_facts.specs.declared.page.Page.TheVariants.{Data, Stack, Text}
-use Rattle.swap_book.specs.declared.Owner.TheVariants as owners
-use Rattle.swap_book.specs.Holdings.{Holdings, block_in}
-use Rattle.swap_book.specs.Book.{IsBook, IsPlace, ArePlacesApart}
-use Rattle.swap_book.proofs.PlaceLaws.{places_apart_of}
+use Rattle.page_model.specs.Owner.TheVariants as owners
+use Rattle.page_model.specs.Holdings.{Holdings, block_in}
+use Rattle.page_model.specs.Book.{IsBook, IsPlace, ArePlacesApart}
+use Rattle.page_model.proofs.PlaceLaws.{places_apart_of}
 use Rattle.flat_state.specs.PageNames.{number_of}
 use Rattle.flat_state.specs.declared.change.Change.{Change}
 use Rattle.page_model.specs.Frames.{at_frame}

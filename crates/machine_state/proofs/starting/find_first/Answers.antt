@@ -2,11 +2,11 @@ use Rattle.std.proofs.Common.{◌≡◌, ◌<◌, sym, ap, ◌∙◌, subst, ari
 use Rattle.std.proofs.lemmas.Bool.Decides.{nat_tests}
 use Rattle.aout_image.specs.declared.Image.{Image}
 use Rattle.page_model.specs.Placement.{Placement, sharers}
-use Rattle.kernel_tables.specs.declared.tables.Tables.{Tables}
-use Rattle.kernel_tables.specs.View.{placement_of}
-use Rattle.kernel_tables.specs.Machine.{lists_of}
+use Rattle.table_steps.specs.Tables.{Tables}
+use Rattle.table_steps.specs.View.{placement_of}
+use Rattle.table_steps.specs.Machine.{lists_of}
 use Rattle.machine_state.specs.Wants.{CanAsk, wanted_of}
-use Rattle.kernel_tables.proofs.AddedImage.{facts_by_number, sound_number, named_here}
+use Rattle.table_steps.proofs.AddedImage.{facts_by_number, sound_number, named_here}
 use Rattle.machine_state.proofs.FirstPieces.{asks_shared, asks_first, text_size, can_all, all_asked, own_asked, wants_all, wants_own, shares, looked}
 use Rattle.machine_state.proofs.starting.find_first.Goals as goal
 

@@ -1,8 +1,8 @@
 use Rattle.std.proofs.Common.{◌≡◌, ap, arith}
-use Rattle.kernel_tables.specs.declared.tables.Tables.{Tables}
-use Rattle.kernel_tables.specs.Changing.{EnteredImage}
-use Rattle.kernel_tables.specs.Machine.{lists_of, images_of, image_shown}
-use Rattle.kernel_tables.proofs.AddedImage.{sound_number, named_here, shown_here}
+use Rattle.table_steps.specs.Tables.{Tables}
+use Rattle.table_steps.specs.Changing.{EnteredImage}
+use Rattle.table_steps.specs.Machine.{lists_of, images_of, image_shown}
+use Rattle.table_steps.proofs.AddedImage.{sound_number, named_here, shown_here}
 use Rattle.machine_state.proofs.FirstStarts.{short_name, few_processes, same_records, began}
 use Rattle.machine_state.proofs.starting.start_first.Goals as goal
 

@@ -1,6 +1,6 @@
 use Rattle.std.proofs.Common.{◌≡◌, ℕ, Some, is_some, ap, ◌∙◌, subst}
 use Rattle.proc_table.specs.Records.{find, Changes}
-use Rattle.kernel_tables.proofs.Records.{found_pid}
+use Rattle.table_steps.proofs.Records.{found_pid}
 use Rattle.machine_state.proofs.swapping.move_record.Goals as goal
 
 pub returns : goal.returns

@@ -2,7 +2,7 @@ use Rattle.std.proofs.Common.{inl, inr, ℕ, [], ◌∷◌, refl, sym, ◌∙◌
 use Rattle.std.proofs.lemmas.Result.{err_from_is_err_and}
 use Rattle.vm_facts.specs.declared.entry.Entry.TheVariants as entries
 use Rattle.page_laws.proofs.Ends.Hands.{room_still}
-use Rattle.paging_units.proofs.Stopping.{call_stops, plain_full}
+use Rattle.fault_fill.proofs.Stopping.{call_stops, plain_full}
 use Rattle.machine_state.specs.Done.{CountsPages, CountsReads, CountsWrites}
 use Rattle.fault_fill.specs.Answers.{ServesNow}
 use Rattle.fault_fill.proofs.Leading.{pages_stay, reads_stay, writes_stay}

@@ -1,7 +1,7 @@
 use Rattle.std.proofs.Common.{inl, [], refl}
 use Rattle.std.proofs.lemmas.Result.{err_from_is_err_and}
 use Rattle.vm_facts.specs.declared.entry.Entry.TheVariants as entries
-use Rattle.paging_units.proofs.Stopping.{call_stops, plain_full}
+use Rattle.fault_fill.proofs.Stopping.{call_stops, plain_full}
 use Rattle.proc_calls.proofs.Fills.{forced_runs, forced_whole, can_fill, filled_by}
 use Rattle.proc_calls.proofs.filling.fill_start.Goals as goal
 

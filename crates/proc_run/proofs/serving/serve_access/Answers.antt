@@ -1,8 +1,8 @@
 use Rattle.std.proofs.Common.{inr, inl, sym, subst}
 use Rattle.std.proofs.lemmas.Result.{err_from_is_err_and}
-use Rattle.fault_fill.specs.declared.touch.Served.{Served}
-use Rattle.proc_calls.specs.Callers.{IsCaller}
-use Rattle.proc_calls.specs.Leaving.{HasEnded, StopsAlive}
+use Rattle.steady_laws.specs.FaultFillTouchServed.{Served}
+use Rattle.steady_laws.specs.Callers.{IsCaller}
+use Rattle.steady_laws.specs.Leaving.{HasEnded, StopsAlive}
 use Rattle.steady_laws.proofs.Calls.{caller_holds}
 use Rattle.steady_laws.proofs.Leaving.{ended_keeps}
 use Rattle.steady_laws.specs.Ready.{Continues}

@@ -1,6 +1,6 @@
 use Rattle.std.proofs.Common.{Result, subst}
-use Rattle.vm_core.specs.declared.schedule.Unfinished.{Unfinished}
-use Rattle.vm_core.specs.RunEnds.{RunEnds}
+use Rattle.run_command.specs.Unfinished.{Unfinished}
+use Rattle.run_command.specs.RunEnds.{RunEnds}
 use Rattle.reference_commands.specs.Answering.{blank_swap}
 use Rattle.reference_commands.proofs.Runs.{finished}
 use Rattle.reference_commands.proofs.running.references_at_end.Goals as goal

@@ -5,8 +5,8 @@ use Rattle.io_edge.specs.FileHolding.{named_file}
 use Rattle.io_edge.specs.Zeros.{with_zeros}
 use Rattle.machine_state.specs.Machine.{Standing}
 use Rattle.machine_state.specs.Files.{AreFiles}
-use Rattle.vm_core.specs.Full.{RunOver}
-use Rattle.vm_core.specs.RunEnds.{IsAskedOf}
+use Rattle.run_command.specs.Full.{RunOver}
+use Rattle.run_command.specs.RunEnds.{IsAskedOf}
 use Rattle.run_command.proofs.Openings.{are_sound, are_names}
 use Rattle.run_command.proofs.Inputs.{have_few_moves}
 use Rattle.reference_commands.specs.Answering.{blank_swap}

@@ -1,6 +1,6 @@
 use Rattle.std.proofs.Common.{List, refl, sym, subst}
 use Rattle.vm_facts.specs.declared.entry.Entry.{Entry}
-use Rattle.vm_core.specs.RunEnds.{RunEnds}
+use Rattle.run_command.specs.RunEnds.{RunEnds}
 use Rattle.reference_commands.specs.Answering.{blank_swap}
 use Rattle.reference_commands.specs.InMemory.{inputs_with}
 use Rattle.reference_commands.proofs.running.run_references.Goals as goal

@@ -2,7 +2,7 @@ use Rattle.std.proofs.Common.{List, ◌≤◌, length, OnOk, map, Some, Global, 
 use Rattle.vm_facts.specs.declared.entry.Entry.{Entry}
 use Rattle.io_edge.specs.FileHolding.{named_file}
 use Rattle.machine_state.specs.Machine.{Standing}
-use Rattle.run_start.specs.Starting.{StartsFrom}
+use Rattle.vm_core.specs.RunStartStarting.{StartsFrom}
 use Rattle.vm_core.specs.RunEnds.{IsAskedOf}
 use Rattle.run_command.specs.Loads.{load_first, WritesCounts}
 use Rattle.run_command.proofs.Loadings.{load_ran, load_unmade}

@@ -1,6 +1,6 @@
 use Rattle.std.proofs.Common.{◌<◌, length, sym, ◌∙◌, subst, arith}
 use Rattle.page_laws.proofs.Ends.Hands.{room_still}
-use Rattle.proc_calls.proofs.CopiedPages.{area_next, files_next}
+use Rattle.steady_laws.proofs.CopiedPages.{area_next, files_next}
 use Rattle.steady_laws.specs.Ready.{RunsDue}
 use Rattle.steady_laws.proofs.Lines.{fill_continues}
 use Rattle.run_start.specs.Filling.{AreStarts}

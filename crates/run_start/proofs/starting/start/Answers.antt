@@ -1,6 +1,6 @@
 use Rattle.std.proofs.Common.{refl}
 use Rattle.std.proofs.lemmas.Result.{err_from_is_err_and}
-use Rattle.proc_calls.proofs.CopiedPages.{area_next, files_next}
+use Rattle.steady_laws.proofs.CopiedPages.{area_next, files_next}
 use Rattle.run_start.proofs.Begun.{AllBegan, all_began, room_in, never_both, space_kept}
 use Rattle.run_start.proofs.Going.{goes_on}
 use Rattle.run_start.proofs.Led.{start_leads, start_stops, begin_stops}

@@ -1,4 +1,4 @@
-use Rattle.run_laws.proofs.Flows.{runs_next}
+use Rattle.economy_laws.proofs.Flows.{runs_next}
 use Rattle.run_units.proofs.Stepping.{step_made, plain_made, returning_made, lending_made, ran_made, step_known, call_known, record_registers, none_asked, headers_agree, growth_counts, growth_made}
 use Rattle.run_units.proofs.laws.steps_are_made.Goals as goal
 

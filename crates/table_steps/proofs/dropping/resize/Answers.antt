@@ -1,5 +1,5 @@
 use Rattle.std.proofs.Common.{◌≡◌, ◌-◌, ◌*◌, ℕ, List, length, ap, ◌∙◌}
-use Rattle.swap_dmap.specs.Chunks.{pieces}
+use Rattle.swap_book.specs.Chunks.{pieces}
 use Rattle.swap_book.specs.declared.Owner.TheVariants as owners
 use Rattle.swap_book.specs.Holdings.{kept}
 use Rattle.swap_book.specs.Book.{Book, with_holdings}

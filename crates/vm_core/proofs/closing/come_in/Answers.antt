@@ -3,7 +3,7 @@ use Rattle.vm_facts.specs.declared.entry.Entry.TheVariants as entries
 use Rattle.machine_state.specs.Machine.{Standing}
 use Rattle.machine_state.specs.Settled.{IsSameBeside}
 use Rattle.machine_state.specs.Swapping.{IsIn}
-use Rattle.paging_units.specs.Stops.{StopsAt}
+use Rattle.journal_laws.specs.Stops.{StopsAt}
 use Rattle.vm_core.specs.Steady.{StaysSteady}
 use Rattle.vm_core.specs.Closing.{ComesIn, StopsComingIn}
 use Rattle.vm_core.proofs.Noting.{ok_both, stops_weaker}

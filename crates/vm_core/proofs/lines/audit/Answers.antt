@@ -5,7 +5,7 @@ use Rattle.vm_facts.specs.declared.event.Event.TheVariants as events
 use Rattle.kernel_model.specs.Kernel.{note_step}
 use Rattle.machine_state.specs.Machine.{Standing}
 use Rattle.run_model.specs.Next.{owners_of}
-use Rattle.step_units.specs.Lines.{StopsNoting}
+use Rattle.run_start.specs.Lines.{StopsNoting}
 use Rattle.vm_core.specs.Steady.{StaysSteady}
 use Rattle.vm_core.specs.Lines.{StopsLine}
 use Rattle.vm_core.proofs.Noting.{stops_noting, stops_weaker, ok_both}

@@ -3,11 +3,11 @@ use Rattle.std.proofs.lemmas.Result.{err_from_is_err_and}
 use Rattle.io_edge.specs.FileHolding.{NamedFile}
 use Rattle.vm_facts.specs.declared.params.Params.{Params}
 use Rattle.vm_facts.specs.declared.stop.Stop.{Stop}
-use Rattle.kernel_tables.specs.Sourced.{ImageNamed}
-use Rattle.kernel_tables.specs.Files.{AreFiles}
-use Rattle.kernel_tables.specs.Done.{Sources, sources, IsDone}
+use Rattle.table_steps.specs.Sourced.{ImageNamed}
+use Rattle.table_steps.specs.Files.{AreFiles}
+use Rattle.table_steps.specs.Done.{Sources, sources, IsDone}
 use Rattle.machine_state.proofs.Settling.{GoesOn, goes_on, beside_done, same_sources, one_more, one_stopped, stopped_first, through}
-use Rattle.kernel_tables.proofs.Outcomes.{on_ok, if_err}
+use Rattle.table_steps.proofs.Outcomes.{on_ok, if_err}
 use Rattle.machine_state.proofs.machine.Machine.+settle.Goals as goal
 
 pub returns-in_err-done-clause-stops : goal.returns-in_err-done-clause-stops

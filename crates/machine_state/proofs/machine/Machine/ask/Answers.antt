@@ -2,8 +2,8 @@ use Rattle.std.proofs.Common.{◌≡◌, ℕ, ◌-◌, Bool, true, false, length
 use Rattle.vm_facts.specs.declared.stop.NoMemory.{NoMemory}
 use Rattle.swap_book.specs.Holdings.{Holdings}
 use Rattle.swap_book.specs.Book.{Book}
-use Rattle.kernel_tables.specs.Conditions.{KeepsFlat}
-use Rattle.kernel_tables.specs.Machine.{Standing}
+use Rattle.table_steps.specs.Conditions.{KeepsFlat}
+use Rattle.table_steps.specs.Machine.{Standing}
 use Rattle.machine_state.specs.Wants.{found_for, wanted_of}
 use Rattle.machine_state.specs.Fields.{standing_of, RunsNow}
 use Rattle.machine_state.proofs.Standings.{stands_now}

@@ -1,7 +1,7 @@
 use Rattle.std.proofs.Common.{◌≡◌, Bool, true, false, Result, Ok, ap, ◌∙◌, subst}
 use Rattle.std.specs.Prelude.{IfOk, OnOk}
 use Rattle.vm_facts.specs.declared.stop.NoMemory.{NoMemory}
-use Rattle.kernel_tables.specs.declared.tables.Tables.{Tables}
+use Rattle.table_steps.specs.Tables.{Tables}
 use Rattle.machine_state.specs.Beginning.{LookedFirst, BeganFirst}
 use Rattle.machine_state.proofs.FirstBegins.{Before, before_first, may_look, runs_none, no_place, FoundFirst, looked_found, may_enter}
 use Rattle.machine_state.proofs.FirstBegun.{Began, began_stands, began_first}

@@ -6,14 +6,14 @@ use Rattle.page_model.specs.Placement.{Source}
 use Rattle.page_model.specs.PageBytes.{ReadsFrom}
 use Rattle.flat_state.specs.PageNames.{pages_from}
 use Rattle.kernel_model.specs.Kernel.{Kernel, get_step}
-use Rattle.kernel_tables.specs.declared.tables.Tables.{Tables}
-use Rattle.kernel_tables.specs.View.{placement_of}
-use Rattle.kernel_tables.specs.Machine.{Standing, Runs, lists_of, kernel_by, images_of, image_at, before_of}
-use Rattle.kernel_tables.specs.Sourced.{IsFlightSourced, AreSourced}
-use Rattle.kernel_tables.specs.Conditions.{CanBringIn, KeepsFlat, SameOutside}
+use Rattle.table_steps.specs.Tables.{Tables}
+use Rattle.table_steps.specs.View.{placement_of}
+use Rattle.table_steps.specs.Machine.{Standing, Runs, lists_of, kernel_by, images_of, image_at, before_of}
+use Rattle.table_steps.specs.Sourced.{IsFlightSourced, AreSourced}
+use Rattle.table_steps.specs.Conditions.{CanBringIn, KeepsFlat, SameOutside}
 use Rattle.machine_state.proofs.Knowing.{known_of}
 use Rattle.machine_state.proofs.Standings.{no_room, running, stands_now, whole_now, stands_on, rest_of}
-use Rattle.kernel_tables.proofs.Stills.{Still, still_along, pushed, sourced_more}
+use Rattle.table_steps.proofs.Stills.{Still, still_along, pushed, sourced_more}
 use Rattle.table_steps.proofs.Sources.{run_sources}
 use Rattle.table_steps.proofs.Gets.{get_kernel, get_keeps, get_same}
 use Rattle.machine_state.proofs.GetRuns.{get_runs}

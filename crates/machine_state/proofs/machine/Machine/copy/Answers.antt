@@ -5,21 +5,21 @@ use Rattle.core_map.specs.declared.slot.Slot.{Slot as Token}
 use Rattle.core_map.specs.Slots.{slot_at, is_resident}
 use Rattle.page_model.specs.Pages.{frame_of}
 use Rattle.kernel_model.specs.Kernel.{Kernel, copy_step}
-use Rattle.kernel_tables.specs.declared.tables.Tables.{Tables}
-use Rattle.kernel_tables.specs.Shown.{is_frame, frame_named}
-use Rattle.kernel_tables.specs.View.{placement_of}
-use Rattle.kernel_tables.specs.Known.{Known}
-use Rattle.kernel_tables.specs.Machine.{Standing, Runs, lists_of, kernel_by}
-use Rattle.kernel_tables.specs.Calls.{CanCopy}
-use Rattle.kernel_tables.specs.Conditions.{KeepsFlat, SameElsewhere}
-use Rattle.kernel_tables.specs.Launches.{CopiedFrame}
-use Rattle.kernel_tables.proofs.Evicts.{head_below}
-use Rattle.kernel_tables.proofs.Knows.{texts_here, not_held}
+use Rattle.table_steps.specs.Tables.{Tables}
+use Rattle.table_steps.specs.KernelTablesShown.{is_frame, frame_named}
+use Rattle.table_steps.specs.View.{placement_of}
+use Rattle.table_steps.specs.Known.{Known}
+use Rattle.table_steps.specs.Machine.{Standing, Runs, lists_of, kernel_by}
+use Rattle.table_steps.specs.Calls.{CanCopy}
+use Rattle.table_steps.specs.Conditions.{KeepsFlat, SameElsewhere}
+use Rattle.table_steps.specs.Launches.{CopiedFrame}
+use Rattle.table_steps.proofs.Evicts.{head_below}
+use Rattle.table_steps.proofs.Knows.{texts_here, not_held}
 use Rattle.machine_state.proofs.Knowing.{known_of}
 use Rattle.table_steps.proofs.Residing.{Resides, seat_resides}
 use Rattle.machine_state.proofs.Copying.{Copying, copying_rest, copy_ties, copy_kernel, copy_runs, copy_keeps, copy_same}
 use Rattle.machine_state.proofs.Standings.{no_room, running, stands_now, whole_now, stands_same, rest_of}
-use Rattle.kernel_tables.proofs.Stills.{Still, still_along, pushed}
+use Rattle.table_steps.proofs.Stills.{Still, still_along, pushed}
 use Rattle.machine_state.proofs.machine.Machine.copy.Goals as goal
 
 pub copy_frame-copy-requires-clause-frame : goal.copy_frame-copy-requires-clause-frame

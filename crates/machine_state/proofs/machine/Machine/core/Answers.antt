@@ -1,9 +1,9 @@
 use Rattle.std.proofs.Common.{subst}
-use Rattle.kernel_tables.specs.declared.tables.Tables.{Tables}
-use Rattle.kernel_tables.specs.Machine.{Standing, lists_of}
+use Rattle.table_steps.specs.Tables.{Tables}
+use Rattle.table_steps.specs.Machine.{Standing, lists_of}
 use Rattle.machine_state.specs.Showing.{ShowsCore}
 use Rattle.machine_state.proofs.Standings.{stands_now}
-use Rattle.kernel_tables.proofs.UserFrames.{known_by}
+use Rattle.table_steps.proofs.UserFrames.{known_by}
 use Rattle.machine_state.proofs.Showings.{core_shows}
 use Rattle.machine_state.proofs.machine.Machine.core.Goals as goal
 

@@ -5,18 +5,18 @@ use Rattle.transfer_ring.specs.declared.transfer.Finished.TheVariants as answers
 use Rattle.page_model.specs.Placement.{FromSwap, FromFile}
 use Rattle.kernel_model.specs.Kernel.{Kernel, done_step}
 use Rattle.kernel_model.specs.Sound.{TextFits}
-use Rattle.kernel_tables.specs.Known.{Known}
-use Rattle.kernel_tables.specs.View.{transfer_shown}
-use Rattle.kernel_tables.specs.Done.{sources, ReadsTold, StandsTold, ImageAfter, SpoilsAfter, OldestReadsFrom}
+use Rattle.table_steps.specs.Known.{Known}
+use Rattle.table_steps.specs.View.{transfer_shown}
+use Rattle.table_steps.specs.Done.{sources, ReadsTold, StandsTold, ImageAfter, SpoilsAfter, OldestReadsFrom}
 use Rattle.machine_state.proofs.Ends.{brought}
 use Rattle.transfer_ring.specs.declared.transfer.Transfer.{Transfer as Flight}
-use Rattle.kernel_tables.specs.declared.tables.Tables.{Tables}
-use Rattle.kernel_tables.specs.Sourced.{AreSourced}
-use Rattle.kernel_tables.specs.Files.{AreFiles, AreImages}
-use Rattle.kernel_tables.specs.Machine.{Standing, lists_of, kernel_by, image_at, images_of, before_of}
+use Rattle.table_steps.specs.Tables.{Tables}
+use Rattle.table_steps.specs.Sourced.{AreSourced}
+use Rattle.table_steps.specs.Files.{AreFiles, AreImages}
+use Rattle.table_steps.specs.Machine.{Standing, lists_of, kernel_by, image_at, images_of, before_of}
 use Rattle.machine_state.proofs.Knowing.{known_of}
 use Rattle.machine_state.proofs.Standings.{no_room, running, stands_now, whole_now, stands_on}
-use Rattle.kernel_tables.proofs.Stills.{Still, still_along, pushed}
+use Rattle.table_steps.proofs.Stills.{Still, still_along, pushed}
 use Rattle.machine_state.proofs.Reaches.{reachable}
 use Rattle.machine_state.proofs.Dones.{Came, came, done_back, was_lists, back_known, Doing, done_kernel, done_runs, Before, head_sourced, rest_sourced, done_image, done_told, spoiled_image, done_keeps}
 use Rattle.machine_state.proofs.FailedReads.{file_failed, swap_read_failed}

@@ -1,10 +1,10 @@
 use Rattle.std.proofs.Common.{◌≡◌, ◌<◌, List, [], ◌∷◌, length, map, get_or, Some, ap, ◌∙◌, arith}
 use Rattle.vm_facts.specs.declared.page.Page.{Page}
 use Rattle.page_model.specs.Placement.{due_page}
-use Rattle.kernel_tables.specs.declared.fill.DueFill.{DueFill}
-use Rattle.kernel_tables.specs.Calls.{first_due}
-use Rattle.kernel_tables.specs.Machine.{Standing}
-use Rattle.kernel_tables.specs.View.{due_shown}
+use Rattle.table_steps.specs.DueFill.{DueFill}
+use Rattle.table_steps.specs.Calls.{first_due}
+use Rattle.table_steps.specs.Machine.{Standing}
+use Rattle.table_steps.specs.View.{due_shown}
 use Rattle.machine_state.proofs.machine.Machine.due.Goals as goal
 
 first_is : (ds : List DueFill) (x : DueFill) → x ≡ get_or ds 0 x → 0 < length ds → Some (due_page (due_shown x)) ≡ first_due (map due_shown ds)

@@ -2,10 +2,10 @@
 use Rattle.std.proofs.Common.{◌≡◌, ℕ, List, length, map, Option, Some, None, option_map, slice_get, refl, sym, ap, ap₂, ◌∙◌}
 use Rattle.std.proofs.lemmas.Option.{slice_get-map, slice_get_read, slice_get_past}
 use Rattle.vm_facts.specs.declared.page.Page.{Page}
-use Rattle.kernel_tables.specs.declared.fill.DueFill.{DueFill}
-use Rattle.kernel_tables.specs.Calls.{due_and_parent}
-use Rattle.kernel_tables.specs.Machine.{Standing}
-use Rattle.kernel_tables.specs.View.{due_shown}
+use Rattle.table_steps.specs.DueFill.{DueFill}
+use Rattle.table_steps.specs.Calls.{due_and_parent}
+use Rattle.table_steps.specs.Machine.{Standing}
+use Rattle.table_steps.specs.View.{due_shown}
 use Rattle.page_model.specs.Placement.{Due}
 use Rattle.machine_state.proofs.machine.Machine.due_at.Goals as goal
 

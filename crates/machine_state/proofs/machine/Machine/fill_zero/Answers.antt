@@ -2,20 +2,20 @@ use Rattle.std.proofs.Common.{◌≡◌, List, refl, sym, ap, ◌∙◌, subst}
 use Rattle.vm_facts.specs.declared.entry.Entry.{Entry}
 use Rattle.page_model.specs.Pages.{frame_of}
 use Rattle.kernel_model.specs.Kernel.{Kernel, zero_step}
-use Rattle.kernel_tables.specs.View.{placement_of}
-use Rattle.kernel_tables.specs.Machine.{Standing, Runs, lists_of, kernel_by}
-use Rattle.kernel_tables.specs.Conditions.{CanZero, KeepsFlat, SameElsewhere}
-use Rattle.kernel_tables.specs.declared.tables.Tables.{Tables}
-use Rattle.kernel_tables.specs.Known.{Known}
-use Rattle.kernel_tables.proofs.Evicts.{head_below}
-use Rattle.kernel_tables.proofs.Knows.{texts_here, not_held}
+use Rattle.table_steps.specs.View.{placement_of}
+use Rattle.table_steps.specs.Machine.{Standing, Runs, lists_of, kernel_by}
+use Rattle.table_steps.specs.Conditions.{CanZero, KeepsFlat, SameElsewhere}
+use Rattle.table_steps.specs.Tables.{Tables}
+use Rattle.table_steps.specs.Known.{Known}
+use Rattle.table_steps.proofs.Evicts.{head_below}
+use Rattle.table_steps.proofs.Knows.{texts_here, not_held}
 use Rattle.machine_state.proofs.Knowing.{known_of}
-use Rattle.kernel_tables.proofs.Zeros.{Zeroing}
+use Rattle.table_steps.proofs.Zeros.{Zeroing}
 use Rattle.machine_state.proofs.ZeroKeeps.{zero_keeps, zero_same}
-use Rattle.kernel_tables.proofs.Kernels.{zeroing_rest, zero_ties, zero_kernel}
+use Rattle.table_steps.proofs.Kernels.{zeroing_rest, zero_ties, zero_kernel}
 use Rattle.machine_state.proofs.ZeroRuns.{zero_runs}
 use Rattle.machine_state.proofs.Standings.{no_room, running, stands_now, whole_now, stands_same, rest_of}
-use Rattle.kernel_tables.proofs.Stills.{Still, still_along, pushed}
+use Rattle.table_steps.proofs.Stills.{Still, still_along, pushed}
 use Rattle.machine_state.proofs.machine.Machine.fill_zero.Goals as goal
 
 pub take_frame-token-requires-clause-texts : goal.take_frame-token-requires-clause-texts

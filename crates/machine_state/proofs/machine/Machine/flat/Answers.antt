@@ -1,11 +1,11 @@
 use Rattle.std.proofs.Common.{◌≡◌, List, [], ◌∷◌, ◌++◌, length, ap, ◌∙◌, arith}
 use Rattle.vm_facts.specs.declared.entry.Entry.{Entry}
 use Rattle.kernel_model.specs.ChangeStep.{change_step}
-use Rattle.kernel_tables.specs.declared.tables.Tables.{Tables}
-use Rattle.kernel_tables.specs.Applying.{facts_named}
-use Rattle.kernel_tables.specs.Machine.{Standing, kernel_by}
+use Rattle.table_steps.specs.Tables.{Tables}
+use Rattle.table_steps.specs.Applying.{facts_named}
+use Rattle.table_steps.specs.Machine.{Standing, kernel_by}
 use Rattle.machine_state.proofs.Standings.{no_room, stands_now}
-use Rattle.kernel_tables.proofs.Stills.{pushed}
+use Rattle.table_steps.proofs.Stills.{pushed}
 use Rattle.machine_state.proofs.FlatSteps.{ready_of, made_of, flat_record, flat_may, flat_kernel, flat_stands}
 use Rattle.machine_state.proofs.Wholes.{changes_whole}
 use Rattle.machine_state.proofs.machine.Machine.flat.Goals as goal

@@ -1,12 +1,12 @@
 use Rattle.std.proofs.Common.{ℕ, List, sym, ap, ◌∙◌, subst}
 use Rattle.std.specs.Prelude.{slice_index}
 use Rattle.kernel_model.specs.Kernel.{frame_bytes}
-use Rattle.kernel_tables.specs.declared.tables.Tables.{Tables}
-use Rattle.kernel_tables.specs.Known.{Known}
-use Rattle.kernel_tables.specs.Machine.{Standing, lists_of}
-use Rattle.kernel_tables.specs.UserMemory.{IsHeld}
+use Rattle.table_steps.specs.Tables.{Tables}
+use Rattle.table_steps.specs.Known.{Known}
+use Rattle.table_steps.specs.Machine.{Standing, lists_of}
+use Rattle.table_steps.specs.UserMemory.{IsHeld}
 use Rattle.machine_state.proofs.Standings.{stands_now}
-use Rattle.kernel_tables.proofs.UserFrames.{known_by, held_resident, held_bytes}
+use Rattle.table_steps.proofs.UserFrames.{known_by, held_resident, held_bytes}
 use Rattle.machine_state.proofs.machine.Machine.frame_byte.Goals as goal
 
 pub bytes-requires : goal.bytes-requires

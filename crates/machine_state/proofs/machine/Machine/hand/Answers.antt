@@ -5,13 +5,13 @@ use Rattle.flat_state.specs.Journal.{append}
 use Rattle.page_model.specs.Placement.{Placement}
 use Rattle.page_model.specs.Hands.{hand_move}
 use Rattle.kernel_model.specs.Kernel.{Kernel, hand_step}
-use Rattle.kernel_tables.specs.declared.tables.Tables.{Tables}
-use Rattle.kernel_tables.specs.View.{placement_of}
-use Rattle.kernel_tables.specs.Known.{Known}
-use Rattle.kernel_tables.specs.Machine.{Standing, lists_of, kernel_by}
-use Rattle.kernel_tables.specs.Calls.{CanMove}
-use Rattle.kernel_tables.specs.Conditions.{KeepsFlat, SameEverywhere}
-use Rattle.kernel_tables.specs.Launches.{MovedOn}
+use Rattle.table_steps.specs.Tables.{Tables}
+use Rattle.table_steps.specs.View.{placement_of}
+use Rattle.table_steps.specs.Known.{Known}
+use Rattle.table_steps.specs.Machine.{Standing, lists_of, kernel_by}
+use Rattle.table_steps.specs.Calls.{CanMove}
+use Rattle.table_steps.specs.Conditions.{KeepsFlat, SameEverywhere}
+use Rattle.table_steps.specs.Launches.{MovedOn}
 use Rattle.table_steps.specs.Joined.{moves_in, last_says}
 use Rattle.machine_state.proofs.Knowing.{known_of}
 use Rattle.table_steps.proofs.Puttings.{all_blocks}

@@ -1,11 +1,11 @@
 use Rattle.std.proofs.Common.{sym, ap, ◌∙◌, subst}
 use Rattle.page_model.specs.Placement.{IsThere, state_of, filling_of}
-use Rattle.kernel_tables.specs.declared.tables.Tables.{Tables}
-use Rattle.kernel_tables.specs.Machine.{Standing, lists_of}
-use Rattle.kernel_tables.specs.PlaceOf.{is_blank}
+use Rattle.table_steps.specs.Tables.{Tables}
+use Rattle.table_steps.specs.Machine.{Standing, lists_of}
+use Rattle.table_steps.specs.PlaceOf.{is_blank}
 use Rattle.machine_state.proofs.Standings.{stands_now}
-use Rattle.kernel_tables.proofs.UserFrames.{known_by}
-use Rattle.kernel_tables.proofs.PlaceStates.{blank_is}
+use Rattle.table_steps.proofs.UserFrames.{known_by}
+use Rattle.table_steps.proofs.PlaceStates.{blank_is}
 use Rattle.machine_state.proofs.machine.Machine.is_blank.Goals as goal
 
 pub returns : goal.returns

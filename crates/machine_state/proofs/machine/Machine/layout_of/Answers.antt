@@ -1,14 +1,14 @@
 use Rattle.std.proofs.Common.{◌≡◌, false, ℕ, Option, Some, None, sym, ap, ◌∙◌, subst}
 use Rattle.kernel_model.specs.Kernel.{HoldsSpace}
-use Rattle.kernel_tables.specs.Calls.{life_in}
-use Rattle.kernel_tables.specs.declared.tables.Tables.{Tables}
-use Rattle.kernel_tables.specs.Known.{Known}
-use Rattle.kernel_tables.specs.Machine.{Standing, lists_of, kernel_by}
-use Rattle.kernel_tables.specs.UserMemory.{IsLaidOut, HasLengths, CanLend}
-use Rattle.kernel_tables.specs.Rising.{StandsAt}
+use Rattle.table_steps.specs.Calls.{life_in}
+use Rattle.table_steps.specs.Tables.{Tables}
+use Rattle.table_steps.specs.Known.{Known}
+use Rattle.table_steps.specs.Machine.{Standing, lists_of, kernel_by}
+use Rattle.table_steps.specs.UserMemory.{IsLaidOut, HasLengths, CanLend}
+use Rattle.table_steps.specs.Rising.{StandsAt}
 use Rattle.machine_state.proofs.Standings.{stands_now}
-use Rattle.kernel_tables.proofs.UserFrames.{known_by, layout_shown, stands_there}
-use Rattle.kernel_tables.proofs.Lives.{holds_space}
+use Rattle.table_steps.proofs.UserFrames.{known_by, layout_shown, stands_there}
+use Rattle.table_steps.proofs.Lives.{holds_space}
 use Rattle.machine_state.proofs.machine.Machine.layout_of.Goals as goal
 
 some_none : (n : ℕ) → None ≡ Some n → ⊥
@@ -39,7 +39,7 @@ returns-clause-laid_out c =
     let r = c.layout_at.result in
     let running : c.self.inside.stopped ≡ false = ap (λ (s : Standing). s.kernel.stopped) c.self.view_is ∙ c.requires.running in
     let lengths : HasLengths t.spaces r.index r.image r.text_len r.data_len r.stack_len = subst (λ (n : ℕ). HasLengths t.spaces n r.image r.text_len r.data_len r.stack_len) (sym c.layout_at.ensures.index) c.layout_at.ensures.lengths in
-    let number = subst (λ (n : ℕ). Rattle.std.proofs.Common.slice_get (Rattle.kernel_tables.specs.Rising.sids_of t.spaces) n ≡ Some r.sid) (sym c.layout_at.ensures.index) (c.in-Some-index_of.ensures.found.number ∙ ap (λ (n : ℕ). Some n) (sym c.layout_at.ensures.sid)) in
+    let number = subst (λ (n : ℕ). Rattle.std.proofs.Common.slice_get (Rattle.table_steps.specs.Rising.sids_of t.spaces) n ≡ Some r.sid) (sym c.layout_at.ensures.index) (c.in-Some-index_of.ensures.found.number ∙ ap (λ (n : ℕ). Some n) (sym c.layout_at.ensures.sid)) in
     subst (λ (s : Standing). IsLaidOut s.kernel r.index r.sid r.image r.text_len r.data_len r.stack_len) c.self.view_is
     (layout_shown t c.self.inside.journal.items c.self.inside.stopped r.index r.sid r.image r.text_len r.data_len r.stack_len k running number lengths)
 

@@ -1,6 +1,6 @@
 use Rattle.std.proofs.Common.{length, sym, ap, ◌∙◌}
 use Rattle.page_model.specs.Placement.{parts_of}
-use Rattle.kernel_tables.specs.Machine.{Standing}
+use Rattle.table_steps.specs.Machine.{Standing}
 use Rattle.machine_state.proofs.Counts.{parts_count}
 use Rattle.machine_state.proofs.machine.Machine.moving_frames.Goals as goal
 

@@ -2,12 +2,12 @@ use Rattle.std.proofs.Common.{ℕ, ◌+◌, ◌/◌, ◌≤◌, false, List, map
 use Rattle.aout_image.specs.declared.Image.{Image}
 use Rattle.swap_book.specs.Book.{Book}
 use Rattle.kernel_model.specs.Kernel.{Kernel}
-use Rattle.kernel_tables.specs.declared.named.Named.{Named}
-use Rattle.kernel_tables.specs.declared.tables.Tables.{Tables}
-use Rattle.kernel_tables.specs.View.{Lists}
-use Rattle.kernel_tables.specs.New.{fresh_kernel}
-use Rattle.kernel_tables.specs.Machine.{Runs, lists_of, kernel_by}
-use Rattle.kernel_tables.proofs.Shows.{length_map}
+use Rattle.table_steps.specs.Named.{Named}
+use Rattle.table_steps.specs.Tables.{Tables}
+use Rattle.table_steps.specs.View.{Lists}
+use Rattle.table_steps.specs.New.{fresh_kernel}
+use Rattle.table_steps.specs.Machine.{Runs, lists_of, kernel_by}
+use Rattle.table_steps.proofs.Shows.{length_map}
 use Rattle.machine_state.proofs.News.{NewTables, new_lists_are, new_kernel_is, new_runs, new_stands, new_standing}
 use Rattle.machine_state.proofs.machine.Machine.new.Goals as goal
 

@@ -3,11 +3,11 @@ use Rattle.vm_facts.specs.declared.entry.Entry.{Entry}
 use Rattle.vm_facts.specs.declared.entry.Entry.TheVariants as entries
 use Rattle.flat_state.specs.Journal.{append}
 use Rattle.kernel_model.specs.Kernel.{Kernel, note_step}
-use Rattle.kernel_laws.proofs.Machine.Moves.{note_coupled}
-use Rattle.kernel_tables.specs.declared.tables.Tables.{Tables}
-use Rattle.kernel_tables.specs.Machine.{Standing, kernel_by}
-use Rattle.kernel_tables.specs.Conditions.{KeepsFlat}
-use Rattle.kernel_tables.specs.Calls.{IsNote}
+use Rattle.table_steps.proofs.Moves.{note_coupled}
+use Rattle.table_steps.specs.Tables.{Tables}
+use Rattle.table_steps.specs.Machine.{Standing, kernel_by}
+use Rattle.table_steps.specs.Conditions.{KeepsFlat}
+use Rattle.table_steps.specs.Calls.{IsNote}
 use Rattle.machine_state.proofs.machine.Machine.note.Goals as goal
 
 -- such an entry isn't joined to the last one

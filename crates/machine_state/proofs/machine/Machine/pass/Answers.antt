@@ -1,9 +1,9 @@
 use Rattle.std.proofs.Common.{◌≡◌, true, sym, subst}
 use Rattle.kernel_model.specs.Sound.{lives}
-use Rattle.kernel_tables.specs.declared.tables.Tables.{Tables}
-use Rattle.kernel_tables.specs.Applying.{MayPass}
-use Rattle.kernel_tables.specs.Calls.{life_in}
-use Rattle.kernel_tables.specs.Machine.{Standing}
+use Rattle.table_steps.specs.Tables.{Tables}
+use Rattle.table_steps.specs.Applying.{MayPass}
+use Rattle.table_steps.specs.Calls.{life_in}
+use Rattle.table_steps.specs.Machine.{Standing}
 use Rattle.machine_state.specs.Fields.{HasRoom}
 use Rattle.machine_state.proofs.Passes.{pass_stands}
 use Rattle.machine_state.proofs.Standings.{stands_now}

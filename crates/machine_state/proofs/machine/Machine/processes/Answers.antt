@@ -1,9 +1,9 @@
 use Rattle.std.proofs.Common.{subst}
-use Rattle.kernel_tables.specs.declared.tables.Tables.{Tables}
-use Rattle.kernel_tables.specs.Alike.{AreRecords}
-use Rattle.kernel_tables.specs.Lives.{AreMarked}
-use Rattle.kernel_tables.specs.Machine.{Standing}
-use Rattle.kernel_tables.proofs.Listed.{are_marked}
+use Rattle.table_steps.specs.Tables.{Tables}
+use Rattle.table_steps.specs.Alike.{AreRecords}
+use Rattle.table_steps.specs.Lives.{AreMarked}
+use Rattle.table_steps.specs.Machine.{Standing}
+use Rattle.table_steps.proofs.Listed.{are_marked}
 use Rattle.machine_state.proofs.Standings.{stands_now}
 use Rattle.machine_state.proofs.machine.Machine.processes.Goals as goal
 

@@ -5,20 +5,20 @@ use Rattle.flat_state.specs.Journal.{append}
 use Rattle.flat_state.specs.PageNames.{number_of}
 use Rattle.page_model.specs.Placement.{Placement, is_dirty}
 use Rattle.kernel_model.specs.Kernel.{Kernel, push_step}
-use Rattle.kernel_tables.specs.declared.tables.Tables.{Tables}
-use Rattle.kernel_tables.specs.View.{placement_of}
-use Rattle.kernel_tables.specs.Known.{Known}
-use Rattle.kernel_tables.specs.Machine.{Standing, lists_of, kernel_by}
-use Rattle.kernel_tables.specs.Steps.{dirty_shown}
-use Rattle.kernel_tables.specs.Calls.{CanPush}
-use Rattle.kernel_tables.specs.Conditions.{KeepsFlat, SameEverywhere}
-use Rattle.kernel_tables.specs.Launches.{MayPutOut, MovedOn, put_out}
+use Rattle.table_steps.specs.Tables.{Tables}
+use Rattle.table_steps.specs.View.{placement_of}
+use Rattle.table_steps.specs.Known.{Known}
+use Rattle.table_steps.specs.Machine.{Standing, lists_of, kernel_by}
+use Rattle.table_steps.specs.Steps.{dirty_shown}
+use Rattle.table_steps.specs.Calls.{CanPush}
+use Rattle.table_steps.specs.Conditions.{KeepsFlat, SameEverywhere}
+use Rattle.table_steps.specs.Launches.{MayPutOut, MovedOn, put_out}
 use Rattle.machine_state.proofs.Knowing.{known_of}
 use Rattle.machine_state.proofs.Dirty.{dirty_is}
 use Rattle.table_steps.proofs.Puttings.{push_is, push_seat, push_there, push_may, push_few, push_keeps, push_alike, all_blocks}
 use Rattle.machine_state.proofs.MovesOn.{Moving, moved_still, moving_kernel, moving_stands}
 use Rattle.machine_state.proofs.Standings.{no_room, running, stands_now, whole_now, rest_of}
-use Rattle.kernel_tables.proofs.Stills.{pushed}
+use Rattle.table_steps.proofs.Stills.{pushed}
 use Rattle.machine_state.proofs.machine.Machine.push.Goals as goal
 
 pub put_out-requires-clause-known : goal.put_out-requires-clause-known

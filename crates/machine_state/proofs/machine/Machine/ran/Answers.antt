@@ -3,10 +3,10 @@ use Rattle.vm_facts.specs.declared.entry.Entry.TheVariants as entries
 use Rattle.proc_table.specs.declared.process.Proc.{Proc as Record}
 use Rattle.kernel_model.specs.Kernel.{Kernel}
 use Rattle.kernel_model.specs.ChangeStep.{ran_by}
-use Rattle.kernel_tables.specs.declared.tables.Tables.{Tables}
+use Rattle.table_steps.specs.Tables.{Tables}
 use Rattle.table_steps.specs.Joined.{instructions_in}
-use Rattle.kernel_tables.specs.UserMemory.{CanLend}
-use Rattle.kernel_tables.specs.Machine.{Standing, kernel_by}
+use Rattle.table_steps.specs.UserMemory.{CanLend}
+use Rattle.table_steps.specs.Machine.{Standing, kernel_by}
 use Rattle.table_steps.proofs.Joins.{runs_kind, last_is, joined_within}
 use Rattle.machine_state.proofs.Standings.{stands_now, room_of}
 use Rattle.machine_state.proofs.Instructions.{has_record, ran_changes, regs_kernel, regs_stand, regs_rest}
@@ -53,5 +53,5 @@ returns-clause-keeps c images image flat coupled =
     let is : kernel_by c.set_regs.new.self c.add_instruction.new.journal.items c.self.inside.stopped ≡ ran_by c.args.self.now.kernel c.args.pid c.args.regs.now (entries.Ran c.args.pid 1) =
     regs_kernel c.self.inside.tables c.set_regs.new.self c.args.pid c.args.regs.now c.set_regs.ensures c.self.inside.journal.items c.add_instruction.new.journal.items c.self.inside.stopped c.self.inside.stopped c.add_instruction.ensures refl
     ∙ ap (λ (s : Standing). ran_by s.kernel c.args.pid c.args.regs.now (entries.Ran c.args.pid 1)) c.self.view_is in
-    subst (λ (k : Kernel). Rattle.kernel_tables.specs.Conditions.ChangesFlat c.args.self.now.kernel k c.args.pid c.args.regs.now Rattle.flat_state.specs.declared.change.Change.TheVariants.Keep) (sym is)
+    subst (λ (k : Kernel). Rattle.table_steps.specs.Conditions.ChangesFlat c.args.self.now.kernel k c.args.pid c.args.regs.now Rattle.flat_state.specs.declared.change.Change.TheVariants.Keep) (sym is)
     (ran_changes c.args.self.now.kernel c.args.pid c.args.regs.now c.requires.can) images image flat coupled

@@ -4,24 +4,24 @@ use Rattle.vax_pte.specs.declared.Place.{Place}
 use Rattle.vax_pte.specs.declared.Place.TheVariants.{Frame}
 use Rattle.core_map.specs.Slots.{slot_at, page_of}
 use Rattle.kernel_model.specs.Kernel.{Kernel, reclaim_step}
-use Rattle.kernel_tables.specs.declared.tables.Tables.{Tables}
-use Rattle.kernel_tables.specs.Shown.{is_frame, frame_named}
+use Rattle.table_steps.specs.Tables.{Tables}
+use Rattle.table_steps.specs.KernelTablesShown.{is_frame, frame_named}
 use Rattle.page_model.specs.Pages.{frame_of}
 use Rattle.page_model.specs.Placement.{IsThere}
-use Rattle.page_laws.proofs.Moves.Steps.{page_in}
-use Rattle.kernel_tables.specs.Steps.{dirty_shown}
-use Rattle.kernel_tables.specs.View.{placement_of}
-use Rattle.kernel_tables.specs.Known.{Known}
-use Rattle.kernel_tables.specs.Machine.{Standing, Runs, lists_of, kernel_by}
-use Rattle.kernel_tables.specs.Moves.{RevivedPage}
-use Rattle.kernel_tables.specs.Conditions.{CanReclaim, KeepsFlat, SameEverywhere}
-use Rattle.kernel_tables.proofs.Knows.{text_low}
+use Rattle.table_steps.proofs.PageLawsMovesSteps.{page_in}
+use Rattle.table_steps.specs.Steps.{dirty_shown}
+use Rattle.table_steps.specs.View.{placement_of}
+use Rattle.table_steps.specs.Known.{Known}
+use Rattle.table_steps.specs.Machine.{Standing, Runs, lists_of, kernel_by}
+use Rattle.table_steps.specs.Moves.{RevivedPage}
+use Rattle.table_steps.specs.Conditions.{CanReclaim, KeepsFlat, SameEverywhere}
+use Rattle.table_steps.proofs.Knows.{text_low}
 use Rattle.machine_state.proofs.Knowing.{known_of}
-use Rattle.kernel_tables.proofs.Entries.{head_of, placed_heads}
+use Rattle.table_steps.proofs.KernelTablesEntries.{head_of, placed_heads}
 use Rattle.machine_state.proofs.Standings.{no_room, running, stands_now, whole_now, stands_same, rest_of}
-use Rattle.kernel_tables.proofs.Stills.{Still, still_along, pushed}
-use Rattle.kernel_tables.proofs.Revives.{below_held}
-use Rattle.kernel_tables.proofs.Evicts.{held_above}
+use Rattle.table_steps.proofs.Stills.{Still, still_along, pushed}
+use Rattle.table_steps.proofs.Revives.{below_held}
+use Rattle.table_steps.proofs.Evicts.{held_above}
 use Rattle.table_steps.proofs.Reclaims.{InvalidEntry, invalid_entry, Reclaiming, reclaim_kernel, reclaim_keeps, reclaim_alike}
 use Rattle.machine_state.proofs.ReclaimRuns.{reclaim_runs}
 use Rattle.machine_state.proofs.machine.Machine.reclaim.Goals as goal

@@ -1,9 +1,9 @@
 use Rattle.std.proofs.Common.{refl, sym, subst}
 use Rattle.proc_table.specs.Records.{Lowest}
-use Rattle.kernel_tables.specs.Machine.{Standing, lists_of}
-use Rattle.kernel_tables.specs.View.{placement_of}
-use Rattle.kernel_tables.specs.Sharing.{IsSharer}
-use Rattle.kernel_tables.specs.declared.tables.Tables.{Tables}
+use Rattle.table_steps.specs.Machine.{Standing, lists_of}
+use Rattle.table_steps.specs.View.{placement_of}
+use Rattle.table_steps.specs.Sharing.{IsSharer}
+use Rattle.table_steps.specs.Tables.{Tables}
 use Rattle.machine_state.proofs.Sharers.{lowest_sharer}
 use Rattle.machine_state.proofs.machine.Machine.sharer.Goals as goal
 

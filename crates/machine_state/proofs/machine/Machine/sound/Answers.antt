@@ -1,12 +1,12 @@
 use Rattle.std.proofs.Common.{ℕ, ◌≤◌, length, map, sym, subst, arith}
 use Rattle.std.proofs.lemmas.List.{length-map}
 use Rattle.kernel_model.specs.Sound.{Sound}
-use Rattle.kernel_tables.specs.declared.named.Named.{Named}
-use Rattle.kernel_tables.specs.New.{AreSound}
-use Rattle.kernel_tables.specs.Sourced.{ImageNamed}
-use Rattle.kernel_tables.specs.Machine.{Standing, lists_of, kernel_by, before_of}
+use Rattle.table_steps.specs.Named.{Named}
+use Rattle.table_steps.specs.New.{AreSound}
+use Rattle.table_steps.specs.Sourced.{ImageNamed}
+use Rattle.table_steps.specs.Machine.{Standing, lists_of, kernel_by, before_of}
 use Rattle.machine_state.specs.Texts.{TextsStand}
-use Rattle.kernel_tables.proofs.Held.{holds_length}
+use Rattle.table_steps.proofs.Held.{holds_length}
 use Rattle.machine_state.proofs.TextLengths.{texts_stand}
 use Rattle.machine_state.proofs.FirstBegins.{images_length, shown_facts}
 use Rattle.machine_state.proofs.Standings.{stands_now}

@@ -2,13 +2,13 @@ use Rattle.std.proofs.Common.{◌≡◌, ℕ, List, Some, None, IsSome, sym, ap,
 use Rattle.page_model.specs.Placement.{image_of}
 use Rattle.kernel_model.specs.Asks.{HasSpace}
 use Rattle.core_map.specs.Frames.{Frames}
-use Rattle.table_view.specs.Views.{ShowsSpace}
-use Rattle.kernel_tables.specs.declared.tables.Tables.{Tables}
-use Rattle.kernel_tables.specs.Machine.{Standing, lists_of}
-use Rattle.kernel_tables.specs.View.{placement_of}
+use Rattle.table_steps.specs.Views.{ShowsSpace}
+use Rattle.table_steps.specs.Tables.{Tables}
+use Rattle.table_steps.specs.Machine.{Standing, lists_of}
+use Rattle.table_steps.specs.View.{placement_of}
 use Rattle.machine_state.specs.Showing.{ShowsCore}
 use Rattle.machine_state.proofs.Standings.{stands_now}
-use Rattle.kernel_tables.proofs.UserFrames.{known_by, stands_there}
+use Rattle.table_steps.proofs.UserFrames.{known_by, stands_there}
 use Rattle.machine_state.proofs.Showings.{space_shows, space_number_is, space_there, space_image}
 use Rattle.machine_state.proofs.machine.Machine.space.Goals as goal
 

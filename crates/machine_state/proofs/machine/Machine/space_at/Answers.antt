@@ -1,11 +1,11 @@
 use Rattle.std.proofs.Common.{◌≡◌, ◌<◌, Some, map, length, slice_get, sym, ◌∙◌, subst}
 use Rattle.page_model.specs.Placement.{space_number}
-use Rattle.kernel_tables.specs.declared.tables.Tables.{Tables}
-use Rattle.kernel_tables.specs.Known.{Known}
-use Rattle.kernel_tables.specs.Machine.{Standing, lists_of}
-use Rattle.kernel_tables.specs.UserMemory.{NamesFrames}
+use Rattle.table_steps.specs.Tables.{Tables}
+use Rattle.table_steps.specs.Known.{Known}
+use Rattle.table_steps.specs.Machine.{Standing, lists_of}
+use Rattle.table_steps.specs.UserMemory.{NamesFrames}
 use Rattle.machine_state.proofs.Standings.{stands_now}
-use Rattle.kernel_tables.proofs.UserFrames.{known_by, names_frames, space_below}
+use Rattle.table_steps.proofs.UserFrames.{known_by, names_frames, space_below}
 use Rattle.machine_state.proofs.machine.Machine.space_at.Goals as goal
 
 pub at-space-requires : goal.at-space-requires

@@ -1,11 +1,11 @@
 use Rattle.std.proofs.Common.{sym, ap, ◌∙◌, subst, refl}
 use Rattle.page_model.specs.Placement.{IsThere, state_of}
-use Rattle.kernel_tables.specs.declared.tables.Tables.{Tables}
-use Rattle.kernel_tables.specs.Machine.{Standing, lists_of}
-use Rattle.kernel_tables.specs.PlaceOf.{place_of}
+use Rattle.table_steps.specs.Tables.{Tables}
+use Rattle.table_steps.specs.Machine.{Standing, lists_of}
+use Rattle.table_steps.specs.PlaceOf.{place_of}
 use Rattle.machine_state.proofs.Standings.{stands_now}
-use Rattle.kernel_tables.proofs.UserFrames.{known_by}
-use Rattle.kernel_tables.proofs.PlaceStates.{none_some, place_tells, tells_none, tells_some}
+use Rattle.table_steps.proofs.UserFrames.{known_by}
+use Rattle.table_steps.proofs.PlaceStates.{none_some, place_tells, tells_none, tells_some}
 use Rattle.machine_state.proofs.machine.Machine.state_of.Goals as goal
 
 pub returns-in_err-place-clause-there : goal.returns-in_err-place-clause-there

@@ -3,10 +3,10 @@ use Rattle.std.proofs.Common.{ℕ, Bor, Option, option_map, slice_get, IfSome, s
 use Rattle.std.proofs.lemmas.Option.{slice_get-map}
 use Rattle.transfer_ring.specs.declared.transfer.Transfer.{Transfer as Flight}
 use Rattle.page_model.specs.Placement.{image_of}
-use Rattle.kernel_tables.specs.declared.tables.Tables.{Tables}
-use Rattle.kernel_tables.specs.Machine.{Standing, images_of, image_at, before_of}
-use Rattle.kernel_tables.specs.Sourced.{IsFlightSourced}
-use Rattle.kernel_tables.specs.View.{transfer_shown}
+use Rattle.table_steps.specs.Tables.{Tables}
+use Rattle.table_steps.specs.Machine.{Standing, images_of, image_at, before_of}
+use Rattle.table_steps.specs.Sourced.{IsFlightSourced}
+use Rattle.table_steps.specs.View.{transfer_shown}
 use Rattle.machine_state.proofs.InFlight.{sourced_at}
 use Rattle.machine_state.proofs.Standings.{stands_now}
 use Rattle.machine_state.proofs.machine.Machine.transfer.Goals as goal

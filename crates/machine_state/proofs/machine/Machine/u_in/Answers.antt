@@ -2,12 +2,12 @@ use Rattle.std.proofs.Common.{◌≡◌, ◌+◌, false, List, [], ◌∷◌, �
 use Rattle.vm_facts.specs.declared.entry.Entry.{Entry}
 use Rattle.vm_facts.specs.declared.entry.Entry.TheVariants as entries
 use Rattle.kernel_model.specs.Kernel.{Kernel, in_step}
-use Rattle.kernel_tables.specs.declared.tables.Tables.{Tables}
-use Rattle.kernel_tables.specs.Machine.{Standing, kernel_by}
-use Rattle.kernel_tables.specs.Calls.{CanComeIn}
-use Rattle.kernel_tables.specs.Swapping.{AreStored, KeepsIn, IsIn}
+use Rattle.table_steps.specs.Tables.{Tables}
+use Rattle.table_steps.specs.Machine.{Standing, kernel_by}
+use Rattle.table_steps.specs.Calls.{CanComeIn}
+use Rattle.table_steps.specs.Swapping.{AreStored, KeepsIn, IsIn}
 use Rattle.machine_state.proofs.Standings.{running, stands_now, whole_now, no_room}
-use Rattle.kernel_tables.proofs.MovedRecords.{IsOutThere}
+use Rattle.table_steps.proofs.MovedRecords.{IsOutThere}
 use Rattle.machine_state.proofs.Goings.{Gone, with_records, in_is, in_stands, block_there, block_place, read_regs, in_keeps, entering, entering_alive, entering_lasts}
 use Rattle.machine_state.proofs.machine.Machine.u_in.Goals as goal
 

@@ -2,10 +2,10 @@ use Rattle.std.proofs.Common.{◌≡◌, ℕ, ◌+◌, ◌*◌, ◌≤◌, true,
 use Rattle.vm_facts.specs.declared.entry.Entry.{Entry}
 use Rattle.vm_facts.specs.declared.entry.Entry.TheVariants as entries
 use Rattle.kernel_model.specs.Kernel.{Kernel, out_step}
-use Rattle.kernel_tables.specs.declared.tables.Tables.{Tables}
-use Rattle.kernel_tables.specs.Machine.{Standing, kernel_by}
-use Rattle.kernel_tables.specs.Calls.{CanGoOut}
-use Rattle.kernel_tables.specs.Swapping.{WritesU, KeepsOut}
+use Rattle.table_steps.specs.Tables.{Tables}
+use Rattle.table_steps.specs.Machine.{Standing, kernel_by}
+use Rattle.table_steps.specs.Calls.{CanGoOut}
+use Rattle.table_steps.specs.Swapping.{WritesU, KeepsOut}
 use Rattle.machine_state.proofs.Standings.{running, stands_now, whole_now, no_room}
 use Rattle.machine_state.proofs.Goings.{Gone, with_records, out_is, out_stands, Leaving, leaving, leaving_alive, leaving_held, leaving_lasts, bytes_are, block_there, block_place, written, out_keeps}
 use Rattle.machine_state.proofs.machine.Machine.u_out.Goals as goal

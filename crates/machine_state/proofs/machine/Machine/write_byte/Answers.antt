@@ -4,17 +4,17 @@ use Rattle.core_map.specs.declared.slot.Slot.{Slot as Token}
 use Rattle.core_map.specs.Slots.{is_resident}
 use Rattle.page_model.specs.Placement.{state_of}
 use Rattle.kernel_model.specs.Kernel.{write_step}
-use Rattle.kernel_tables.specs.declared.tables.Tables.{Tables}
-use Rattle.kernel_tables.specs.View.{placement_of}
-use Rattle.kernel_tables.specs.Known.{Known}
+use Rattle.table_steps.specs.Tables.{Tables}
+use Rattle.table_steps.specs.View.{placement_of}
+use Rattle.table_steps.specs.Known.{Known}
 use Rattle.machine_state.specs.Fields.{HasRoom}
-use Rattle.kernel_tables.specs.Machine.{Standing, lists_of}
-use Rattle.kernel_tables.specs.UserMemory.{IsOwnPage, AreWhole}
+use Rattle.table_steps.specs.Machine.{Standing, lists_of}
+use Rattle.table_steps.specs.UserMemory.{IsOwnPage, AreWhole}
 use Rattle.machine_state.proofs.Standings.{stands_now}
-use Rattle.kernel_tables.proofs.Touches.{InFrame, in_frame}
-use Rattle.kernel_tables.proofs.Writes.{Writing, write_stands}
+use Rattle.table_steps.proofs.Touches.{InFrame, in_frame}
+use Rattle.table_steps.proofs.Writes.{Writing, write_stands}
 use Rattle.machine_state.proofs.WriteStanding.{write_standing}
-use Rattle.kernel_tables.proofs.UserFrames.{known_by, own_home, held_whole}
+use Rattle.table_steps.proofs.UserFrames.{known_by, own_home, held_whole}
 use Rattle.machine_state.proofs.machine.Machine.write_byte.Goals as goal
 
 pub write_byte-requires-clause-home : goal.write_byte-requires-clause-home

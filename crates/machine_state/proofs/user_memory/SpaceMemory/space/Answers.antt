@@ -1,4 +1,4 @@
-use Rattle.kernel_tables.proofs.UserFrames.{number_below}
+use Rattle.table_steps.proofs.UserFrames.{number_below}
 use Rattle.machine_state.proofs.user_memory.SpaceMemory.space.Goals as goal
 
 pub space_at-requires-clause-within : goal.space_at-requires-clause-within

@@ -1,6 +1,6 @@
 use Rattle.std.proofs.Common.{sym, subst}
-use Rattle.kernel_tables.specs.Machine.{Standing}
-use Rattle.kernel_tables.specs.UserMemory.{IsLaidOut}
+use Rattle.table_steps.specs.Machine.{Standing}
+use Rattle.table_steps.specs.UserMemory.{IsLaidOut}
 use Rattle.machine_state.proofs.Layouts.{layout_kept}
 use Rattle.machine_state.proofs.user_memory.SpaceMemory.write_page.Goals as goal
 

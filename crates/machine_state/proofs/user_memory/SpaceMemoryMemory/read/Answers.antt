@@ -1,8 +1,8 @@
 use Rattle.std.proofs.Common.{◌/◌, sym, ap, ◌∙◌}
 use Rattle.vm_facts.specs.declared.page.Page.TheVariants.{Text as TextPage, Data as DataPage, Stack as StackPage}
 use Rattle.page_model.specs.Placement.{image_of}
-use Rattle.kernel_tables.specs.UserMemory.{read_spot}
-use Rattle.kernel_tables.proofs.UserFrames.{held_frame}
+use Rattle.table_steps.specs.UserMemory.{read_spot}
+use Rattle.table_steps.proofs.UserFrames.{held_frame}
 use Rattle.machine_state.proofs.user_memory.SpaceMemoryMemory.read.Goals as goal
 
 pub read_frame-requires-clause-held : goal.read_frame-requires-clause-held

@@ -1,0 +1,1 @@
+pub use Rattle.swap_book.proofs.PlaceLaws
