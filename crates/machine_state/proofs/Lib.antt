@@ -18,7 +18,7 @@ pub use Rattle.table_steps.proofs.Lives
 pub use Rattle.table_steps.proofs.Kin
 pub use Rattle.table_steps.proofs.MovedRecords
 pub use Rattle.table_steps.proofs.UserFrames
-pub use Rattle.table_steps.proofs.KernelTablesEntries
+pub use Rattle.table_steps.proofs.KernelTablesEntries as Entries
 pub use Rattle.table_steps.proofs.Shows
 pub use Rattle.table_steps.proofs.AddedImage
 pub use Rattle.table_steps.proofs.ProcessLists
