@@ -1,7 +1,7 @@
 -- Files of octets, one after another.
 use Rattle.std.proofs.Common.{ℕ, suc, ◌+◌, ◌<◌, List, [], ◌∷◌, ◌++◌, length, map, take, get_or, Fits, w8, sym, ap, ◌∙◌, subst, arith}
 use Rattle.std.proofs.lemmas.List.{map-append, take_more}
-use Rattle.vax_code.specs.Grammar.{AreOctets}
+use Rattle.vm_facts.specs.Octets.{AreOctets}
 use Rattle.io_edge.specs.FileHolding.{NamedFile}
 use Rattle.io_edge.specs.Octets.{IsOctetFile, AreOctetFiles}
 

@@ -1,6 +1,6 @@
 -- What is told of files are names and bytes.
 use Rattle.std.specs.Prelude.{List, [], ◌∷◌}
-use Rattle.vax_code.specs.Grammar.{AreOctets}
+use Rattle.vm_facts.specs.Octets.{AreOctets}
 use Rattle.io_edge.specs.FileHolding.{NamedFile}
 
 pub record IsOctetFile (file : NamedFile) : Type 0 where

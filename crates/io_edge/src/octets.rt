@@ -1,6 +1,6 @@
 // What contracts see of names and bytes are lists of numbers, and each of them is below 256.
 ghost use Rattle.std.specs.Prelude.{map};
-ghost use Rattle.vax_code.specs.Grammar.{AreOctets};
+ghost use Rattle.vm_facts.specs.Octets.{AreOctets};
 ghost use Rattle.io_edge.specs.FileHolding.{named_file};
 ghost use Rattle.io_edge.specs.Octets.{IsOctetFile, AreOctetFiles};
 

@@ -13,11 +13,7 @@ use Rattle.vax_code.specs.declared.table.Row.{Row}
 use Rattle.vax_code.specs.declared.table.Slot.{Slot}
 use Rattle.vax_code.specs.Operands.{width_of, is_read, is_address, is_branch, assembled}
 use Rattle.vax_code.specs.Table.{row_for, slot_in}
-
--- each number is a byte
-abbrev pub AreOctets : List ℕ → Type 0
-AreOctets [] = Unit {0}
-AreOctets (byte ∷ bytes) = (byte < 256) × AreOctets bytes
+pub use Rattle.vm_facts.specs.Octets.{AreOctets}
 
 -- ---- numbers of 1, 2 or 4 bytes, the low byte first
 
