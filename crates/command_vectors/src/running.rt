@@ -1,9 +1,11 @@
 // One run: what is asked, what is wanted, and what came.
+ghost use Rattle.std.specs.Prelude.{◌<◌, ◌^◌, vec_len, IfOk};
+
 use crate::bad::Bad;
 use crate::devices::{Lie, LyingSwap};
 use io_edge::{MemFiles, MemSink, MemSwap, SwapDev};
 use std::alloc::{AllocError, Global};
-use vm_run::{explain, vmrun};
+use vm_run::{explain, vmrun, vmrun_in_memory};
 
 /// The room of the output.
 const ROOM: usize = 65_536;
@@ -57,6 +59,17 @@ impl Asked {
         self.told.clear();
     }
 
+    // No call fails, and no device lies.
+    fn is_sound(&self) -> bool {
+        let fails = [
+            &self.fail_files,
+            &self.fail_reads,
+            &self.fail_writes,
+            &self.fail_output,
+        ];
+        matches!(self.lie, Lie::Nothing) && fails.iter().all(|it| it.is_empty())
+    }
+
     // A call of this kind fails.
     fn fail(&mut self, words: &str) -> Result<(), Bad> {
         let (kind, number) = words.split_once(' ').ok_or(Bad::Line)?;
@@ -91,8 +104,10 @@ impl Asked {
     }
 }
 
-// The files in memory, the last one first, since the first of a name is found.
-fn files_of(alloc: Global, files: &[(String, Vec<u8>)], fail: &[u64]) -> Result<MemFiles, Bad> {
+// Copies of the files, the last one first, since the first of a name is found.
+fn copies_of(alloc: Global, files: &[(String, Vec<u8>)]) -> Result<Vec<(String, Vec<u8>)>, Bad>
+    ensures { IfOk result (λ copies. vec_len copies < 2 ^ 32) }
+{
     let mut held = Vec::new(alloc);
     for (name, bytes) in files.iter().rev() {
         held.push((
@@ -103,7 +118,18 @@ fn files_of(alloc: Global, files: &[(String, Vec<u8>)], fail: &[u64]) -> Result<
     if held.len() > 1_000 {
         return Err(Bad::File);
     }
-    Ok(MemFiles::new(held, Vec::from_slice(alloc, fail)?))
+    Ok(held)
+}
+
+// The words of a command line.
+fn words_of(alloc: Global, line: &str) -> Result<Vec<&str>, AllocError> {
+    let mut words = Vec::new(alloc);
+    if !line.is_empty() {
+        for word in line.split(' ') {
+            words.push(word)?;
+        }
+    }
+    Ok(words)
 }
 
 // Bytes as a text.
@@ -119,13 +145,9 @@ fn over<D: SwapDev>(
     status: u8,
     zero: &mut D,
 ) -> Result<String, Bad> {
-    let mut words = Vec::new(alloc);
-    if !asked.words.is_empty() {
-        for word in asked.words.split(' ') {
-            words.push(word)?;
-        }
-    }
-    let mut held = files_of(alloc, files, asked.fail_files.as_slice())?;
+    let words = words_of(alloc, asked.words.as_str())?;
+    let fail_files = Vec::from_slice(alloc, asked.fail_files.as_slice())?;
+    let mut held = MemFiles::new(copies_of(alloc, files)?, fail_files);
     let mut one = MemSwap::new(alloc, asked.one, Vec::new(alloc), Vec::new(alloc))?;
     let fail_output = Vec::from_slice(alloc, asked.fail_output.as_slice())?;
     let mut sink = MemSink::new(alloc, ROOM, fail_output)?;
@@ -152,8 +174,41 @@ fn over<D: SwapDev>(
     Ok(format!(in alloc; "vmrun {words}\n{text}{told}status {given}\n")?)
 }
 
-/// Runs the words, and tells what came of it; nothing where it is as wanted.
+// Runs the words where all is in memory and nothing fails, and tells what differs.
+fn in_memory(
+    alloc: Global,
+    files: &[(String, Vec<u8>)],
+    asked: &Asked,
+    status: u8,
+) -> Result<String, Bad> {
+    let words = words_of(alloc, asked.words.as_str())?;
+    let held = copies_of(alloc, files)?;
+    let done = vmrun_in_memory(alloc, words.as_slice(), held, asked.zero, asked.one, ROOM)?;
+    if done.status == status && done.output.written() == asked.wanted.as_slice() {
+        return Ok(String::new(alloc));
+    }
+    let (words, given) = (asked.words.as_str(), done.status);
+    let text = shown(done.output.written());
+    Ok(format!(in alloc; "vmrun {words}, in memory\n{text}status {given}\n")?)
+}
+
+/// Runs the words, and tells what came of it; nothing where it is as wanted. Where no call is to fail, they are run once more
+/// over files and devices that can't.
 pub fn difference(
+    alloc: Global,
+    files: &[(String, Vec<u8>)],
+    asked: &Asked,
+    status: u8,
+) -> Result<String, Bad> {
+    let given = first_difference(alloc, files, asked, status)?;
+    if given.is_empty() && asked.is_sound() {
+        return in_memory(alloc, files, asked, status);
+    }
+    Ok(given)
+}
+
+// Runs the words over devices that fail or lie as is asked, and tells what differs.
+fn first_difference(
     alloc: Global,
     files: &[(String, Vec<u8>)],
     asked: &Asked,
