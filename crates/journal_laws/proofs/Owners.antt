@@ -49,6 +49,7 @@ run_owned A s r =
           u_held = λ pid. blocks.u_held pid ∙ ap (λ (b : Bool). u_pieces (u_blocks b)) (living_same s.point.flat pid);
         };
         aside = owner.aside;
+        places = owner.places;
       };
       spaces = tables.spaces;
     }

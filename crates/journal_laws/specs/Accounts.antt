@@ -41,7 +41,8 @@ abbrev pub is_living : FlatState → ℕ → Bool
 is_living flat pid = living_if (process_of flat pid)
 
 -- Each frame and each block of swap has one owner or is free: a page, or a transfer, has a frame; a space, a text that spaces
--- share, and a process that lives have their blocks. The spaces are those of the flat state, with as many pages.
+-- share, and a process that lives have their blocks, among them those of each page that needs them. The spaces are those of
+-- the flat state, with as many pages.
 pub record IsOwned (A : Inputs) (s : State) : Type 0 where
   pub owners : OneOwner A.swap_blocks (is_living s.point.flat) s.place s.holdings
   pub spaces : AllFit s.point.flat s.place

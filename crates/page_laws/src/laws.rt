@@ -1,4 +1,4 @@
-ghost use Rattle.std.specs.Prelude.{◌≡◌, ◌≢◌, ◌⊎◌, ℕ, ◌+◌, ◌*◌, ◌<◌, ◌≤◌, Bool, true, false, List, [], ◌∷◌, length, Some, None, IsSome};
+ghost use Rattle.std.specs.Prelude.{◌≡◌, ◌≢◌, ◌⊎◌, ℕ, ◌+◌, ◌*◌, ◌<◌, ◌≤◌, Bool, true, false, List, [], ◌∷◌, length, Some, None};
 ghost use Rattle.vm_facts.specs.declared.page.Page.{Page};
 ghost use Rattle.vm_facts.specs.declared.page.Page.TheVariants.{Text};
 ghost use Rattle.vm_facts.specs.declared.page.PageState.TheVariants.{Valid, Going, Unfilled, OnSwap};
@@ -19,7 +19,7 @@ ghost use Rattle.vm_facts.specs.Swap.{most_in_flight};
 ghost use Rattle.page_model.specs.Swapper.{Runner, In, Out, Nothing, residence_of, is_settled, swap_choice, is_out, put_out_unit};
 ghost use Rattle.page_model.specs.Conditions.{begins, HaveParts, CanBegin, EachPage, AllApart, CanEnter, HasSeat, IsNew, IsSettled, CanPlace, Spares};
 ghost use Rattle.page_model.specs.Rank.{far, rank, HandsStand, HasRoom, EndsForcing, EndsServing};
-ghost use Rattle.page_model.specs.Ownership.{OwnsFrames, OneOwner, TextAside, block_of, needs_blocks};
+ghost use Rattle.page_model.specs.Ownership.{OwnsFrames, OwnsBlocks, TextAside, HasBlocks, block_of, needs_blocks};
 ghost use Rattle.page_model.specs.PageBytes.{Bytes, CouplesPages, SamePage, SameBytes, with_frame, ReadsFrom, IsWritable, WritesBoth, BytesAfter, NotIn};
 ghost use Rattle.page_model.specs.Stored.{stored, store_at};
 ghost use Rattle.page_model.specs.Swapping.{ComesIn, GoesOut, NoneMoves};
@@ -62,8 +62,8 @@ pub fn ownership_kept()
 pub fn blocks_kept()
     ensures entry { EntryKeepsOwners }
     ensures text { ChangeLeavesTextAside }
-    ensures places { (size : ℕ) (lives : ℕ → Bool) (p : Placement) (hs : Holdings) (q : Page) → OneOwner size lives p hs
-        → needs_blocks p q ≡ true → IsSome (block_of hs q) }
+    ensures places { (size : ℕ) (lives : ℕ → Bool) (p : Placement) (hs : Holdings) → OwnsBlocks size lives p hs → TextAside p
+        → (q : Page) → needs_blocks p q ≡ true → HasBlocks size hs q }
     ensures apart { (size : ℕ) (hs : Holdings) (q r : Page) (x y : ℕ) → IsBook size hs → q ≢ r → block_of hs q ≡ Some x
         → block_of hs r ≡ Some y → (x + 2 ≤ y) ⊎ (y + 2 ≤ x) }
     ensures stores { StoreWritesOnePage }

@@ -9,7 +9,7 @@ use Rattle.swap_book.specs.declared.Owner.{Owner}
 use Rattle.swap_book.specs.declared.Owner.TheVariants as owners
 use Rattle.swap_book.specs.Owners.{u_pieces}
 use Rattle.swap_book.specs.Holdings.{Holdings, lengths, block_in}
-use Rattle.swap_book.specs.Book.{IsBook}
+use Rattle.swap_book.specs.Book.{IsBook, IsPlace}
 use Rattle.flat_state.specs.PageNames.{number_of}
 use Rattle.page_model.specs.Pages.{frame_of}
 use Rattle.vm_facts.specs.Lists.{times}
@@ -112,14 +112,7 @@ pub record IsAside (p : Placement) (q : Page) : Type 0 where
 abbrev pub TextAside : Placement → Type 0
 TextAside p = (image v : ℕ) → sharers p image ≡ 0 → IsAside p (Text image v)
 
--- Each frame and each block has one owner or is free; a page that is on swap, on its way there or from there, or saved,
--- has its blocks in its own owner's holding.
-pub record OneOwner (size : ℕ) (lives : ℕ → Bool) (p : Placement) (hs : Holdings) : Type 0 where
-  pub frames : OwnsFrames p
-  pub blocks : OwnsBlocks size lives p hs
-  pub aside : TextAside p
-
--- the page needs its blocks
+-- the page needs its blocks: it is on swap or in a transfer, or it is saved text
 abbrev pub needs_blocks_by : Page → PageState → Bool → Bool
 needs_blocks_by (Text image v) s true = true
 needs_blocks_by q OnSwap mark = true
@@ -129,3 +122,19 @@ needs_blocks_by q s mark = false
 
 abbrev pub needs_blocks : Placement → Page → Bool
 needs_blocks p q = needs_blocks_by q (state_of p q) (mark_of p q)
+
+-- the page's two blocks, at its place in its own owner's holding
+pub record HasBlocks (size : ℕ) (hs : Holdings) (q : Page) : Type 0 where
+  pub first : ℕ
+  pub found : block_of hs q ≡ Some first
+  -- both are below the size, in one piece of the owner
+  pub own : IsPlace size hs (owner_of q) first
+
+-- Each frame and each block has one owner or is free; a page that is on swap, in a transfer, or saved has its two blocks
+-- in its own owner's holding.
+pub record OneOwner (size : ℕ) (lives : ℕ → Bool) (p : Placement) (hs : Holdings) : Type 0 where
+  pub frames : OwnsFrames p
+  pub blocks : OwnsBlocks size lives p hs
+  pub aside : TextAside p
+  -- each page that needs its blocks has them
+  pub places : (q : Page) → needs_blocks p q ≡ true → HasBlocks size hs q

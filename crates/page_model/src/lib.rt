@@ -13,7 +13,7 @@
 //! - Place: `place_entry` and `place_step`, what each entry of a journal does to a placement.
 //! - Swapper, Swapping: `swap_choice` and `put_out_unit`; and what is so of whom the swapper chooses.
 //! - Conditions, Dues: what an entry, a change and a fill that is due ask.
-//! - Ownership: `OneOwner`, who owns each frame and block.
+//! - Ownership: `OneOwner`, who owns each frame and block, and that a page has the blocks that it needs.
 //! - PageBytes, Stored: where the bytes of each page are, and the swap image.
 //! - Rank, PuttingOut: how far forcing, serving and putting out are from their end.
 //!

@@ -22,6 +22,7 @@ use Rattle.kernel_model.specs.Taken.{wanted_lengths}
 use Rattle.kernel_model.specs.Asks.{text_asked, start_asks, is_started}
 use Rattle.vm_facts.proofs.Lists.{times_head}
 use Rattle.page_laws.proofs.Bytes.Spaces.{unfilled_length}
+use Rattle.page_laws.proofs.Blocks.Aside.{one_owner}
 use Rattle.page_laws.proofs.Starts.{start_owner, start_aside}
 use Rattle.kernel_laws.proofs.Pieces.GivenBack.{owns_from}
 use Rattle.kernel_laws.proofs.Pieces.Found.{AllWhole, found_apart, found_lengths, wanted_whole, whole_from, even_text}
@@ -214,18 +215,16 @@ text_whole (suc n) pages = whole_from (text_pieces (2 * pages)) (λ i m e. piece
 -- owners.
 pub start_found : (size : ℕ) (images : List Image) (first : List Starting) (frames : ℕ) (hs : Holdings) → place_all size [] (start_asks (start_placement images first frames) [] 1 first) ≡ Ok hs
     → OneOwner size (is_started 1 first) (start_placement images first frames) hs
-start_found size images first frames hs e = record {
-  frames = start_owner images first frames;
-  blocks = owns_from size (is_started 1 first) p hs
+start_found size images first frames hs e = one_owner size (is_started 1 first) p hs (start_owner images first frames)
+  (owns_from size (is_started 1 first) p hs
       (found_apart size [] hs ws (record { pieces = λ k d l. absurd (omega arith); apart = λ i j d o l. absurd (omega arith) }) (wanted_whole ws whole) e)
       (record {
         of_data = λ t. found_lengths size [] hs ws (owners.Data t) e ∙ data_asked p [] 1 first t;
         of_stack = λ t. found_lengths size [] hs ws (owners.Stack t) e ∙ stack_asked p [] 1 first t;
         of_text = λ i. found_lengths size [] hs ws (owners.Text i) e ∙ text_all p [] 1 first i refl;
       })
-      (λ n. found_lengths size [] hs ws (owners.U n) e ∙ u_asked p [] 1 first n);
-  aside = start_aside images first frames;
-}
+      (λ n. found_lengths size [] hs ws (owners.U n) e ∙ u_asked p [] 1 first n))
+  (start_aside images first frames)
   where
     p : Placement
     p = start_placement images first frames

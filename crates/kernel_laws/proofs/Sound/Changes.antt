@@ -29,6 +29,7 @@ use Rattle.kernel_model.specs.Taken.{needed, MayReap, MayChange}
 use Rattle.page_laws.proofs.Lists.Frames.{length_set_frame}
 use Rattle.page_laws.proofs.Ownership.Entries.{place_change_owner}
 use Rattle.page_laws.proofs.Ownership.Changes.{dropped_pages}
+use Rattle.page_laws.proofs.Blocks.Aside.{one_owner}
 use Rattle.page_laws.proofs.Blocks.Changes.{place_change_aside}
 use Rattle.page_laws.proofs.Ends.Hands.{SameHands, hands_self, hands_both, hands_stand}
 use Rattle.kernel_laws.proofs.Sound.Steps.{proc_number}
@@ -293,15 +294,15 @@ change_sound size images k before x e change h s t c m r =
     let u : Unhanded k.place (place_change images k.place x.pid sid borrowed k.next_sid at change) = change_unhanded images k.place x.pid sid borrowed k.next_sid at change in
     let w : SameHands k.place (place_change images k.place x.pid sid borrowed k.next_sid at change) = u.hands in
     record {
-      owner = record {
-        frames = place_change_owner images k.place x.pid sid borrowed k.next_sid at change o.frames c;
-        blocks = owns_from size (lives (procs_after k.processes x k.next_sid change)) (place_change images k.place x.pid sid borrowed k.next_sid at change)
+      owner = one_owner size (lives (procs_after k.processes x k.next_sid change)) (place_change images k.place x.pid sid borrowed k.next_sid at change)
+        (holdings_after k.holdings k.place (place_change images k.place x.pid sid borrowed k.next_sid at change) x.pid sid borrowed change)
+        (place_change_owner images k.place x.pid sid borrowed k.next_sid at change o.frames c)
+        (owns_from size (lives (procs_after k.processes x k.next_sid change)) (place_change images k.place x.pid sid borrowed k.next_sid at change)
             (holdings_after k.holdings k.place (place_change images k.place x.pid sid borrowed k.next_sid at change) x.pid sid borrowed change)
             (after_apart size k.holdings k.place (place_change images k.place x.pid sid borrowed k.next_sid at change) x.pid sid borrowed change (record { pieces = t.book.pieces; apart = t.book.apart }))
             (change_fits images k.place x.pid sid borrowed k.next_sid at change k.holdings c m (taken_fits size k (change_by images k x e change) t (change_texts images k.place x.pid sid borrowed k.next_sid at change)))
-            (u_after k.processes x k.next_sid k.holdings k.place (place_change images k.place x.pid sid borrowed k.next_sid at change) sid borrowed change h r (λ n. taken_u size k (change_by images k x e change) n t));
-        aside = place_change_aside images k.place x.pid sid borrowed k.next_sid at change o.aside m;
-      };
+            (u_after k.processes x k.next_sid k.holdings k.place (place_change images k.place x.pid sid borrowed k.next_sid at change) sid borrowed change h r (λ n. taken_u size k (change_by images k x e change) n t)))
+        (place_change_aside images k.place x.pid sid borrowed k.next_sid at change o.aside m);
       tokens = s.tokens ∙ sym w.frames;
       hands = hands_stand k.place (place_change images k.place x.pid sid borrowed k.next_sid at change) w s.hands;
       few_transfers = subst (λ (ts : List Transfer). length ts ≤ 16) (sym u.transfers) s.few_transfers;
@@ -312,13 +313,11 @@ still_sound : (size : ℕ) (k : Kernel) (before : Holdings) → Sound size (reco
 still_sound size k before s t =
     let o : OneOwner size (lives k.processes) k.place before = s.owner in
     record {
-      owner = record {
-        frames = o.frames;
-        blocks = owns_from size (lives k.processes) k.place k.holdings (record { pieces = t.book.pieces; apart = t.book.apart })
+      owner = one_owner size (lives k.processes) k.place k.holdings o.frames
+        (owns_from size (lives k.processes) k.place k.holdings (record { pieces = t.book.pieces; apart = t.book.apart })
             (grows_fits k.place k.place k.holdings (grows_self k.place) (taken_fits size k k t (λ i. refl)))
-            (λ n. taken_u size k k n t ∙ u_some (lives k.processes n) (lives k.processes n) (λ a. a));
-        aside = o.aside;
-      };
+            (λ n. taken_u size k k n t ∙ u_some (lives k.processes n) (lives k.processes n) (λ a. a)))
+        o.aside;
       tokens = s.tokens;
       hands = s.hands;
       few_transfers = s.few_transfers;

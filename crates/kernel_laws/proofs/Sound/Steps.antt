@@ -29,7 +29,7 @@ use Rattle.page_laws.proofs.Ownership.Pages.{touch_owner, touch_turns}
 use Rattle.page_laws.proofs.Moves.Stays.{Steady}
 use Rattle.page_laws.proofs.Bytes.Others.{touch_steady}
 use Rattle.page_laws.proofs.Moves.KeptHands.{steady_keep, entry_keep}
-use Rattle.page_laws.proofs.Blocks.Aside.{IsBusy, turn_aside, blocks_still}
+use Rattle.page_laws.proofs.Blocks.Aside.{IsBusy, turn_aside, blocks_still, one_owner}
 use Rattle.page_laws.proofs.Blocks.Steps.{place_entry_one}
 use Rattle.page_laws.proofs.Moves.Transfers.{entry_count}
 
@@ -139,7 +139,8 @@ write_sound size k q f at byte s =
     let t : Steady k.place (touch k.place q) = touch_steady k.place q in
     let h = steady_keep k.place (touch k.place q) t in
     record {
-      owner = record { frames = touch_owner k.place q o.frames; blocks = blocks_still size (lives k.processes) k.place (touch k.place q) k.holdings t.sizes t.sharing o.blocks; aside = touch_aside k.place q o.frames o.aside };
+      owner = one_owner size (lives k.processes) (touch k.place q) k.holdings (touch_owner k.place q o.frames)
+          (blocks_still size (lives k.processes) k.place (touch k.place q) k.holdings t.sizes t.sharing o.blocks) (touch_aside k.place q o.frames o.aside);
       tokens = length_set_frame k.frames f (set (frame_bytes k f) at byte) ∙ s.tokens ∙ sym h.frames;
       hands = h.stand s.hands;
       few_transfers = let e = ap length (touch_transfers k.place q) in let l = s.few_transfers in omega arith;
@@ -158,6 +159,7 @@ alive_owner size a b p hs e o =
       frames = o.frames;
       blocks = record { book = w.book; data_held = w.data_held; stack_held = w.stack_held; text_held = w.text_held; u_held = λ pid. w.u_held pid ∙ ap (λ (x : Bool). u_pieces (u_blocks x)) (sym (e pid)) };
       aside = o.aside;
+      places = o.places;
     }
 
 lives_head : (c : Bool) (x y : Proc) (xs ys : Option Proc) → has_life x.life ≡ has_life y.life → lives_in xs ≡ lives_in ys → lives_in (cond c (Some x) xs) ≡ lives_in (cond c (Some y) ys)

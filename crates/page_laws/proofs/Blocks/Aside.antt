@@ -7,7 +7,7 @@ use Rattle.vm_facts.specs.declared.page.PageState.TheVariants.{Unfilled, Valid, 
 use Rattle.page_model.specs.Chunks.{pieces}
 use Rattle.page_model.specs.Owner.TheVariants as owners
 use Rattle.page_model.specs.Holdings.{Holdings}
-use Rattle.page_model.specs.Book.{ArePlacesApart}
+use Rattle.page_model.specs.Book.{IsBook, ArePlacesApart}
 use Rattle.page_model.proofs.PlaceLaws.{places_apart_of}
 use Rattle.page_model.specs.Pages.{Slot, frame_of, left_state, written_mark}
 use Rattle.flat_state.specs.PageNames.{number_of}
@@ -15,7 +15,7 @@ use Rattle.vm_facts.specs.Lists.{times}
 use Rattle.page_model.specs.Placement.{Placement, Transfer, slots_of, slot_of, state_of, mark_of, page_of, sharers, IsThere}
 use Rattle.page_model.specs.Moves.{evict, evict_at, enter, turn}
 use Rattle.page_model.specs.Conditions.{IsShared}
-use Rattle.page_model.specs.Ownership.{OwnsFrames, OwnsBlocks, OneOwner, IsAside, TextAside, block_of, text_pieces_while, needs_blocks, needs_blocks_by}
+use Rattle.page_model.specs.Ownership.{OwnsFrames, OwnsBlocks, OneOwner, IsAside, TextAside, owner_of, block_of, text_pieces_while, needs_blocks, needs_blocks_by, HasBlocks}
 use Rattle.page_laws.proofs.Lists.Pages.{page_cases, put_state, put_mark, put_sharers}
 use Rattle.page_laws.proofs.Lists.Local.{Local, other_state, other_mark}
 use Rattle.page_laws.proofs.Moves.Steps.{Turns, turn_local, Enters, enter_local, page_in, evict_local, evict_owner}
@@ -134,10 +134,26 @@ needs_shared p (Text image v) a e = elim (unshared_or (sharers p image)) [
   | inr k ↦ (let h = k.1 in omega arith)
 ]
 
--- Each page on swap, on its way there or from there, and each saved text page, has its two blocks in its own owner's
--- holding.
+found_own : (size : ℕ) (hs : Holdings) (q : Page) → IsBook size hs → IsSome (block_of hs q) → HasBlocks size hs q
+found_own size hs q book some = go (block_of hs q) refl some
+  where
+    apart : ArePlacesApart size hs
+    apart = places_apart_of size hs book
+
+    go : (x : Option ℕ) → block_of hs q ≡ x → IsSome x → HasBlocks size hs q
+    go None e s = absurd cc
+    go (Some b) e s = record { first = b; found = e; own = apart.own (owner_of q) (number_of q) b e }
+
+-- Each page on swap, in a transfer, and each saved text page, has its two blocks in its own owner's holding.
+pub needed_found : (size : ℕ) (lives : ℕ → Bool) (p : Placement) (hs : Holdings) → OwnsBlocks size lives p hs → TextAside p → (q : Page) → needs_blocks p q ≡ true → HasBlocks size hs q
+needed_found size lives p hs o a q e = found_own size hs q o.book (has_blocks size lives p hs q o (needs_there p q e) (needs_shared p q a e))
+
+-- The frames, the blocks and the text have their owners, and so each page has the blocks that it needs.
+pub one_owner : (size : ℕ) (lives : ℕ → Bool) (p : Placement) (hs : Holdings) → OwnsFrames p → OwnsBlocks size lives p hs → TextAside p → OneOwner size lives p hs
+one_owner size lives p hs f o a = record { frames = f; blocks = o; aside = a; places = needed_found size lives p hs o a }
+
 pub places_found : (size : ℕ) (lives : ℕ → Bool) (p : Placement) (hs : Holdings) (q : Page) → OneOwner size lives p hs → needs_blocks p q ≡ true → IsSome (block_of hs q)
-places_found size lives p hs q o e = has_blocks size lives p hs q o.blocks (needs_there p q e) (needs_shared p q o.aside e)
+places_found size lives p hs q o e = let b : HasBlocks size hs q = o.places q e in subst IsSome (sym b.found) refl
 
 -- the same sizes and sharers, the same holdings
 pub blocks_still : (size : ℕ) (lives : ℕ → Bool) (p q : Placement) (hs : Holdings) → ((w : Page) → length (slots_of q w) ≡ length (slots_of p w)) → ((image : ℕ) → sharers q image ≡ sharers p image)

@@ -29,7 +29,7 @@ use Rattle.page_laws.proofs.Lists.Runs.{each_page_imp, each_page_both, pages_fro
 use Rattle.page_laws.proofs.Ownership.Runs.{begin_owner, get_enters_still, get_open_still, launch_still, launch_open_still, clean_unmarked, written_clean, coming_clean, Landing, landing_state, land_owner, land_transfers, tail_turns, valid_turns}
 use Rattle.page_laws.proofs.Ownership.Hands.{run_out_seats, move_owner}
 use Rattle.page_laws.proofs.Ownership.Entries.{place_entry_owner}
-use Rattle.page_laws.proofs.Blocks.Aside.{IsBusy, turn_aside, enter_aside, evict_aside, evict_sharers, blocks_still}
+use Rattle.page_laws.proofs.Blocks.Aside.{IsBusy, turn_aside, enter_aside, evict_aside, evict_sharers, blocks_still, one_owner}
 
 filled_aside : (p : Placement) (v : Page) → OwnsFrames p → CanEnter p v → TextAside p → IsShared p v → TextAside (filled p v)
 filled_aside p v o c a s = λ i n z. let k = go p.free refl i n z in record { unsaved = k.unsaved; rests = k.rests }
@@ -267,8 +267,5 @@ entry_shape = entry_kept shape_by_puts (λ p ds. shape_alike p (record p { due =
 pub place_entry_one : (size : ℕ) (lives : ℕ → Bool) (hs : Holdings) (locked : List Page) (at : ℕ) (p : Placement) (e : Entry) → OneOwner size lives p hs → CanPlace p e → EntryShared p e → OneOwner size lives (place_entry locked at p e) hs
 place_entry_one size lives hs locked at p e o c s =
     let k : SameShape p (place_entry locked at p e) = entry_shape locked at p e in
-    record {
-      frames = place_entry_owner locked at p e o.frames c;
-      blocks = blocks_still size lives p (place_entry locked at p e) hs k.sizes k.sharing o.blocks;
-      aside = entry_aside locked at p e o.frames c s o.aside;
-    }
+    one_owner size lives (place_entry locked at p e) hs (place_entry_owner locked at p e o.frames c)
+        (blocks_still size lives p (place_entry locked at p e) hs k.sizes k.sharing o.blocks) (entry_aside locked at p e o.frames c s o.aside)

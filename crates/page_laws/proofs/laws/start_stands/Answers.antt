@@ -1,4 +1,6 @@
 use Rattle.page_laws.proofs.Starts.{start_blank, start_owner, start_hands, start_aside}
+use Rattle.page_model.specs.Placement.{start_placement}
+use Rattle.page_laws.proofs.Blocks.Aside.{one_owner}
 use Rattle.page_laws.proofs.laws.start_stands.Goals as goal
 
 pub returns-clause-blank : goal.returns-clause-blank
@@ -14,4 +16,5 @@ pub returns-clause-text : goal.returns-clause-text
 returns-clause-text c = start_aside
 
 pub returns-clause-owner : goal.returns-clause-owner
-returns-clause-owner c = λ size lives images first frames hs b. record { frames = start_owner images first frames; blocks = b; aside = start_aside images first frames }
+returns-clause-owner c = λ size lives images first frames hs b.
+    one_owner size lives (start_placement images first frames) hs (start_owner images first frames) b (start_aside images first frames)
