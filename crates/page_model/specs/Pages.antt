@@ -108,7 +108,7 @@ is_dirty_by (Data sid v) dirty = dirty
 is_dirty_by (Stack sid v) dirty = dirty
 is_dirty_by (Text image v) saved = not saved
 
--- the mark of a page that was just written to swap, or was given up
+-- the mark of a page whose write to swap has ended: data and stack are clean, text is saved
 abbrev pub written_mark : Page → Bool
 written_mark (Data sid v) = false
 written_mark (Stack sid v) = false

@@ -91,7 +91,7 @@ filling_by (Text image v) x = OfImage
 abbrev pub filling_of : Placement → Page → Filling
 filling_of p q = filling_by q (slot_of p q).filling
 
--- a data or stack page is dirty, or a text page isn't saved
+-- a data or stack page is dirty, or a text page isn't saved; so text that is Unfilled counts as dirty, and no step asks it
 abbrev pub is_dirty : Placement → Page → Bool
 is_dirty p q = is_dirty_by q (mark_of p q)
 

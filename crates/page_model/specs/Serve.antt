@@ -89,7 +89,7 @@ serve_entry_by p q (Going f) = entries.Done
 serve_entry_by p q Unfilled = feed_entry_by p q Unfilled (filling_of p q) p.free (is_full p)
 serve_entry_by p q OnSwap = feed_entry_by p q OnSwap (filling_of p q) p.free (is_full p)
 
--- the entry of that unit; of a valid page there is none
+-- the entry of that unit; a valid page has no unit, as `serve_unit` says, and `Done` stands here
 abbrev pub serve_entry : Placement → Page → Entry
 serve_entry p q = serve_entry_by p q (state_of p q)
 

@@ -216,15 +216,15 @@ text_whole (suc n) pages = whole_from (text_pieces (2 * pages)) (λ i m e. piece
 pub start_found : (size : ℕ) (images : List Image) (first : List Starting) (frames : ℕ) (hs : Holdings) → place_all size [] (start_asks (start_placement images first frames) [] 1 first) ≡ Ok hs
     → OneOwner size (is_started 1 first) (start_placement images first frames) hs
 start_found size images first frames hs e = one_owner size (is_started 1 first) p hs (start_owner images first frames)
-  (owns_from size (is_started 1 first) p hs
-      (found_apart size [] hs ws (record { pieces = λ k d l. absurd (omega arith); apart = λ i j d o l. absurd (omega arith) }) (wanted_whole ws whole) e)
-      (record {
-        of_data = λ t. found_lengths size [] hs ws (owners.Data t) e ∙ data_asked p [] 1 first t;
-        of_stack = λ t. found_lengths size [] hs ws (owners.Stack t) e ∙ stack_asked p [] 1 first t;
-        of_text = λ i. found_lengths size [] hs ws (owners.Text i) e ∙ text_all p [] 1 first i refl;
-      })
-      (λ n. found_lengths size [] hs ws (owners.U n) e ∙ u_asked p [] 1 first n))
-  (start_aside images first frames)
+    (owns_from size (is_started 1 first) p hs
+    (found_apart size [] hs ws (record { pieces = λ k d l. absurd (omega arith); apart = λ i j d o l. absurd (omega arith) }) (wanted_whole ws whole) e)
+    (record {
+      of_data = λ t. found_lengths size [] hs ws (owners.Data t) e ∙ data_asked p [] 1 first t;
+      of_stack = λ t. found_lengths size [] hs ws (owners.Stack t) e ∙ stack_asked p [] 1 first t;
+      of_text = λ i. found_lengths size [] hs ws (owners.Text i) e ∙ text_all p [] 1 first i refl;
+    })
+    (λ n. found_lengths size [] hs ws (owners.U n) e ∙ u_asked p [] 1 first n))
+    (start_aside images first frames)
   where
     p : Placement
     p = start_placement images first frames

@@ -80,12 +80,12 @@ pub begin_sound : (size : ℕ) (k : Kernel) (found : Holdings) (image : ℕ) (na
     → place_all size k.holdings (begin_asks k.place k.next_pid image facts) ≡ Ok found → Sound size (begin_step k found image name facts)
 begin_sound size k found image name facts s n e pieces = record {
   owner = one_owner size (lives l.processes) l.place found
-    (let f : OwnsFrames (enter_space k.place pid image facts) = enter_space_owner k.place pid image facts o.frames new in
-        record { once = f.once; frames = f.frames; names = f.names; named = f.named; listed = λ g q a b. let i = f.listed g q a b in record { state = i.state; clean = i.clean }; moves = f.moves; dirty = f.dirty })
-    (owns_from size (lives l.processes) l.place found (let b = taken.book in record { pieces = b.pieces; apart = b.apart })
-        (grows_fits k.place l.place found grows (taken_fits size with l taken (λ i. refl)))
-        (λ m. taken_u size with l m taken ∙ u_some (lives k.processes m) (lives l.processes m) (append_alive k.processes (record { pid = pid; parent = 0; regs = Rattle.flat_state.specs.Flat.start_regs facts.entry (name ∷ []); life = Rattle.kernel_model.specs.Kernel.HoldsSpace pid; asleep = false } ∷ []) m)))
-    (λ i v z. let a = add_aside k.place (new_pages pid image facts) l.place.due o.aside i v z in record { unsaved = a.unsaved; rests = a.rests });
+      (let f : OwnsFrames (enter_space k.place pid image facts) = enter_space_owner k.place pid image facts o.frames new in
+      record { once = f.once; frames = f.frames; names = f.names; named = f.named; listed = λ g q a b. let i = f.listed g q a b in record { state = i.state; clean = i.clean }; moves = f.moves; dirty = f.dirty })
+      (owns_from size (lives l.processes) l.place found (let b = taken.book in record { pieces = b.pieces; apart = b.apart })
+      (grows_fits k.place l.place found grows (taken_fits size with l taken (λ i. refl)))
+      (λ m. taken_u size with l m taken ∙ u_some (lives k.processes m) (lives l.processes m) (append_alive k.processes (record { pid = pid; parent = 0; regs = Rattle.flat_state.specs.Flat.start_regs facts.entry (name ∷ []); life = Rattle.kernel_model.specs.Kernel.HoldsSpace pid; asleep = false } ∷ []) m)))
+      (λ i v z. let a = add_aside k.place (new_pages pid image facts) l.place.due o.aside i v z in record { unsaved = a.unsaved; rests = a.rests });
   tokens = s.tokens;
   hands = hands_stand k.place l.place (record { front = refl; back = refl; frames = refl }) s.hands;
   few_transfers = s.few_transfers;

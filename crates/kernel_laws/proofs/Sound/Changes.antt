@@ -295,14 +295,14 @@ change_sound size images k before x e change h s t c m r =
     let w : SameHands k.place (place_change images k.place x.pid sid borrowed k.next_sid at change) = u.hands in
     record {
       owner = one_owner size (lives (procs_after k.processes x k.next_sid change)) (place_change images k.place x.pid sid borrowed k.next_sid at change)
-        (holdings_after k.holdings k.place (place_change images k.place x.pid sid borrowed k.next_sid at change) x.pid sid borrowed change)
-        (place_change_owner images k.place x.pid sid borrowed k.next_sid at change o.frames c)
-        (owns_from size (lives (procs_after k.processes x k.next_sid change)) (place_change images k.place x.pid sid borrowed k.next_sid at change)
-            (holdings_after k.holdings k.place (place_change images k.place x.pid sid borrowed k.next_sid at change) x.pid sid borrowed change)
-            (after_apart size k.holdings k.place (place_change images k.place x.pid sid borrowed k.next_sid at change) x.pid sid borrowed change (record { pieces = t.book.pieces; apart = t.book.apart }))
-            (change_fits images k.place x.pid sid borrowed k.next_sid at change k.holdings c m (taken_fits size k (change_by images k x e change) t (change_texts images k.place x.pid sid borrowed k.next_sid at change)))
-            (u_after k.processes x k.next_sid k.holdings k.place (place_change images k.place x.pid sid borrowed k.next_sid at change) sid borrowed change h r (λ n. taken_u size k (change_by images k x e change) n t)))
-        (place_change_aside images k.place x.pid sid borrowed k.next_sid at change o.aside m);
+          (holdings_after k.holdings k.place (place_change images k.place x.pid sid borrowed k.next_sid at change) x.pid sid borrowed change)
+          (place_change_owner images k.place x.pid sid borrowed k.next_sid at change o.frames c)
+          (owns_from size (lives (procs_after k.processes x k.next_sid change)) (place_change images k.place x.pid sid borrowed k.next_sid at change)
+          (holdings_after k.holdings k.place (place_change images k.place x.pid sid borrowed k.next_sid at change) x.pid sid borrowed change)
+          (after_apart size k.holdings k.place (place_change images k.place x.pid sid borrowed k.next_sid at change) x.pid sid borrowed change (record { pieces = t.book.pieces; apart = t.book.apart }))
+          (change_fits images k.place x.pid sid borrowed k.next_sid at change k.holdings c m (taken_fits size k (change_by images k x e change) t (change_texts images k.place x.pid sid borrowed k.next_sid at change)))
+          (u_after k.processes x k.next_sid k.holdings k.place (place_change images k.place x.pid sid borrowed k.next_sid at change) sid borrowed change h r (λ n. taken_u size k (change_by images k x e change) n t)))
+          (place_change_aside images k.place x.pid sid borrowed k.next_sid at change o.aside m);
       tokens = s.tokens ∙ sym w.frames;
       hands = hands_stand k.place (place_change images k.place x.pid sid borrowed k.next_sid at change) w s.hands;
       few_transfers = subst (λ (ts : List Transfer). length ts ≤ 16) (sym u.transfers) s.few_transfers;
@@ -314,10 +314,10 @@ still_sound size k before s t =
     let o : OneOwner size (lives k.processes) k.place before = s.owner in
     record {
       owner = one_owner size (lives k.processes) k.place k.holdings o.frames
-        (owns_from size (lives k.processes) k.place k.holdings (record { pieces = t.book.pieces; apart = t.book.apart })
-            (grows_fits k.place k.place k.holdings (grows_self k.place) (taken_fits size k k t (λ i. refl)))
-            (λ n. taken_u size k k n t ∙ u_some (lives k.processes n) (lives k.processes n) (λ a. a)))
-        o.aside;
+          (owns_from size (lives k.processes) k.place k.holdings (record { pieces = t.book.pieces; apart = t.book.apart })
+          (grows_fits k.place k.place k.holdings (grows_self k.place) (taken_fits size k k t (λ i. refl)))
+          (λ n. taken_u size k k n t ∙ u_some (lives k.processes n) (lives k.processes n) (λ a. a)))
+          o.aside;
       tokens = s.tokens;
       hands = s.hands;
       few_transfers = s.few_transfers;

@@ -268,4 +268,4 @@ pub place_entry_one : (size : ℕ) (lives : ℕ → Bool) (hs : Holdings) (locke
 place_entry_one size lives hs locked at p e o c s =
     let k : SameShape p (place_entry locked at p e) = entry_shape locked at p e in
     one_owner size lives (place_entry locked at p e) hs (place_entry_owner locked at p e o.frames c)
-        (blocks_still size lives p (place_entry locked at p e) hs k.sizes k.sharing o.blocks) (entry_aside locked at p e o.frames c s o.aside)
+    (blocks_still size lives p (place_entry locked at p e) hs k.sizes k.sharing o.blocks) (entry_aside locked at p e o.frames c s o.aside)
