@@ -1,0 +1,6 @@
+pub mod Carrying
+pub mod Counting
+pub mod Framing
+pub mod Places
+pub mod Telling
+pub mod Area

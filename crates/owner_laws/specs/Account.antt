@@ -1,0 +1,22 @@
+-- What is printed of who owns what, part by part.
+use Rattle.std.specs.Prelude.{◌≡◌, ℕ, Bool, List, ◌++◌}
+use Rattle.std.specs.List.{flat_map}
+use Rattle.vm_facts.specs.declared.entry.Entry.TheVariants as noted
+use Rattle.page_model.specs.Holdings.{Holdings}
+use Rattle.page_model.specs.Placement.{Placement}
+use Rattle.kernel_model.specs.Coupled.{Outline}
+use Rattle.run_model.specs.Next.{owners_of}
+use Rattle.owner_lines.specs.Owners.{entries_line, hands_line, transfers_from, process_line, due_line}
+use Rattle.owner_laws.specs.Lines.{FrameLine, frame_text, counted, free_one, used_one, moving_one, Extent, extent_text, blocks_told}
+use Rattle.owner_laws.specs.Told.{FramesTold, SwapTold}
+
+-- The text is its parts in this order, of which those of the frames and of the swap area tell all of them and what is so.
+pub record OwnersTold (entries : ℕ) (over : Bool) (p : Placement) (hs : Holdings) (size : ℕ) (processes : List Outline) (text : List ℕ) : Type 0 where
+  pub frames : List FrameLine
+  pub swap : List Extent
+  pub parts : text ≡ entries_line entries over ++ hands_line p ++ flat_map frame_text frames ++ transfers_from hs 1 p.transfers
+      ++ flat_map (process_line p) processes ++ flat_map due_line p.due ++ flat_map extent_text swap
+  pub frames_so : FramesTold p frames
+  pub swap_so : SwapTold size hs swap
+  -- the lines of each kind are as many, and the blocks that are held, as the journal's entry of owners says
+  pub numbers : owners_of p hs ≡ noted.Owners (counted free_one frames) (counted used_one frames) (counted moving_one frames) (blocks_told swap)

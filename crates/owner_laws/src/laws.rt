@@ -1,0 +1,34 @@
+ghost use Rattle.std.specs.Prelude.{◌≡◌, ℕ, Bool, List};
+ghost use Rattle.std.specs.List.{flat_map};
+ghost use Rattle.page_model.specs.Book.{IsBook};
+ghost use Rattle.page_model.specs.Holdings.{Holdings};
+ghost use Rattle.page_model.specs.Placement.{Placement};
+ghost use Rattle.page_model.specs.Ownership.{OwnsFrames, OneOwner};
+ghost use Rattle.kernel_model.specs.Coupled.{Outline};
+ghost use Rattle.owner_lines.specs.Owners.{frame_lines, swap_lines, owners_text};
+ghost use Rattle.owner_laws.specs.Lines.{FrameLine, frame_text, Extent, extent_text};
+ghost use Rattle.owner_laws.specs.Told.{FramesTold, SwapTold};
+ghost use Rattle.owner_laws.specs.Account.{OwnersTold};
+
+/// Where each frame has one owner, the lines of frames are one for each, in order, and what a line says is so: a free frame
+/// stands at the place that is told, a used one is off the free list with its page, and one in a transfer is a part of the
+/// transfer of that number. The places that are told are those from 1 to the free list's length, each once.
+pub fn frames_are_told()
+    ensures { (p : Placement) → OwnsFrames p
+        → (lines : List FrameLine) × (frame_lines p ≡ flat_map frame_text lines) × FramesTold p lines }
+{}
+
+/// Where no two holdings overlap, the lines of the swap area are rows of blocks that cover it from its first block to its
+/// last, each from where the one before it ends; and each block is told with its holder, or as free.
+pub fn swap_is_told()
+    ensures { (size : ℕ) (hs : Holdings) → IsBook size hs
+        → (rows : List Extent) × (swap_lines size hs ≡ flat_map extent_text rows) × SwapTold size hs rows }
+{}
+
+/// Where each frame and each block has one owner or is free, the whole text is its parts in order, with such lines of frames
+/// and of the swap area. What can be counted off these is what the journal's entry of owners says of the same placement and
+/// holdings: the frames that are free, used and in transfers, and the blocks that are held.
+pub fn owners_are_told()
+    ensures { (entries size : ℕ) (over : Bool) (lives : ℕ → Bool) (p : Placement) (hs : Holdings) (processes : List Outline)
+        → OneOwner size lives p hs → OwnersTold entries over p hs size processes (owners_text entries over p hs size processes) }
+{}

@@ -1,0 +1,10 @@
+//! Laws of what is printed of who owns what. There is no code here: each law is the clause of a function with no body.
+//!
+//! - `frames_are_told`: each frame has one line, which is so of it; the places on the free list are each told once.
+//! - `swap_is_told`: the rows of blocks cover the swap area once, each block with its holder.
+//! - `owners_are_told`: the whole text, whose numbers are those that the journal's entry of owners says.
+#![tactic(auto)]
+
+mod laws;
+
+pub use laws::{frames_are_told, owners_are_told, swap_is_told};
