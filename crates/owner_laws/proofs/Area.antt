@@ -70,7 +70,9 @@ gap_tile false b mid end xs e low t =
 
 pub tile : (size b : ℕ) (hs : Holdings) → b ≤ size → Follow b hs → Each (Ends size) hs → Tile b size (extents_from size b hs)
 tile size b [] low f ends = gap_tile (ltb b size) b size size [] refl low refl
-tile size b (h ∷ hs) low f ends = gap_tile (ltb b h.start) b h.start size (row h ∷ extents_from size (h.start + h.length) hs) refl f.0 (refl, f.1, tile size (h.start + h.length) hs ends.0 f.2 ends.1)
+tile size b (h ∷ hs) low f ends =
+    gap_tile (ltb b h.start) b h.start size (row h ∷ extents_from size (h.start + h.length) hs)
+    refl f.0 (refl, f.1, tile size (h.start + h.length) hs ends.0 f.2 ends.1)
 
 -- Each block is told with its holder.
 
@@ -112,7 +114,9 @@ gap_free false b mid xs = refl
 
 pub blocks_counted : (size b : ℕ) (hs : Holdings) → blocks_told (extents_from size b hs) ≡ blocks_held hs
 blocks_counted size b [] = gap_free (ltb b size) b size []
-blocks_counted size b (h ∷ hs) = gap_free (ltb b h.start) b h.start (row h ∷ extents_from size (h.start + h.length) hs) ∙ ap (λ (n : ℕ). h.length + n) (blocks_counted size (h.start + h.length) hs)
+blocks_counted size b (h ∷ hs) =
+    gap_free (ltb b h.start) b h.start (row h ∷ extents_from size (h.start + h.length) hs)
+    ∙ ap (λ (n : ℕ). h.length + n) (blocks_counted size (h.start + h.length) hs)
 
 -- The pieces by their first blocks are the pieces.
 

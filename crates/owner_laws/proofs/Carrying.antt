@@ -32,7 +32,8 @@ search_parts f e (x ∷ xs) = elim (cases_Bool (eqb x.frame f)) [
     further miss (There q some part) = There q (ap (λ (b : Bool). b || list_any (λ (y : Part). y.frame == f) xs) miss ∙ some) (inr part)
 
 -- the page that a transfer has in a frame is on its way
-part_moves : (p : Placement) (f : ℕ) (e : Errand) (q : Page) (xs : List Part) (rest : List Moving) → Each (IsMoving p) (map (moving e) xs ++ rest) → HasPart q f xs → state_of p q ≡ moving_state e f
+part_moves : (p : Placement) (f : ℕ) (e : Errand) (q : Page) (xs : List Part) (rest : List Moving) → Each (IsMoving p) (map (moving e) xs ++ rest)
+    → HasPart q f xs → state_of p q ≡ moving_state e f
 part_moves p f e q [] rest m h = absurd h
 part_moves p f e q (x ∷ xs) rest m (inl h) = ap (state_of p) (sym h.0) ∙ m.0 ∙ ap (moving_state e) h.1
 part_moves p f e q (x ∷ xs) rest m (inr h) = part_moves p f e q xs rest m.1 h

@@ -65,9 +65,10 @@ module _ (p : Placement) (owns : OwnsFrames p) (f : ℕ) (w : IsFrame p f) where
         moving = omega (arith, once, some);
       }
 
-  used : (q : Page) (valid : Bool) → free_place p f ≡ 0 → times f p.free ≡ 0 → times f (flying (parts_of p.transfers)) ≡ 0 → page_of p f ≡ Some q → (s : PageState) → state_of p q ≡ s → seats (times f p.free) s ≡ 1 → Found p f
-  used q valid place off still page Unfilled s seat = absurd (omega (arith, seat))
-  used q valid place off still page (Valid g) s seat =
+  used : (q : Page) → free_place p f ≡ 0 → times f p.free ≡ 0 → times f (flying (parts_of p.transfers)) ≡ 0 → page_of p f ≡ Some q
+      → (s : PageState) → state_of p q ≡ s → seats (times f p.free) s ≡ 1 → Found p f
+  used q place off still page Unfilled s seat = absurd (omega (arith, seat))
+  used q place off still page (Valid g) s seat =
       let same : g ≡ f = same_Some g f (sym (ap frame_of s) ∙ owns.named f q page) in
       record {
         said = Used true q (is_unsaved p q);
@@ -76,7 +77,7 @@ module _ (p : Placement) (owns : OwnsFrames p) (f : ℕ) (w : IsFrame p f) where
         free = off;
         moving = still;
       }
-  used q valid place off still page (Invalid g) s seat =
+  used q place off still page (Invalid g) s seat =
       let same : g ≡ f = same_Some g f (sym (ap frame_of s) ∙ owns.named f q page) in
       record {
         said = Used false q (is_unsaved p q);
@@ -85,13 +86,13 @@ module _ (p : Placement) (owns : OwnsFrames p) (f : ℕ) (w : IsFrame p f) where
         free = off;
         moving = still;
       }
-  used q valid place off still page (Coming g) s seat = absurd (omega (arith, seat))
-  used q valid place off still page (Going g) s seat = absurd (omega (arith, seat))
-  used q valid place off still page OnSwap s seat = absurd (omega (arith, seat))
+  used q place off still page (Coming g) s seat = absurd (omega (arith, seat))
+  used q place off still page (Going g) s seat = absurd (omega (arith, seat))
+  used q place off still page OnSwap s seat = absurd (omega (arith, seat))
 
   kept : (o : Option Page) → page_of p f ≡ o → free_place p f ≡ 0 → times f p.free ≡ 0 → times f (flying (parts_of p.transfers)) ≡ 0 → seated_of p f o ≡ 1 → Found p f
   kept None page place off still seat = absurd (omega (arith, seat))
-  kept (Some q) page place off still seat = used q true place off still page (state_of p q) refl seat
+  kept (Some q) page place off still seat = used q place off still page (state_of p q) refl seat
 
   moved_by : (e : Errand) (q : Page) (n : ℕ) → carrier p f ≡ n → used_by p q (moving_state e f) ≡ moved_text (carrying_word (is_write e)) n q
   moved_by Writes q n number = ap (λ (k : ℕ). moved_text (codes " write") k q) number

@@ -56,7 +56,8 @@ none_there p k (x ∷ xs) at so =
     let rest = none_there p k xs at so.1 in
     omega (arith, split, here, rest)
 
-pub places_once : (p : Placement) (xs : List FrameLine) → OwnsFrames p → frames_told xs ≡ count_up 1 (length p.holds) → AreSo p xs → (k : ℕ) → times k (places_told xs) ≡ times k (count_up 1 (length p.free))
+pub places_once : (p : Placement) (xs : List FrameLine) → OwnsFrames p → frames_told xs ≡ count_up 1 (length p.holds) → AreSo p xs
+    → (k : ℕ) → times k (places_told xs) ≡ times k (count_up 1 (length p.free))
 places_once p xs owns frames so zero = none_there p 0 xs refl so ∙ sym (row_below 0 1 (length p.free) (omega arith))
 places_once p xs owns frames so (suc i) = elim ((slice_get_cases p.free i).1) [
   | inl there ↦

@@ -1,12 +1,14 @@
 -- What is printed of who owns what, part by part.
-use Rattle.std.specs.Prelude.{◌≡◌, ℕ, Bool, List, ◌++◌}
+use Rattle.std.specs.Prelude.{◌≡◌, ℕ, Bool, List, ◌++◌, map}
 use Rattle.std.specs.List.{flat_map}
 use Rattle.vm_facts.specs.declared.entry.Entry.TheVariants as noted
+use Rattle.flat_state.specs.Flat.{Inputs}
 use Rattle.page_model.specs.Holdings.{Holdings}
 use Rattle.page_model.specs.Placement.{Placement}
-use Rattle.kernel_model.specs.Coupled.{Outline}
+use Rattle.kernel_model.specs.Coupled.{Outline, outline_of}
+use Rattle.run_model.specs.State.{State}
 use Rattle.run_model.specs.Next.{owners_of}
-use Rattle.owner_lines.specs.Owners.{entries_line, hands_line, transfers_from, process_line, due_line}
+use Rattle.owner_lines.specs.Owners.{entries_line, hands_line, transfers_from, process_line, due_line, owners_text}
 use Rattle.owner_laws.specs.Lines.{FrameLine, frame_text, counted, free_one, used_one, moving_one, Extent, extent_text, blocks_told}
 use Rattle.owner_laws.specs.Told.{FramesTold, SwapTold}
 
@@ -20,3 +22,11 @@ pub record OwnersTold (entries : ℕ) (over : Bool) (p : Placement) (hs : Holdin
   pub swap_so : SwapTold size hs swap
   -- the lines of each kind are as many, and the blocks that are held, as the journal's entry of owners says
   pub numbers : owners_of p hs ≡ noted.Owners (counted free_one frames) (counted used_one frames) (counted moving_one frames) (blocks_told swap)
+
+-- what is printed at a state of a run, after so many entries
+abbrev pub text_at : Inputs → ℕ → Bool → State → List ℕ
+text_at A entries over s = owners_text entries over s.place s.holdings A.swap_blocks (map outline_of s.point.flat.processes)
+
+-- it is so told of that state
+abbrev pub IsToldAt : Inputs → ℕ → Bool → State → List ℕ → Type 0
+IsToldAt A entries over s text = OwnersTold entries over s.place s.holdings A.swap_blocks (map outline_of s.point.flat.processes) text

@@ -1,14 +1,19 @@
 ghost use Rattle.std.specs.Prelude.{◌≡◌, ℕ, Bool, List};
 ghost use Rattle.std.specs.List.{flat_map};
+ghost use Rattle.vm_facts.specs.declared.entry.Entry.{Entry};
+ghost use Rattle.flat_state.specs.Flat.{Inputs};
 ghost use Rattle.page_model.specs.Book.{IsBook};
 ghost use Rattle.page_model.specs.Holdings.{Holdings};
 ghost use Rattle.page_model.specs.Placement.{Placement};
 ghost use Rattle.page_model.specs.Ownership.{OwnsFrames, OneOwner};
 ghost use Rattle.kernel_model.specs.Coupled.{Outline};
+ghost use Rattle.run_model.specs.State.{State};
+ghost use Rattle.run_model.specs.Lawful.{Reaches};
+ghost use Rattle.run_laws.specs.Running.{CanRun};
 ghost use Rattle.owner_lines.specs.Owners.{frame_lines, swap_lines, owners_text};
 ghost use Rattle.owner_laws.specs.Lines.{FrameLine, frame_text, Extent, extent_text};
 ghost use Rattle.owner_laws.specs.Told.{FramesTold, SwapTold};
-ghost use Rattle.owner_laws.specs.Account.{OwnersTold};
+ghost use Rattle.owner_laws.specs.Account.{OwnersTold, text_at, IsToldAt};
 
 /// Where each frame has one owner, the lines of frames are one for each, in order, and what a line says is so: a free frame
 /// stands at the place that is told, a used one is off the free list with its page, and one in a transfer is a part of the
@@ -31,4 +36,11 @@ pub fn swap_is_told()
 pub fn owners_are_told()
     ensures { (entries size : ℕ) (over : Bool) (lives : ℕ → Bool) (p : Placement) (hs : Holdings) (processes : List Outline)
         → OneOwner size lives p hs → OwnersTold entries over p hs size processes (owners_text entries over p hs size processes) }
+{}
+
+/// The same is so wherever a run is: of what is printed at each state that its next units reach, after as many entries as its
+/// journal has.
+pub fn runs_are_told()
+    ensures { (A : Inputs) (hs : Holdings) (journal : List Entry) (s : State) (entries : ℕ) (over : Bool) → CanRun A hs → Reaches A journal s
+        → IsToldAt A entries over s (text_at A entries over s) }
 {}

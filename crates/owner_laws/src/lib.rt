@@ -3,8 +3,9 @@
 //! - `frames_are_told`: each frame has one line, which is so of it; the places on the free list are each told once.
 //! - `swap_is_told`: the rows of blocks cover the swap area once, each block with its holder.
 //! - `owners_are_told`: the whole text, whose numbers are those that the journal's entry of owners says.
+//! - `runs_are_told`: so it is at each state of a run.
 #![tactic(auto)]
 
 mod laws;
 
-pub use laws::{frames_are_told, owners_are_told, swap_is_told};
+pub use laws::{frames_are_told, owners_are_told, runs_are_told, swap_is_told};
