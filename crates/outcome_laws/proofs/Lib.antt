@@ -1,0 +1,5 @@
+pub mod Numbers
+pub mod Children
+pub mod Steps
+pub mod Acts
+pub mod Pairs

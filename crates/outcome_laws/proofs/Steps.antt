@@ -1,0 +1,173 @@
+-- A flat entry that is no fork's leaves each process with the one number.
+use Rattle.std.proofs.Common.{◌≡◌, ℕ, ◌==◌, Bool, true, false, ◌&&◌, List, [], ◌∷◌, Option, Some, None, Result, Ok, Err, ℤ, refl, ap, ◌∙◌, subst, if◌then◌else◌}
+use Rattle.std.proofs.lemmas.Bool.{eqb-true, and_parts}
+use Rattle.std.proofs.lemmas.Option.{same_Some}
+use Rattle.vm_facts.specs.Answers.{ByteWrite}
+use Rattle.flat_state.specs.Space.{Space, answers_of, puts}
+use Rattle.flat_state.specs.Flat.{Holding, Holds, Lends, Zombie, Process, FlatState, NamedImage, Inputs, process_of, can_step}
+use Rattle.vm_facts.specs.declared.entry.Entry.{Entry}
+use Rattle.vm_facts.specs.declared.entry.Entry.TheVariants as entries
+use Rattle.vm_facts.specs.declared.regs.Regs.{Regs}
+use Rattle.user_vax.specs.Effects.{Effect}
+use Rattle.user_vax.specs.declared.refused.Refused.{Refused}
+use Rattle.user_vax.specs.declared.refused.Refused.TheVariants.{Miss, Below, Signal}
+use Rattle.flat_state.specs.Change.{apply_change, apply_writes}
+use Rattle.flat_state.specs.declared.change.Change.{Change}
+use Rattle.flat_state.specs.declared.change.Change.TheVariants.{Keep, Sleep, End}
+use Rattle.flat_model.specs.declared.calls.Reply.{Reply}
+use Rattle.flat_model.specs.declared.calls.Reply.TheVariants as replies
+use Rattle.flat_model.specs.declared.calls.SystemCall.{SystemCall}
+use Rattle.flat_model.specs.Calls.{call_of}
+use Rattle.flat_model.specs.Instruction.{instruction_in}
+use Rattle.flat_model.specs.Step.{step_of, step_behind, called_step, replied_step, step_holding, step_if, flat_step, written_process, reply_behind}
+use Rattle.flat_model.specs.Run.{Point, is_refused, step_at, behind_first, due, due_at, first_if, act, behind, point_after, same_carry, same_entry, same_as, process_of_entry, may_follow, where_so, flat_entry_of, flat_entry_if, flat_entry_by, flat_entry}
+use Rattle.outcome_laws.specs.Visible.{is_fork_reply, is_fork}
+use Rattle.outcome_laws.proofs.Numbers.{Only, BringsNone, only_applied, only_written}
+use Rattle.outcome_laws.proofs.Children.{Spares, reply_spares}
+
+-- the last of these entries is a fork's
+abbrev ends_in_fork : List Entry → Bool
+ends_in_fork [] = false
+ends_in_fork (e ∷ []) = is_fork e
+ends_in_fork (e ∷ f ∷ es) = ends_in_fork (f ∷ es)
+
+-- Steps.
+
+only_after : (n : ℕ) (images : List NamedImage) (F : FlatState) (pid : ℕ) (ws : List ByteWrite) (regs : Regs) (change : Change) → BringsNone change → Only n F.processes
+    → Only n (apply_change images (apply_writes F pid ws) pid regs change).processes
+only_after n images F pid ws regs change none k = only_applied n images (apply_writes F pid ws) pid regs change none (only_written n F pid ws k)
+
+only_replied : (n : ℕ) (images : List NamedImage) (F : FlatState) (p : Process) (call : SystemCall) (effect : Effect) (reply : Reply) → Spares call reply → Only n F.processes
+    → ends_in_fork (replied_step images F p call effect reply).entries ≡ false → Only n (replied_step images F p call effect reply).after.processes
+only_replied n images F p call effect (replies.Fails error) spares k none = only_after n images F p.pid effect.writes _ Keep tt k
+only_replied n images F p call effect (replies.Does regs change) spares k none = only_after n images F p.pid effect.writes regs change (spares none) k
+only_replied n images F p call effect (replies.Writes bytes) spares k none = only_after n images F p.pid effect.writes _ Keep tt k
+only_replied n images F p call effect replies.Waits spares k none = only_after n images F p.pid effect.writes p.regs Sleep tt k
+only_replied n images F p call effect (replies.Exits status) spares k none = only_after n images F p.pid effect.writes p.regs (End status) tt k
+
+only_called : (n : ℕ) (images : List NamedImage) (F : FlatState) (p : Process) (s : Space) (refused : Bool) (effect : Effect) (call : Option SystemCall) → Only n F.processes
+    → ends_in_fork (called_step images F p s refused effect call).entries ≡ false → Only n (called_step images F p s refused effect call).after.processes
+only_called n images F p s refused effect None k none = only_after n images F p.pid effect.writes p.regs (End 12) tt k
+only_called n images F p s refused effect (Some call) k none =
+    only_replied n images F p call effect (reply_behind images F p s refused call effect)
+    (reply_spares images (apply_writes F p.pid effect.writes) (answers_of (puts s effect.writes)) (written_process p s effect.writes) (puts s effect.writes) call effect.regs refused) k none
+
+only_behind : (n : ℕ) (images : List NamedImage) (F : FlatState) (p : Process) (s : Space) (refused : Bool) (effect : Effect) (number : Option ℤ) → Only n F.processes
+    → ends_in_fork (step_behind images F p s refused effect number).entries ≡ false → Only n (step_behind images F p s refused effect number).after.processes
+only_behind n images F p s refused effect None k none = only_after n images F p.pid effect.writes effect.regs Keep tt k
+only_behind n images F p s refused effect (Some number) k none = only_called n images F p s refused effect (call_of number) k none
+
+only_of : (n : ℕ) (images : List NamedImage) (F : FlatState) (p : Process) (s : Space) (refused : Bool) (result : Result Effect Refused) → Only n F.processes
+    → ends_in_fork (step_of images F p s refused result).entries ≡ false → Only n (step_of images F p s refused result).after.processes
+only_of n images F p s refused (Ok effect) k none = only_behind n images F p s refused effect effect.call k none
+only_of n images F p s refused (Err (Miss a w)) k none = k
+only_of n images F p s true (Err (Below a)) k none = only_after n images F p.pid [] p.regs (End 11) tt k
+only_of n images F p s false (Err (Below a)) k none = only_after n images F p.pid [] p.regs _ tt k
+only_of n images F p s refused (Err (Signal number)) k none = only_after n images F p.pid [] p.regs (End number) tt k
+
+only_stepped : (n : ℕ) (A : Inputs) (F : FlatState) (pid : ℕ) (refused : Bool) → Only n F.processes → ends_in_fork (flat_step A F pid refused).entries ≡ false
+    → Only n (flat_step A F pid refused).after.processes
+unfolding flat_step
+only_stepped n A F pid refused k none = go (process_of F pid) none
+  where
+    by : (p : Process) (held : Holding) → ends_in_fork (step_holding A.images F p refused held).entries ≡ false → Only n (step_holding A.images F p refused held).after.processes
+    by p (Holds s) l = only_of n A.images F p s refused (instruction_in s p.regs) k l
+    by p (Lends sid child) l = k
+    by p (Zombie status) l = k
+
+    go : (o : Option Process) → ends_in_fork (step_if A.images F refused o).entries ≡ false → Only n (step_if A.images F refused o).after.processes
+    go None l = k
+    go (Some p) l = by p p.holding l
+
+-- Entries.
+
+pub of_where : (b : Bool) (p q : Point) → where_so b p ≡ Some q → b ≡ true
+of_where true p q h = refl
+of_where false p q h = absurd cc
+
+point_where : (b : Bool) (p q : Point) → where_so b p ≡ Some q → p ≡ q
+point_where true p q h = same_Some p q h
+point_where false p q h = absurd cc
+
+carry_is : (a b : Bool) → same_carry a b ≡ true → a ≡ b
+carry_is true true h = refl
+carry_is false false h = refl
+carry_is true false h = absurd cc
+carry_is false true h = absurd cc
+
+-- entries that are the same are both a fork's, or neither is
+fork_same : (e f : Entry) → same_entry e f ≡ true → is_fork f ≡ false → is_fork e ≡ false
+fork_same (entries.Call a n c r0 r1) (entries.Call b m d s0 s1) h k =
+    let of = and_parts (a == b) (n == m && (same_carry c d && (r0 == s0 && r1 == s1))) h in
+    let numbers = and_parts (n == m) (same_carry c d && (r0 == s0 && r1 == s1)) of.1 in
+    let carries = and_parts (same_carry c d) (r0 == s0 && r1 == s1) numbers.1 in
+    ap (λ (x : ℕ). is_fork_reply x c) (eqb-true n m numbers.0) ∙ ap (λ (x : Bool). is_fork_reply m x) (carry_is c d carries.0) ∙ k
+fork_same (entries.Call a n c r0 r1) _ h k = absurd cc
+fork_same _ f h k = refl
+
+-- where one entry is due, it is the last one of the step
+last_due : (last : Option Entry) (pid : ℕ) (es : List Entry) (e : Entry) → due last pid es ≡ e ∷ [] → ends_in_fork es ≡ is_fork e
+last_due (Some (entries.Out p bytes)) pid es e h = go (p == pid) h
+  where
+    less : (xs : List Entry) → behind_first xs ≡ e ∷ [] → ends_in_fork xs ≡ is_fork e
+    less [] l = absurd cc
+    less (x ∷ xs) l = ap (λ (m : List Entry). ends_in_fork (x ∷ m)) l
+
+    go : (b : Bool) → (if b then behind_first es else es) ≡ e ∷ [] → ends_in_fork es ≡ is_fork e
+    go true l = less es l
+    go false l = ap ends_in_fork l
+last_due _ pid es e h = ap ends_in_fork h
+
+first_same : (b : Bool) (e f : Entry) → same_as (first_if b (e ∷ [])) f ≡ true → same_entry e f ≡ true
+first_same true e f h = h
+first_same false e f h = absurd cc
+
+only_point : (n : ℕ) (point : Point) (after : FlatState) (es : List Entry) → Only n point.flat.processes → ((e : Entry) → es ≡ e ∷ [] → Only n after.processes)
+    → Only n (behind point after es).flat.processes
+only_point n point after [] k next = k
+only_point n point after (e ∷ []) k next = next e refl
+only_point n point after (e ∷ f ∷ es) k next = k
+
+only_entry_of : (n : ℕ) (A : Inputs) (point q : Point) (pid : ℕ) (e : Entry) → flat_entry_of A point pid e ≡ Some q → is_fork e ≡ false → Only n point.flat.processes → Only n q.flat.processes
+only_entry_of n A point q pid (entries.Refused p) h none k =
+    subst (λ (x : Point). Only n x.flat.processes) (point_where (can_step point.flat pid) (record point { last = Some (entries.Refused p) }) q h) k
+only_entry_of n A point q pid e h none k =
+    let same : same_as (act A point pid) e ≡ true = of_where (same_as (act A point pid) e) (point_after A point pid) q h in
+    subst (λ (x : Point). Only n x.flat.processes) (point_where (same_as (act A point pid) e) (point_after A point pid) q h)
+    (only_point n point (step_at A point pid).after (due_at A point pid) k
+    (λ f one.
+    let is : same_entry f e ≡ true = first_same (can_step point.flat pid) f e (subst (λ (es : List Entry). same_as (first_if (can_step point.flat pid) es) e ≡ true) one same) in
+    only_stepped n A point.flat pid (is_refused point.last pid) k (last_due point.last pid (step_at A point pid).entries f one ∙ fork_same f e is none)))
+
+only_entry_if : (n : ℕ) (b : Bool) (A : Inputs) (point q : Point) (pid : ℕ) (e : Entry) → flat_entry_if b A point pid e ≡ Some q → is_fork e ≡ false → Only n point.flat.processes
+    → Only n q.flat.processes
+only_entry_if n true A point q pid e h none k = only_entry_of n A point q pid e h none k
+only_entry_if n false A point q pid e h none k = absurd cc
+
+pub only_entry : (n : ℕ) (A : Inputs) (point q : Point) (e : Entry) → flat_entry A point e ≡ Some q → is_fork e ≡ false → Only n point.flat.processes → Only n q.flat.processes
+unfolding flat_entry
+only_entry n A point q e h none k = go (process_of_entry e) h
+  where
+    go : (o : Option ℕ) → flat_entry_by A point o e ≡ Some q → Only n q.flat.processes
+    go None l = subst (λ (x : Point). Only n x.flat.processes) (same_Some point q l) k
+    go (Some pid) l = only_entry_if n (may_follow point.last e) A point q pid e l none k
+
+-- Who makes an entry.
+
+first_steps : (b : Bool) (es : List Entry) (e : Entry) → same_as (first_if b es) e ≡ true → b ≡ true
+first_steps true es e h = refl
+first_steps false es e h = absurd cc
+
+of_steps : (A : Inputs) (point q : Point) (pid : ℕ) (e : Entry) → flat_entry_of A point pid e ≡ Some q → can_step point.flat pid ≡ true
+of_steps A point q pid (entries.Refused p) h = of_where (can_step point.flat pid) (record point { last = Some (entries.Refused p) }) q h
+of_steps A point q pid e h = first_steps (can_step point.flat pid) (due_at A point pid) e (of_where (same_as (act A point pid) e) (point_after A point pid) q h)
+
+-- the process of a flat entry can step
+pub entry_steps : (A : Inputs) (point q : Point) (pid : ℕ) (e : Entry) → process_of_entry e ≡ Some pid → flat_entry A point e ≡ Some q → can_step point.flat pid ≡ true
+unfolding flat_entry
+entry_steps A point q pid e of h =
+    go (may_follow point.last e) (subst (λ (o : Option ℕ). flat_entry_by A point o e ≡ Some q) of h)
+  where
+    go : (b : Bool) → flat_entry_if b A point pid e ≡ Some q → can_step point.flat pid ≡ true
+    go true l = of_steps A point q pid e l
+    go false l = absurd cc

@@ -1,0 +1,3 @@
+pub use Rattle.flat_laws.specs.Others
+pub mod Visible
+pub mod Agreement

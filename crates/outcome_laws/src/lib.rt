@@ -1,0 +1,17 @@
+//! Laws of what is seen of one process's run. There is no code here: each law is the clause of a function with an empty body.
+//!
+//! - `one_process_is_determined`: of two runs of one image, whose process has no child and is refused no swap space, one goes on
+//!   where the other stops, whatever the schedule, the frames and the swap space are.
+#![tactic(auto)]
+
+ghost use Rattle.outcome_laws.specs.Agreement.{OneGoesOn, VisibleAgrees, OverIsAll, BothOverAreSame};
+
+/// Of two runs of one image, whose process has no child and is refused no swap space, what is done in one is the beginning of what
+/// is done in the other. So are the outputs, the replies and the end that are seen. Where both went on until the process could
+/// step no more, all of it is the same, and so is the state that they leave.
+pub fn one_process_is_determined()
+    ensures acts { OneGoesOn }
+    ensures visible { VisibleAgrees }
+    ensures over { OverIsAll }
+    ensures same { BothOverAreSame }
+{}
