@@ -85,7 +85,7 @@ pub of_where : (b : Bool) (p q : Point) → where_so b p ≡ Some q → b ≡ tr
 of_where true p q h = refl
 of_where false p q h = absurd cc
 
-point_where : (b : Bool) (p q : Point) → where_so b p ≡ Some q → p ≡ q
+pub point_where : (b : Bool) (p q : Point) → where_so b p ≡ Some q → p ≡ q
 point_where true p q h = same_Some p q h
 point_where false p q h = absurd cc
 
@@ -118,7 +118,7 @@ last_due (Some (entries.Out p bytes)) pid es e h = go (p == pid) h
     go false l = ap ends_in_fork l
 last_due _ pid es e h = ap ends_in_fork h
 
-first_same : (b : Bool) (e f : Entry) → same_as (first_if b (e ∷ [])) f ≡ true → same_entry e f ≡ true
+pub first_same : (b : Bool) (e f : Entry) → same_as (first_if b (e ∷ [])) f ≡ true → same_entry e f ≡ true
 first_same true e f h = h
 first_same false e f h = absurd cc
 

@@ -1,9 +1,9 @@
 -- What one process does follows from its image.
-use Rattle.std.specs.Prelude.{◌≡◌, ◌⊎◌, false, List}
+use Rattle.std.specs.Prelude.{◌≡◌, ◌⊎◌, true, false, List}
 use Rattle.vm_facts.specs.declared.entry.Entry.{Entry}
 use Rattle.flat_state.specs.Flat.{Inputs, can_step}
 use Rattle.flat_model.specs.Run.{Point}
-use Rattle.outcome_laws.specs.Visible.{visible_of, acts_of, IsSingle, Begins}
+use Rattle.outcome_laws.specs.Visible.{visible_of, has_end, acts_of, IsSingle, Begins}
 
 -- Two runs of one process with the same images, of which the same one is started. All else may differ: the schedule, the frames, the
 -- swap space, and how many instructions may run.
@@ -37,3 +37,7 @@ pub record IsSame (journal other : List Entry) (p q : Point) : Type 0 where
 abbrev pub BothOverAreSame : Type 0
 BothOverAreSame = (A B : Inputs) (journal other : List Entry) (p q : Point) → IsPair A B journal other p q
     → can_step p.flat 1 ≡ false → can_step q.flat 1 ≡ false → IsSame journal other p q
+
+-- behind a run whose end is seen the process can't step
+abbrev pub EndIsLast : Type 0
+EndIsLast = (A : Inputs) (journal : List Entry) (p : Point) → IsSingle A journal p → has_end (visible_of journal) ≡ true → can_step p.flat 1 ≡ false

@@ -18,6 +18,15 @@ is_visible _ = false
 abbrev pub visible_of : List Entry → List Entry
 visible_of journal = filter is_visible journal
 
+abbrev pub is_end : Entry → Bool
+is_end (Ended p status) = true
+is_end _ = false
+
+-- an end is among these
+abbrev pub has_end : List Entry → Bool
+has_end [] = false
+has_end (e ∷ es) = is_end e || has_end es
+
 -- the entry is of a process, and not of paging or the schedule
 abbrev pub is_act : Entry → Bool
 is_act e = is_some (process_of_entry e)
