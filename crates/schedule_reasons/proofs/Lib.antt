@@ -1,0 +1,6 @@
+mod Lacking
+mod Joining
+mod Numerals
+mod LineNumbers
+mod Cuts
+mod Refusals
