@@ -191,3 +191,46 @@ area_next old next n m r e l = let a = ap (λ (x : Params). x.swap_blocks) r in 
 pub files_next : (old next : Standing) (a b : Option (List NamedFile)) → next.images ≡ old.images → b ≡ a → AreFiles old.images a → AreFiles next.images b
 files_next old next a b r e f =
     subst (λ (ns : List ImageNamed). AreFiles ns b) (sym r) (subst (λ (h : Option (List NamedFile)). AreFiles old.images h) (sym e) f)
+
+-- What is copied so far and what is left make the whole.
+
+pub record CopiesSoFar (old now : Standing) (holds later : Option (List NamedFile)) (i h : Option (List ℕ)) : Type 0 where
+  pub more : (new : Standing) (j : Option (List ℕ)) → CopiesAll now.kernel.place.due now new later h j → CopiesAll old.kernel.place.due old new holds i j
+  pub stops : (stop : Stop) (new : Standing) (j : Option (List ℕ)) → StopsCopying now.kernel.place.due now new later h j stop → StopsCopying old.kernel.place.due old new holds i j stop
+  pub on : (new : Standing) → HasCopied now new → HasCopied old new
+
+pub copies_none : (old : Standing) (holds : Option (List NamedFile)) (i : Option (List ℕ)) → CopiesSoFar old old holds holds i i
+copies_none old holds i = record { more = λ new j c. c; stops = λ stop new j s. s; on = λ new h. h }
+
+pub copies_one : (old now next : Standing) (others : List Due) (child parent : Page) (holds later latest : Option (List NamedFile)) (i h k : Option (List ℕ))
+    → now.kernel.place.due ≡ CopyOf child parent ∷ others → next.kernel.place.due ≡ others → latest ≡ later → CopiesPage child parent now next later h k → GoesOn child now next
+    → CopiesSoFar old now holds later i h → CopiesSoFar old next holds latest i k
+copies_one old now next others child parent holds later latest i h k e d same page on so =
+    let done : Result (Unit {0}) Stop = Ok tt in
+    record {
+      more = λ new j c. so.more new j (copies_more done now.kernel.place.due others next.kernel.place.due child parent now next new later latest h k j e d same page c);
+      stops = λ stop new j s. (let failed : Result (Unit {0}) Stop = Err stop in
+          so.stops stop new j (copies_more failed now.kernel.place.due others next.kernel.place.due child parent now next new later latest h k j e d same page s));
+      on = λ new c. so.on new (copied_on done child now next new on c);
+    }
+
+none_due : (ds : List Due) → first_due ds ≡ None → ds ≡ []
+none_due [] e = refl
+none_due (d ∷ ds) e = absurd cc
+
+pub copies_all : (old now : Standing) (holds later : Option (List NamedFile)) (i h : Option (List ℕ)) → first_due now.kernel.place.due ≡ None
+    → CopiesSoFar old now holds later i h → CopiesAll old.kernel.place.due old now holds i h
+copies_all old now holds later i h e so =
+    so.more now h (subst (λ (ds : List Due). CopiesAll ds now now later h h) (sym (none_due now.kernel.place.due e)) (refl, refl))
+
+pub copied_all : (old now : Standing) (holds later : Option (List NamedFile)) (i h : Option (List ℕ)) → IsOn now → first_due now.kernel.place.due ≡ None
+    → CopiesSoFar old now holds later i h → HasCopied old now
+copied_all old now holds later i h o e so = so.on now (record {
+  params = refl;
+  images = refl;
+  running = o.running;
+  whole = o.whole;
+  due = none_due now.kernel.place.due e;
+  frames = refl;
+  low = omega arith;
+})

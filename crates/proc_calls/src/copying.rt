@@ -83,9 +83,8 @@ pub fn copy_due<F: Files, D: SwapDev>(
     ensures read_faults { CountsReads result (D.read_faults swap.old) (D.read_faults swap.new) }
     ensures write_faults { CountsWrites result (D.write_faults swap.old) (D.write_faults swap.new) }
 {
-    let Some(child) = m.due() else {
-        return Ok(());
-    };
-    copy_page(m, files, swap, child, page_in(parent, child))?;
-    copy_due(m, files, swap, parent)
+    while let Some(child) = m.due() {
+        copy_page(m, files, swap, child, page_in(parent, child))?;
+    }
+    Ok(())
 }
