@@ -1,5 +1,5 @@
 //! The first processes begin one by one.
-ghost use Rattle.std.specs.Prelude.{◌≡◌, ◌≤◌, ◌+◌, true, false, [], length, IfOk, IfErr, OnErr};
+ghost use Rattle.std.specs.Prelude.{◌≡◌, ◌≤◌, ◌+◌, true, false, [], length, IfOk, IfErr, OnOk, OnErr};
 ghost use Rattle.run_start.specs.Starting.{AreAmong};
 ghost use Rattle.run_start.specs.Beginning.{Begins};
 
@@ -15,6 +15,7 @@ pub(crate) fn begin_all(m: &mut Machine, first: &[u32]) -> Result<Started, Stop>
     requires few { m.old.kernel.next_pid + length first.now ≤ 17 }
     requires numbers { AreAmong m.old.images first.now }
     ensures began { IfOk result (λ started. Begins started first.now m.old m.new) }
+    ensures running { OnOk result (m.new.kernel.stopped ≡ false) }
     ensures stopped { OnErr result (m.new.kernel.stopped ≡ true) }
     ensures cause { IfErr result (λ stop. stop ≡ Stop.NoMemory) }
     ensures journal { m.new.kernel.journal ≡ [] }

@@ -1,5 +1,5 @@
 //! The first processes of a run start.
-ghost use Rattle.std.specs.Prelude.{◌≡◌, ◌≤◌, ℕ, List, [], length, Some, IfOk, IfErr, Ok};
+ghost use Rattle.std.specs.Prelude.{◌≡◌, ◌≤◌, ℕ, false, List, [], length, Some, IfOk, IfErr, Ok};
 ghost use Rattle.flat_state.specs.Flat.{Inputs};
 ghost use Rattle.flat_model.specs.Asked.{start_held};
 ghost use Rattle.machine_state.specs.Done.{CountsPages, CountsReads, CountsWrites};
@@ -38,6 +38,7 @@ pub fn start<F: Files, D: SwapDev>(
     ensures space { (A : Inputs) → StartsFrom A m.old first.now → IfOk result (λ started. started ≡ started_by (start_held A)) }
     ensures none_made { (pid : ℕ) → result ≡ Ok (Started.NoSpace pid) → m.new.kernel.journal ≡ [] }
     ensures untouched { (pid : ℕ) → result ≡ Ok (Started.NoSpace pid) → swap.new ≡ swap.old }
+    ensures kept_running { (pid : ℕ) → result ≡ Ok (Started.NoSpace pid) → m.new.kernel.stopped ≡ false }
     ensures kept_params { (pid : ℕ) → result ≡ Ok (Started.NoSpace pid) → m.new.params ≡ m.old.params }
     ensures kept_images { (pid : ℕ) → result ≡ Ok (Started.NoSpace pid) → m.new.images ≡ m.old.images }
     ensures goes_on { result ≡ Ok Started.Ok → HasStarted m.old m.new }

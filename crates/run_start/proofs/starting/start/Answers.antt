@@ -93,3 +93,9 @@ returns-in-NoSpace-clause-kept_images g c pid e = (space_kept c.in_ok-started.st
 
 pub returns-in_ok-fill_due-in-Ok-clause-kept_images : goal.returns-in_ok-fill_due-in-Ok-clause-kept_images
 returns-in_ok-fill_due-in-Ok-clause-kept_images g c pid e = never_both c.in_ok-started.started pid c.in-Ok.is (cc)
+
+pub returns-in-NoSpace-clause-kept_running : goal.returns-in-NoSpace-clause-kept_running
+returns-in-NoSpace-clause-kept_running g c pid e = c.in_ok-started.ensures.running
+
+pub returns-in_ok-fill_due-in-Ok-clause-kept_running : goal.returns-in_ok-fill_due-in-Ok-clause-kept_running
+returns-in_ok-fill_due-in-Ok-clause-kept_running g c pid e = never_both c.in_ok-started.started pid c.in-Ok.is (cc)
