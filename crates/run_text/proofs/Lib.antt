@@ -4,6 +4,7 @@ pub mod Fronts
 pub mod HexRows
 pub mod Joining
 pub mod LineEnds
+pub mod Numbered
 pub mod NumberRows
 pub mod Parts
 pub mod Passing

@@ -77,7 +77,7 @@ segment_not_end (Reclaim page) q = page_not_end page q
 segment_not_end (Put page n) q = page_not_end page q
 segment_not_end e q = omega arith
 
-text_has_no_end : (e : Entry) → IsWithin e → HasNo 10 (entry_text e)
+pub text_has_no_end : (e : Entry) → IsWithin e → HasNo 10 (entry_text e)
 text_has_no_end e h = (letter_not_end e, body_no_end (body_of e) (in_body e h) (segment_not_end e))
 
 -- the lines of entries
@@ -94,7 +94,7 @@ lines_are (e ∷ es) h =
     subst (λ (ls : List (List ℕ)). AreLines IsEntryLine (e ∷ es) ls) (sym (first_entry e es h.0)) ((h.0, refl), lines_are es h.1)
 
 -- lines are those of one row of entries at most
-rows_once : (ds es : List Entry) (ls : List (List ℕ)) → AreLines IsEntryLine ds ls → AreLines IsEntryLine es ls → ds ≡ es
+pub rows_once : (ds es : List Entry) (ls : List (List ℕ)) → AreLines IsEntryLine ds ls → AreLines IsEntryLine es ls → ds ≡ es
 rows_once [] [] ls h k = refl
 rows_once [] (e ∷ es) [] h k = absurd k
 rows_once [] (e ∷ es) (l ∷ ls) h k = absurd h
@@ -106,7 +106,7 @@ rows_once (d ∷ ds) (e ∷ es) (l ∷ ls) h k =
     ap (λ (x : Entry). x ∷ ds) first ∙ ap (λ (xs : List Entry). e ∷ xs) (rows_once ds es ls h.1 k.1)
 
 -- among lines of entries none is bad
-none_bad : (es : List Entry) (before : List (List ℕ)) (bad : List ℕ) (after : List (List ℕ)) → AreLines IsEntryLine es (before ++ bad ∷ after) → ((e : Entry) → IsEntryLine e bad → ⊥) → ⊥
+pub none_bad : (es : List Entry) (before : List (List ℕ)) (bad : List ℕ) (after : List (List ℕ)) → AreLines IsEntryLine es (before ++ bad ∷ after) → ((e : Entry) → IsEntryLine e bad → ⊥) → ⊥
 none_bad [] [] bad after h none = h
 none_bad [] (l ∷ ls) bad after h none = h
 none_bad (e ∷ es) [] bad after h none = none e h.0

@@ -42,6 +42,19 @@ abbrev pub AllBelow : ℕ → List ℕ → Type 0
 AllBelow bound [] = ⊤
 AllBelow bound (n ∷ ns) = (n < bound) × AllBelow bound ns
 
+-- the bytes that a process wrote
+abbrev pub bytes_of : Entry → List ℕ
+bytes_of (Out pid bytes) = bytes
+bytes_of _ = []
+
+-- its numbers have 32 bits, and what a process wrote are bytes: this is so of every entry that is at hand
+abbrev pub HasNumbers : Entry → Type 0
+HasNumbers e = AllBelow 4294967296 (numbers_of e) × AllBelow 256 (bytes_of e)
+
+abbrev pub HaveNumbers : List Entry → Type 0
+HaveNumbers [] = ⊤
+HaveNumbers (e ∷ es) = HasNumbers e × HaveNumbers es
+
 -- counts of instructions, of moves and of pages are at least 1, and a process wrote at least one byte
 abbrev pub CountsSome : Entry → Type 0
 CountsSome (Ran pid count) = 1 ≤ count

@@ -212,8 +212,8 @@ fn put_out_line<S: Sink>(
     out.put(sink, b"\n")
 }
 
-// The carry as a number.
-fn bit_of(carry: bool) -> u32
+/// The carry as a number.
+pub fn bit_of(carry: bool) -> u32
     ensures { result ≡ bit_of carry }
 {
     if carry { 1 } else { 0 }

@@ -1,3 +1,5 @@
 pub mod Shown
 pub mod Fronts
 pub mod Replayed
+pub mod Counts
+pub mod Texts

@@ -15,7 +15,7 @@ use Rattle.transcript_laws.specs.Replayed.{entries_shown, IsTranscriptOf, IsAcce
 use Rattle.transcript_laws.proofs.Shown.{shown_run, shown_count, shown_within}
 use Rattle.transcript_laws.proofs.Fronts.{none_is_bad}
 
-text_lines : (traced : Bool) (journal : List Entry) → text_of traced journal ≡ lines_of (entries_shown traced journal)
+pub text_lines : (traced : Bool) (journal : List Entry) → text_of traced journal ≡ lines_of (entries_shown traced journal)
 unfolding text_of
 text_lines true journal = refl
 text_lines false journal = refl
