@@ -1,15 +1,20 @@
 -- How a run over two devices ends, as the command's ending.
-use Rattle.std.proofs.Common.{◌≡◌, inl, inr, ℕ, ◌≤◌, List, length, Option, Some, Ok, Err, ap, ◌∙◌}
+use Rattle.std.proofs.Common.{◌≡◌, inl, inr, ℕ, ◌≤◌, Bool, List, [], length, Option, Some, Ok, Err, sym, ap, ◌∙◌, subst}
 use Rattle.std.specs.Prelude.{IfErr}
 use Rattle.vm_facts.specs.declared.entry.Entry.{Entry}
 use Rattle.vm_facts.specs.declared.stop.Stop.TheVariants as stops
 use Rattle.flat_state.specs.Flat.{Inputs}
-use Rattle.vm_core.specs.Lawful.{RunHalted, RunStarved}
+use Rattle.run_model.specs.State.{State}
+use Rattle.vm_core.specs.Lawful.{IsJournalOf, RunHalted, RunStarved}
 use Rattle.vm_core.specs.RunEnds.{RunEnds}
+use Rattle.run_text.specs.Transcript.{HaveNumbers}
+use Rattle.transcript_laws.specs.Replayed.{IsFlatText}
+use Rattle.transcript_laws.proofs.Texts.{text_flat, empty_flat}
+use Rattle.command_ending.specs.declared.fault.Fault.{Fault}
 use Rattle.command_ending.specs.declared.fault.Fault.TheVariants.{FileFault, SwapReadFault, SwapWriteFault, NoMemory, JournalFull, NoSpace}
 use Rattle.run_command.specs.Machines.{journal_entries}
 use Rattle.run_command.specs.Seen.{Seen}
-use Rattle.run_command.specs.Ends.{Ending, NoneFaulted, HaltCaused, RunCaused, RunEnded, CanBeLost}
+use Rattle.run_command.specs.Ends.{Ending, NoneFaulted, HaltCaused, RunCaused, FaultEnded, RunEnded, CanBeLost}
 use Rattle.run_command.specs.Paired.{unfinished_of, IsRunFault}
 
 -- A machine that stops at its journal's bound leaves what one leaves that finds no memory.
@@ -63,3 +68,31 @@ module _ (seen : Seen) (A : Inputs) (es : List Entry) (image : List ℕ) where
   lost_ended (Err JournalFull) kind lost c e = absurd lost
   lost_ended (Err NoMemory) kind lost c e = absurd lost
   lost_ended (Err _) kind lost c e = absurd kind
+
+-- The text of the journal of a run that ended, over the images of its inputs.
+module _ (A : Inputs) (es : List Entry) (image : List ℕ) (after : Option (List ℕ)) (limit : A.limit ≤ 1000000) (numbers : HaveNumbers es) (traced : Bool) where
+  made_flat : (s : State) → IsJournalOf A es s → IsFlatText A traced es
+  made_flat s m = let made : IsJournalOf A es s = m in text_flat A made.holdings es s traced made.can made.lawful limit numbers
+
+  none_flat : es ≡ [] → IsFlatText A traced es
+  none_flat none = subst (IsFlatText A traced) (sym none) (empty_flat A traced)
+
+  fault_flat : (fault : Fault) → FaultEnded A es image after fault → IsFlatText A traced es
+  fault_flat FileFault e = made_flat e.state e.made
+  fault_flat (SwapReadFault device) e = made_flat e.state e.made
+  fault_flat (SwapWriteFault device) e = made_flat e.state e.made
+  fault_flat JournalFull e = made_flat e.state e.made
+  fault_flat (NoSpace pid) e = none_flat e.0.0
+  fault_flat _ e = absurd e
+
+pub ended_flat : (seen : Seen) (A : Inputs) (es : List Entry) (image : List ℕ) (r : Ending) → A.limit ≤ 1000000 → HaveNumbers es → RunEnded seen A es image r → (traced : Bool) → IsFlatText A traced es
+ended_flat seen A es image (Ok done) limit numbers e traced = made_flat A es image seen.swap_after limit numbers traced e.state e.made
+ended_flat seen A es image (Err NoMemory) limit numbers (inl (calm, inl none)) traced = none_flat A es image seen.swap_after limit numbers traced none.0
+ended_flat seen A es image (Err NoMemory) limit numbers (inl (calm, inr starved)) traced = made_flat A es image seen.swap_after limit numbers traced starved.state starved.made
+ended_flat seen A es image (Err NoMemory) limit numbers (inr lost) traced = fault_flat A es image seen.swap_after limit numbers traced lost.0 lost.2.1
+ended_flat seen A es image (Err FileFault) limit numbers e traced = fault_flat A es image seen.swap_after limit numbers traced FileFault e
+ended_flat seen A es image (Err (SwapReadFault device)) limit numbers e traced = fault_flat A es image seen.swap_after limit numbers traced (SwapReadFault device) e
+ended_flat seen A es image (Err (SwapWriteFault device)) limit numbers e traced = fault_flat A es image seen.swap_after limit numbers traced (SwapWriteFault device) e
+ended_flat seen A es image (Err JournalFull) limit numbers e traced = fault_flat A es image seen.swap_after limit numbers traced JournalFull e
+ended_flat seen A es image (Err (NoSpace pid)) limit numbers e traced = fault_flat A es image seen.swap_after limit numbers traced (NoSpace pid) e
+ended_flat seen A es image (Err _) limit numbers e traced = absurd e

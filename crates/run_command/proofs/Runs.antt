@@ -15,6 +15,7 @@ use Rattle.machine_state.specs.Machine.{Standing}
 use Rattle.machine_state.specs.New.{fresh_kernel}
 use Rattle.machine_state.specs.Sourced.{ImageNamed}
 use Rattle.vm_core.specs.RunEnds.{stopped_as}
+use Rattle.run_text.specs.Transcript.{HaveNumbers}
 use Rattle.command_ending.specs.declared.fault.Fault.{Fault}
 use Rattle.command_ending.specs.declared.fault.Fault.TheVariants.{Absent, NotImage, BadSchedule, FileFault, SwapReadFault, SwapWriteFault, NoMemory, JournalFull, NoSpace, ShortDevice}
 use Rattle.command_ending.specs.Ending.{NeedsMemory}
@@ -33,7 +34,7 @@ use Rattle.run_command.specs.Paired.{image_together, unfinished_of, IsRunFault, 
 use Rattle.run_command.specs.Ends.{Ending, NothingDone, Unbegun, NoneFaulted, RunCaused, DevicesSuffice, IsCaused, AllGood, IsJudged, RunEnded, RunOfWords, EndsTold, WritesSome, Writing, RunsOpened, Runs}
 use Rattle.run_command.proofs.Openings.{shown_facts}
 use Rattle.run_command.proofs.Inputs.{KnownOpening, inputs_of, asks_for, is_asked_of}
-use Rattle.run_command.proofs.Endings.{StopCaused, caused_as, lost_caused, lost_ended}
+use Rattle.run_command.proofs.Endings.{StopCaused, caused_as, lost_caused, lost_ended, ended_flat}
 
 -- The machine of what was opened.
 
@@ -89,21 +90,22 @@ run_caused seen es (Err _) kind opens pages reads writes none same full within =
 -- A run over a machine, as it was written.
 
 pub opened_runs : (IsOf : Inputs → List ℕ → Type 0) (traced : Bool) (seen : Seen) (es : List Entry) (r : Ending) (status : ℕ)
-    → WritesSome traced es r seen.written_before seen.written_after seen.sink_faults_before seen.sink_faults_after status → StopCaused seen es r → IfErr r IsRunFault
+    → WritesSome traced es r seen.written_before seen.written_after seen.sink_faults_before seen.sink_faults_after status → HaveNumbers es → StopCaused seen es r → IfErr r IsRunFault
     → ((A : Inputs) (image : List ℕ) → IsOf A image → seen.swap_before ≡ Some image → RunEnded seen A es image r) → RunsOpened IsOf traced seen status
-opened_runs IsOf traced seen es r status (inl writes) caused kind ended = record { ending = r; journal = es; writes = writes; caused = caused_as seen es r kind caused; ended = ended }
-opened_runs IsOf traced seen es r status (inr (lost, writes)) caused kind ended = record {
+opened_runs IsOf traced seen es r status (inl writes) numbers caused kind ended = record { ending = r; journal = es; writes = writes; caused = caused_as seen es r kind caused; numbers = numbers; ended = ended }
+opened_runs IsOf traced seen es r status (inr (lost, writes)) numbers caused kind ended = record {
   ending = Err NoMemory;
   journal = es;
   writes = writes;
   caused = lost_caused seen es r kind lost caused;
+  numbers = numbers;
   ended = λ A image is told. lost_ended seen A es image r kind lost caused (ended A image is told);
 }
 
 pub opened_lacking : (IsOf : Inputs → List ℕ → Type 0) (traced : Bool) (seen : Seen) (status : ℕ) → WritesSome traced [] (Err NoMemory) seen.written_before seen.written_after seen.sink_faults_before seen.sink_faults_after status
     → seen.swap_after ≡ seen.swap_before → NoneFaulted seen → RunsOpened IsOf traced seen status
 opened_lacking IsOf traced seen status (inl writes) same none =
-    record { ending = Err NoMemory; journal = []; writes = writes; caused = inl none; ended = λ A image is told. inl (none, inl (refl, same ∙ told)) }
+    record { ending = Err NoMemory; journal = []; writes = writes; caused = inl none; numbers = tt; ended = λ A image is told. inl (none, inl (refl, same ∙ told)) }
 opened_lacking IsOf traced seen status (inr (lost, writes)) same none = absurd lost
 
 -- The same for the words.
@@ -140,6 +142,15 @@ told_so request seen files es image (Err NoMemory) c good x = inr x
 told_so request seen files es image (Err (NoSpace pid)) c good x = x
 told_so request seen files es image (Err _) c good x = absurd c
 
+of_words : (request : Request) (seen : Seen) (files : List NamedFile) (opening : Opening) (es : List Entry) (image : List ℕ) (r : Ending) → KnownOpening request files opening → AreAllowed request.numbers → HaveNumbers es
+    → RunEnded seen (inputs_of request files opening) es image r → RunOfWords request seen files es image r
+of_words request seen files opening es image r known allowed numbers ended = record {
+  inputs = inputs_of request files opening;
+  asks = asks_for request files opening known;
+  ended = ended;
+  replayed = ended_flat seen (inputs_of request files opening) es image r allowed.most_limit numbers ended;
+}
+
 pub opened_words : (request : Request) (seen : Seen) (opening : Opening) (status : ℕ) → RunsOpened (IsOfOpening request.numbers opening seen.files) request.traced seen status → AreAllowed request.numbers → DevicesSuffice request.numbers.swap seen
     → ((files : List NamedFile) → seen.files ≡ Some files → AllGood request seen files) → ((files : List NamedFile) → seen.files ≡ Some files → KnownOpening request files opening)
     → ((image : List ℕ) → seen.swap_before ≡ Some image → 512 * request.numbers.swap ≤ length image) → Runs request seen status
@@ -150,11 +161,9 @@ opened_words request seen opening status x allowed devices good known room = rec
   caused = caused_so request seen x.journal x.ending x.caused devices;
   judged = λ files told. judged_good request seen files x.journal x.ending x.caused (good files told);
   told = λ files image told octets swap.
-      told_so request seen files x.journal image x.ending x.caused (good files told) (record {
-        inputs = inputs_of request files opening;
-        asks = asks_for request files opening (known files told);
-        ended = x.ended (inputs_of request files opening) image (is_asked_of request files opening (known files told) allowed image seen.files told octets (room image swap)) swap;
-      });
+      told_so request seen files x.journal image x.ending x.caused (good files told)
+      (of_words request seen files opening x.journal image x.ending (known files told) allowed x.numbers
+      (x.ended (inputs_of request files opening) image (is_asked_of request files opening (known files told) allowed image seen.files told octets (room image swap)) swap));
 }
 
 -- What was not opened.

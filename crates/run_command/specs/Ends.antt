@@ -6,6 +6,8 @@ use Rattle.io_edge.specs.FileHolding.{NamedFile}
 use Rattle.flat_state.specs.Flat.{Inputs}
 use Rattle.flat_model.specs.Asked.{start_held}
 use Rattle.run_text.specs.Text.{text_of}
+use Rattle.run_text.specs.Transcript.{HaveNumbers}
+use Rattle.transcript_laws.specs.Replayed.{IsFlatText}
 use Rattle.vm_core.specs.Lawful.{RunFinished, RunHalted, RunStarved}
 use Rattle.vm_core.specs.RunEnds.{NoneMade}
 use Rattle.command_ending.specs.declared.fault.Fault.{Fault}
@@ -151,11 +153,13 @@ RunEnded seen A journal image (Err NoMemory) =
     ⊎ LineLost (λ fault. HaltCaused seen journal fault × FaultEnded A journal image seen.swap_after fault)
 RunEnded seen A journal image (Err fault) = FaultEnded A journal image seen.swap_after fault
 
--- it ended so for inputs that the words ask for
+-- It ended so for inputs that the words ask for. A judge of transcripts accepts the text of its journal over the images of these inputs,
+-- with the trace of the paging and without.
 pub record RunOfWords (request : Request) (seen : Seen) (files : List NamedFile) (journal : List Entry) (image : List ℕ) (ending : Ending) : Type 0 where
   pub inputs : Inputs
   pub asks : AsksFor inputs request files
   pub ended : RunEnded seen inputs journal image ending
+  pub replayed : (traced : Bool) → IsFlatText inputs traced journal
 
 -- A file failed: before the run, and nothing was done; or in the run, and then all that is judged before it was good, and the run halted
 -- there.
@@ -203,10 +207,11 @@ pub record Runs (request : Request) (seen : Seen) (status : ℕ) : Type 0 where
   pub judged : (files : List NamedFile) → seen.files ≡ Some files → IsJudged request seen files ending
   pub told : (files : List NamedFile) (image : List ℕ) → seen.files ≡ Some files → AreOctetFiles files → seen.swap_before ≡ Some image → EndsTold request seen files journal image ending
 
--- A run that was opened, over a machine: the same, for the inputs that are the machine's.
+-- A run that was opened, over a machine: the same, for the inputs that are the machine's. Its entries are at hand.
 pub record RunsOpened (IsOf : Inputs → List ℕ → Type 0) (traced : Bool) (seen : Seen) (status : ℕ) : Type 0 where
   pub ending : Ending
   pub journal : List Entry
   pub writes : Writing traced seen journal ending status
   pub caused : RunCaused seen journal ending
+  pub numbers : HaveNumbers journal
   pub ended : (A : Inputs) (image : List ℕ) → IsOf A image → seen.swap_before ≡ Some image → RunEnded seen A journal image ending

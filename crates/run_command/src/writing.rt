@@ -1,12 +1,13 @@
 // The text of a run: its transcript, and the line behind it.
 ghost use Rattle.std.specs.Prelude.{◌++◌};
 ghost use Rattle.run_text.specs.Text.{text_of};
+ghost use Rattle.run_text.specs.Transcript.{HaveNumbers};
 ghost use Rattle.command_ending.specs.Command.{Writes};
 ghost use Rattle.run_command.specs.Ends.{WritesSome};
 
 use command_ending::{Fault, NO_MEMORY};
 use io_edge::{Moved, Sink};
-use run_text::write_text;
+use run_text::{have_numbers, write_text};
 use std::alloc::Global;
 use vm_facts::Entry;
 
@@ -30,9 +31,11 @@ pub(crate) fn write_run<S: Sink>(
     journal: &[Entry],
     ending: Result<(), Fault<'_>>,
 ) -> u8
+    ensures numbers { HaveNumbers journal.now }
     ensures writes { WritesSome traced journal.now ending.entry (S.written sink.old) (S.written sink.new) (S.faults sink.old) (S.faults sink.new) result }
     ensures leads { S.leads sink.old sink.new }
 {
+    have_numbers(journal);
     match ending {
         Ok(()) => write_as(sink, traced, journal, b"", 0),
         Err(fault) => match fault.line(alloc) {

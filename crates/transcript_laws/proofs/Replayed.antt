@@ -26,7 +26,7 @@ begun_few true x ls = omega arith
 begun_few false x [] = omega arith
 begun_few false x (l ∷ ls) = omega arith
 
-lines_few : (bytes : List ℕ) → length (lines_in bytes) ≤ length bytes
+pub lines_few : (bytes : List ℕ) → length (lines_in bytes) ≤ length bytes
 unfolding lines_in
 lines_few [] = omega arith
 lines_few (b ∷ bs) = let h = begun_few (b == 10) b (lines_in bs) in let k = lines_few bs in omega arith

@@ -1,5 +1,5 @@
 -- The text of a lawful journal is that of a run of the flat machine.
-use Rattle.std.proofs.Common.{◌≡◌, ℕ, ◌≤◌, Bool, List, [], ◌∷◌, ◌++◌, refl, sym, ap, ◌∙◌, subst, append_assoc, arith}
+use Rattle.std.proofs.Common.{◌≡◌, ℕ, ◌≤◌, Bool, true, false, List, [], ◌∷◌, ◌++◌, Some, None, refl, sym, ap, ◌∙◌, subst, append_assoc, arith}
 use Rattle.vm_facts.specs.declared.entry.Entry.{Entry}
 use Rattle.swap_book.specs.Holdings.{Holdings}
 use Rattle.flat_state.specs.Flat.{Inputs}
@@ -15,7 +15,8 @@ use Rattle.run_text.specs.EntryParts.{entry_text}
 use Rattle.run_text.specs.Transcript.{HaveNumbers, IsWithin, AreWithin}
 use Rattle.run_text.proofs.Parts.{line_is}
 use Rattle.run_text.proofs.WrittenLines.{line_before, text_has_no_end}
-use Rattle.replay_check.specs.Verdicts.{instruction_limit}
+use Rattle.flat_model.specs.Run.{flat_units, start_point, flat_run}
+use Rattle.replay_check.specs.Verdicts.{instruction_limit, first_bad}
 use Rattle.transcript_laws.specs.Replayed.{entries_shown, BeginsWith, IsFlatText}
 use Rattle.transcript_laws.proofs.Counts.{AllCountOne, units_count, appended_count, are_within}
 use Rattle.transcript_laws.proofs.Shown.{shown_run, shown_count, shown_within}
@@ -48,3 +49,20 @@ text_flat A hs journal s traced can lawful limit numbers =
       begins = λ rest. subst (λ (text : List ℕ). BeginsWith (entries_shown traced journal) text rest) (sym (text_lines traced journal)) (begins_with (entries_shown traced journal) rest within);
       run = none_is_bad A (entries_shown traced journal) s.point (shown_run traced A journal ∙ lawful.flat) (omega arith);
     }
+
+-- nothing was done, and nothing is written of it
+start_runs : (A : Inputs) → flat_run A [] ≡ Some (start_point A)
+unfolding flat_units
+start_runs A = refl
+
+empty : (A : Inputs) (traced : Bool) (es : List Entry) → entries_shown traced es ≡ [] → IsFlatText A traced es
+empty A traced es none = record {
+  begins = λ rest.
+      subst (λ (text : List ℕ). BeginsWith (entries_shown traced es) text rest) (sym (text_lines traced es))
+      (subst (λ (shown : List Entry). BeginsWith shown (lines_of shown) rest) (sym none) (begins_with [] rest tt));
+  run = subst (λ (shown : List Entry). first_bad A shown ≡ None) (sym none) (none_is_bad A [] (start_point A) (start_runs A) (omega arith));
+}
+
+pub empty_flat : (A : Inputs) (traced : Bool) → IsFlatText A traced []
+empty_flat A true = empty A true [] refl
+empty_flat A false = empty A false [] refl

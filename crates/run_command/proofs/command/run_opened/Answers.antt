@@ -4,6 +4,7 @@ use Rattle.vm_facts.specs.declared.event.Event.{Event}
 use Rattle.machine_state.specs.Machine.{Standing}
 use Rattle.vm_core.specs.RunEnds.{IsAskedOf}
 use Rattle.run_opening.specs.declared.images.OpenedImage.{OpenedImage}
+use Rattle.run_text.specs.Transcript.{HaveNumbers}
 use Rattle.run_command.specs.Seen.{Seen}
 use Rattle.run_command.specs.Naming.{shown_as}
 use Rattle.run_command.specs.Machines.{machine_of, IsOfOpening}
@@ -67,7 +68,7 @@ returns-clause-runs g c =
     let machine = c.in-Ok.ensures.machine ∙ ap (λ (images : List OpenedImage). machine_of c.args.numbers (map shown_as images)) c.as_slice.ensures.value in
     let caused : StopCaused seen es r = run_caused seen es r ran.kind ran.open_faults ran.page_faults ran.reads ran.writes ran.none_made ran.untouched ran.full
     (subst (λ (m : Standing). OnOk r (length es ≤ m.params.journal)) machine ran.within) in
-    opened_runs (IsOfOpening c.args.numbers c.args.opening.now (g.F.Files.holds files)) c.args.traced seen es r c.write_run-status.result written caused ran.kind
+    opened_runs (IsOfOpening c.args.numbers c.args.opening.now (g.F.Files.holds files)) c.args.traced seen es r c.write_run-status.result written (subst HaveNumbers c.journal.ensures c.write_run-status.ensures.numbers) caused ran.kind
     (λ A image is told.
     run_ended seen A es image r ran.kind caused
     (ran.ends A image
